@@ -1,0 +1,14 @@
+//! Texts, numbers, paths and places: the words in which every layer speaks of a site's files.
+#![tactic(auto)]
+
+mod bytes;
+mod numbers;
+mod path;
+mod place;
+mod text;
+
+pub use bytes::Bytes;
+pub use numbers::decimal;
+pub use path::Path;
+pub use place::{PageFault, Place};
+pub use text::Text;
