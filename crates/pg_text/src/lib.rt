@@ -5,10 +5,15 @@ mod bytes;
 mod numbers;
 mod path;
 mod place;
+mod resolution;
 mod text;
 
 pub use bytes::Bytes;
-pub use numbers::decimal;
+pub use numbers::{decimal, whole_number};
 pub use path::Path;
 pub use place::{PageFault, Place};
+pub use resolution::{BadPath, resolve};
 pub use text::Text;
+
+#[cfg(test)]
+mod tests;
