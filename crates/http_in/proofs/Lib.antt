@@ -1,0 +1,9 @@
+pub mod Answered
+pub mod FieldLemmas
+pub mod GoodHeads
+pub mod Growth
+pub mod HeadEnds
+pub mod Moving
+pub mod OneCut
+pub mod Sizes
+pub mod Tokens

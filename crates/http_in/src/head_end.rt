@@ -1,0 +1,51 @@
+ghost use Rattle.std.specs.Prelude.{◌≡◌, ◌≤◌, length, IfSome};
+ghost use Rattle.http_in.specs.HeadEnd.{head_len, skip_pairs, through_empty_line, front_of};
+
+/// The most bytes that a head may have, with the pairs before its first line.
+pub const HEAD_LIMIT: usize = 16_384;
+
+const EMPTY_LINE: &[u8] = b"\r\n\r\n";
+
+// The bytes among which a head has to end.
+pub fn front_of(bytes: &[u8]) -> &[u8]
+    ensures value { result.now ≡ front_of bytes.now }
+    ensures within { (length result.now ≤ 16384) × (length result.now ≤ length bytes.now) }
+{
+    &bytes[..HEAD_LIMIT.min(bytes.len())]
+}
+
+// The length of the head at the front, with the pairs before its first line.
+pub fn head_len(bytes: &[u8]) -> Option<usize>
+    ensures value { result ≡ head_len bytes.now }
+    ensures within { IfSome result (λ len. len ≤ length bytes.now) }
+{
+    let rest = skip_pairs(bytes);
+    Some(through_empty_line(rest)? + (bytes.len() - rest.len()))
+}
+
+// The bytes after the CR LF pairs at the front.
+pub fn skip_pairs(bytes: &[u8]) -> &[u8]
+    ensures value { result.now ≡ skip_pairs bytes.now }
+    ensures within { length result.now ≤ length bytes.now }
+{
+    let mut rest = bytes;
+    while let [b'\r', b'\n', after @ ..] = rest {
+        rest = after;
+    }
+    rest
+}
+
+// The length of the shortest front that ends with an empty line.
+fn through_empty_line(bytes: &[u8]) -> Option<usize>
+    ensures value { result ≡ through_empty_line bytes.now }
+    ensures within { IfSome result (λ len. len ≤ length bytes.now) }
+{
+    let mut rest = bytes;
+    while let [_, after @ ..] = rest {
+        if rest.starts_with(EMPTY_LINE) {
+            return Some(bytes.len() - rest.len() + EMPTY_LINE.len());
+        }
+        rest = after;
+    }
+    None
+}

@@ -1,0 +1,22 @@
+//! Requests of HTTP/1.1, read from a source in whatever pieces it gives its bytes.
+//!
+//! Requests stand one after the other. CR LF pairs before the first line of a request are skipped; its head ends with the
+//! first CR LF CR LF after them, and its body has the size that the head names.
+#![tactic(auto)]
+
+mod fault;
+mod fields;
+mod head;
+mod head_end;
+mod law;
+mod read;
+mod request;
+mod rest;
+#[cfg(test)]
+mod tests;
+
+pub use fault::HttpFault;
+pub use law::one_cut;
+pub use read::read_request;
+pub use request::Request;
+pub use rest::Rest;

@@ -1,0 +1,5 @@
+pub mod DraftLemmas
+pub mod FirstPageLemmas
+pub mod LawLemmas
+pub mod TalkLemmas
+pub mod TargetLemmas

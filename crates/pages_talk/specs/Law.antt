@@ -1,0 +1,49 @@
+-- What holds of every conversation.
+use Rattle.std.specs.Prelude.{◌≡◌, ◌+◌, ℕ, List, [], ◌∷◌, ◌++◌, length, ⊤}
+use Rattle.http_in.specs.declared.request.Request.{Request}
+use Rattle.http_in.specs.Requests.{Stop, Cut}
+use Rattle.source_tree.specs.declared.edit.Edit.{Edit}
+use Rattle.source_tree.specs.declared.file.File.{File}
+use Rattle.source_tree.specs.Edits.{after_edits}
+use Rattle.source_tree.specs.Limits.{IsWithinLimits}
+use Rattle.pages_talk.specs.declared.answer.Answer.{Answer}
+use Rattle.pages_talk.specs.declared.answer.Answer.TheVariants.{Published}
+use Rattle.pages_talk.specs.Message.{message}
+use Rattle.pages_talk.specs.Site.{Site, turn}
+use Rattle.pages_talk.specs.Talk.{after, after_all, EndsAt}
+
+-- the edits that an answer tells to be published: those of the draft, or none
+abbrev pub published_by : Answer → List Edit → List (List Edit)
+published_by (Published version) draft = draft ∷ []
+published_by answer draft = []
+
+-- the publishings of these requests, in order, each with the edits of its draft
+abbrev pub publishings : Site → List Request → List (List Edit)
+publishings site [] = []
+publishings site (request ∷ requests) = published_by (turn site (message request)).answer site.draft ++ publishings (after site request) requests
+
+-- the files that a history of publishings makes, each the next version, whose number its files are stamped with
+abbrev pub files_after : List File → ℕ → List (List Edit) → List File
+files_after files version [] = files
+files_after files version (edits ∷ history) = files_after (after_edits edits (version + 1) files) (version + 1) history
+
+-- each version of a history keeps the limits of a tree
+abbrev pub IsLegal : List File → ℕ → List (List Edit) → Type 0
+IsLegal files version [] = ⊤
+IsLegal files version (edits ∷ history) =
+    IsWithinLimits (after_edits edits (version + 1) files) × IsLegal (after_edits edits (version + 1) files) (version + 1) history
+
+-- what requests leave is what the history of their publishings makes, each done once and in order; the history is legal, and the version counts it
+pub record HasHistory (start : Site) (requests : List Request) : Type 0 where
+  pub legal : IsLegal start.files start.version (publishings start requests)
+  pub files : (after_all start requests).files ≡ files_after start.files start.version (publishings start requests)
+  pub version : (after_all start requests).version ≡ start.version + length (publishings start requests)
+
+abbrev pub HasOneHistory : Type 0
+HasOneHistory = (start : Site) (requests : List Request) → HasHistory start requests
+
+-- the bytes have one conversation: two walks over them, each to its end, are the same
+abbrev pub HasOneTalk : Type 0
+HasOneTalk =
+    (bytes : List ℕ) (requests others : List Request) (stop other : Stop) → Cut bytes requests stop → EndsAt stop 0 requests
+    → Cut bytes others other → EndsAt other 0 others → (requests ≡ others) × (stop ≡ other)

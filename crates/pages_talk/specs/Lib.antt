@@ -1,0 +1,9 @@
+pub mod Draft
+pub mod FirstPage
+pub mod Law
+pub mod Message
+pub mod Play
+pub mod Refusal
+pub mod Site
+pub mod Talk
+pub mod Wire

@@ -1,0 +1,66 @@
+-- What a request asks for.
+use Rattle.std.specs.Prelude.{ℕ, Bool, false, ◌&&◌, ◌||◌, not, List, drop, ◌==◌, Option, None, Result, Ok, Err, codes, nat_eq, if◌then◌else◌}
+use Rattle.std.specs.List.{before_first, after_first, ends_with, list_any, starts_with}
+use Rattle.std.specs.Str.{bytes_eq, is_utf8}
+use Rattle.pg_text.specs.declared.resolution.BadPath.{BadPath}
+use Rattle.pg_text.specs.Path.{resolved, segments}
+use Rattle.http_in.specs.declared.request.Request.{Request}
+use Rattle.pages_talk.specs.declared.message.Message.{Message}
+use Rattle.pages_talk.specs.declared.message.Message.TheVariants.{Put, Publish, Get, Missing, Other}
+
+abbrev pub is_question : ℕ → Bool
+is_question b = b == 63
+
+abbrev pub is_percent : ℕ → Bool
+is_percent b = b == 37
+
+-- the path of a target: what stands before its first question mark
+abbrev pub path_part : List ℕ → List ℕ
+path_part target = before_first is_question target
+
+-- the query of a target: what stands behind its first question mark, or nothing
+abbrev pub query_part : List ℕ → List ℕ
+query_part target = after_first is_question target
+
+-- the target of a message that puts or deletes a file begins so, and the file's path begins at the last slash
+unfoldable pub is_file_target : List ℕ → Bool
+is_file_target target = starts_with nat_eq target (codes "/_editor/files/")
+
+-- the message puts a file
+unfoldable pub is_put : Request → Bool
+is_put request = bytes_eq request.method (codes "PUT") && is_file_target request.target
+
+-- the message publishes the draft; a query makes it another message
+unfoldable pub is_publish : Request → Bool
+is_publish request = bytes_eq request.method (codes "POST") && bytes_eq request.target (codes "/_editor/publish")
+
+-- the message asks for a page
+unfoldable pub is_page_get : Request → Bool
+is_page_get request =
+    bytes_eq request.method (codes "GET") && (not (starts_with nat_eq request.target (codes "/_editor/"))
+    && (ends_with nat_eq (path_part request.target) (codes ".jsp") && not (list_any is_percent (path_part request.target))))
+
+-- the text stands for itself as a path: it is taken, and has no segment `.` or `..`
+abbrev pub is_own_path : List ℕ → Bool
+is_own_path text = same (resolved (segments None text)) text
+  where
+    same : Result (List ℕ) BadPath → List ℕ → Bool
+    same (Ok path) text = bytes_eq path text
+    same (Err reason) text = false
+
+-- the text of a target is the path of a file that can be put: it has no escape and no query, and stands for itself
+abbrev pub is_put_path : List ℕ → Bool
+is_put_path text = not (list_any (λ b. is_percent b || is_question b) text) && is_own_path text
+
+-- what asks for a page: a page that may be asked for, or one that is missing since its path is refused or hidden
+abbrev pub page_message : Result (List ℕ) BadPath → List ℕ → Message
+page_message (Err reason) query = Missing
+page_message (Ok path) query = if starts_with nat_eq path (codes "/WEB-INF/") then Missing else Get path query
+
+-- the message of a request
+abbrev pub message : Request → Message
+message request =
+    if is_put request then (if is_put_path (drop 14 request.target) && is_utf8 request.body then Put (drop 14 request.target) request.body else Other)
+    else (if is_publish request then Publish
+    else (if is_page_get request then page_message (resolved (segments None (path_part request.target))) (query_part request.target)
+    else Other))

@@ -1,0 +1,19 @@
+-- The command `play`, and its status.
+use Rattle.std.specs.Prelude.{ℕ, Bool, false, List, [], ◌∷◌, codes}
+use Rattle.std.specs.Str.{bytes_eq}
+use Rattle.pages_talk.specs.declared.connection.Ended.{Ended}
+use Rattle.pages_talk.specs.declared.connection.Ended.TheVariants.{Done, Refused, ReadFault, WriteFault, NoMemory}
+
+-- the words are `play` alone
+abbrev pub is_play : List (List ℕ) → Bool
+is_play [] = false
+is_play (word ∷ []) = bytes_eq word (codes "play")
+is_play (word ∷ next ∷ words) = false
+
+-- the status of the program
+abbrev pub status_of : Ended → ℕ
+status_of Done = 0
+status_of (Refused fault) = 2
+status_of ReadFault = 3
+status_of WriteFault = 4
+status_of NoMemory = 5

@@ -1,0 +1,54 @@
+ghost use Rattle.std.specs.Prelude.{◌≡◌, List, [], true, false, map, string_bytes};
+ghost use Rattle.source_tree.specs.declared.file.File.{File};
+ghost use Rattle.edges.specs.Faults.{Rose};
+ghost use Rattle.pages_talk.specs.declared.connection.Ended.{Ended as Outcome};
+ghost use Rattle.pages_talk.specs.Play.{is_play, status_of};
+ghost use Rattle.pages_talk.specs.Site.{site_of};
+ghost use Rattle.pages_talk.specs.Talk.{Tells};
+
+use crate::{Ended, Role, talk};
+use edges::{Ledger, Sink, Source, Steps};
+use source_tree::Tree;
+use std::alloc::Global;
+
+/// Runs one connection over a site without files, and answers the program's status.
+pub fn play<S: Source, K: Sink, L: Ledger>(
+    alloc: Global,
+    words: &[String],
+    source: &mut S,
+    sink: &mut K,
+    steps: &mut Steps<L>,
+) -> u8
+    ensures talk { is_play (map string_bytes words.now) ≡ true → (ended : Outcome) × (result ≡ status_of ended)
+        × ((files : List File) × Tells (site_of [] [] 0) (S.left source.old) (S.left source.new) files (K.taken sink.old) (K.taken sink.new) ended) }
+    ensures words { is_play (map string_bytes words.now) ≡ false → result ≡ 1 }
+    ensures only_words { result ≡ 1 → is_play (map string_bytes words.now) ≡ false }
+    ensures silent { result ≡ 1 → K.taken sink.new ≡ K.taken sink.old }
+
+    ensures read { result ≡ 3 → Rose (S.faults source.old) (S.faults source.new) }
+    ensures write { result ≡ 4 → Rose (K.faults sink.old) (K.faults sink.new) }
+
+    ensures steps { steps.new ≡ steps.old }
+{
+    if !is_play(words) {
+        return 1;
+    }
+    let mut tree = Tree::new(alloc);
+    match talk(alloc, &mut tree, Role::Both, source, sink, steps) {
+        Ended::Done => 0,
+        Ended::Refused(_) => 2,
+        Ended::ReadFault => 3,
+        Ended::WriteFault => 4,
+        Ended::NoMemory => 5,
+    }
+}
+
+// Whether the words are those of this command.
+fn is_play(words: &[String]) -> bool
+    ensures { result ≡ is_play (map string_bytes words.now) }
+{
+    match words {
+        [word] => word.as_str() == "play",
+        _ => false,
+    }
+}

@@ -1,0 +1,177 @@
+ghost use Rattle.std.specs.Prelude.{◌≡◌, ◌&&◌, ◌||◌, None, true, drop, is_some, IfOk, IfSome, if◌then◌else◌};
+ghost use Rattle.pages_talk.specs.declared.message.Message.TheVariants.{Other, Put};
+ghost use Rattle.std.specs.List.{list_any};
+ghost use Rattle.std.specs.Result.{result_ok};
+ghost use Rattle.std.specs.Str.{is_utf8};
+ghost use Rattle.pg_text.specs.Path.{resolved, segments};
+ghost use Rattle.pages_talk.specs.Message.{is_file_target, is_own_path, is_page_get, is_percent, is_publish, is_put, is_put_path, is_question, message, page_message, path_part, query_part};
+
+use http_in::Request;
+use pg_text::{BadPath, Path, Text, resolve};
+use source_tree::FileText;
+use std::alloc::{AllocError, Global};
+
+const EDITOR: &[u8] = b"/_editor/";
+
+const FILES: &[u8] = b"/_editor/files/";
+
+const PUBLISH: &[u8] = b"/_editor/publish";
+
+const HIDDEN: &[u8] = b"/WEB-INF/";
+
+/// What a request asks for.
+#[derive(Drop)]
+pub(crate) enum Message {
+    /// Puts a file with this path and text into the draft.
+    Put(Path, FileText),
+    /// Publishes the draft.
+    Publish,
+    /// Asks for the page with this path, with this query.
+    Get(Path, Text),
+    /// Asks for a page whose path is refused or hidden.
+    Missing,
+    /// Asks for what isn't built.
+    Other,
+}
+
+/// The message of a request.
+pub(crate) fn read_message(alloc: Global, request: &Request) -> Result<Message, AllocError>
+    ensures { IfOk result (λ found. found ≡ message request.now) }
+{
+    if is_put(request) {
+        return put_message(
+            alloc,
+            file_path(request.target.as_str()),
+            request.body.as_slice(),
+        );
+    }
+    if is_publish(request) {
+        return Ok(Message::Publish);
+    }
+    if is_page_get(request) {
+        let (path, query) = split_target(request.target.as_str());
+        return page_message(alloc, path, query);
+    }
+    Ok(Message::Other)
+}
+
+// Whether the message puts a file.
+#[tactic(auto, unfolding(crate::specs::Message::is_put, crate::specs::Message::is_file_target))]
+fn is_put(request: &Request) -> bool
+    ensures { result ≡ is_put request.now }
+{
+    request.method.as_bytes() == b"PUT".as_slice() && request.target.as_bytes().starts_with(FILES)
+}
+
+// Whether the message publishes the draft.
+#[tactic(auto, unfolding(crate::specs::Message::is_publish))]
+fn is_publish(request: &Request) -> bool
+    ensures { result ≡ is_publish request.now }
+{
+    request.method.as_bytes() == b"POST".as_slice() && request.target.as_bytes() == PUBLISH
+}
+
+// Whether the message asks for a page.
+#[tactic(auto, unfolding(crate::specs::Message::is_page_get))]
+fn is_page_get(request: &Request) -> bool
+    ensures { result ≡ is_page_get request.now }
+{
+    let (path, _query) = split_target(request.target.as_str());
+    request.method.as_bytes() == b"GET".as_slice()
+        && !request.target.as_bytes().starts_with(EDITOR)
+        && path.as_bytes().ends_with(b".jsp")
+        && !has_percent(path)
+}
+
+fn has_percent(text: &str) -> bool
+    ensures { result ≡ list_any is_percent text.now }
+{
+    text.as_bytes().iter().any(|b| *b == b'%')
+}
+
+fn has_percent_or_question(text: &str) -> bool
+    ensures { result ≡ list_any (λ b. is_percent b || is_question b) text.now }
+{
+    text.as_bytes().iter().any(|b| *b == b'%' || *b == b'?')
+}
+
+// The path of a target, and its query.
+fn split_target(target: &str) -> (&str, &str)
+    ensures path { result.0.now ≡ path_part target.now }
+    ensures query { result.1.now ≡ query_part target.now }
+{
+    match target.split_once('?') {
+        Some((path, query)) => (path, query),
+        None => (target, ""),
+    }
+}
+
+// The path in the target of a message that puts a file.
+fn file_path(target: &str) -> &str
+    requires { is_file_target target.now ≡ true }
+    ensures { result.now ≡ drop 14 target.now }
+{
+    target.split_at(FILES.len() - 1).1
+}
+
+// The message that puts a file with this path and body.
+fn put_message(alloc: Global, path: &str, body: &[u8]) -> Result<Message, AllocError>
+    ensures { IfOk result (λ found. found ≡ (if is_put_path path.now && is_utf8 body.now then Put path.now body.now else Other)) }
+{
+    if has_percent_or_question(path) {
+        return Ok(Message::Other);
+    }
+    let Some(path) = own_path(alloc, path)? else {
+        return Ok(Message::Other);
+    };
+    let Some(text) = text_of(body) else {
+        return Ok(Message::Other);
+    };
+    Ok(Message::Put(path, FileText::copy_of(alloc, text)?))
+}
+
+// The bytes as a text, where they are UTF-8.
+fn text_of(bytes: &[u8]) -> Option<&str>
+    ensures utf8 { is_some result ≡ is_utf8 bytes.now }
+    ensures same { IfSome result (λ text. text.now ≡ bytes.now) }
+{
+    match str::from_utf8(bytes) {
+        Ok(text) => Some(text),
+        Err(_) => None,
+    }
+}
+
+// The path that a text stands for, where it stands for itself.
+fn own_path(alloc: Global, text: &str) -> Result<Option<Path>, AllocError>
+    ensures own { IfOk result (λ found. is_some found ≡ is_own_path text.now) }
+    ensures same { IfOk result (λ found. IfSome found (λ path. path ≡ text.now)) }
+{
+    match path_of(alloc, text)? {
+        Some(path) if path.as_str() == text => Ok(Some(path)),
+        _ => Ok(None),
+    }
+}
+
+// The path that a text stands for from the root on.
+fn path_of(alloc: Global, text: &str) -> Result<Option<Path>, AllocError>
+    ensures { IfOk result (λ found. found ≡ result_ok (resolved (segments None text.now))) }
+{
+    match resolve(alloc, None, text) {
+        Ok(path) => Ok(Some(path)),
+        Err(BadPath::NoMemory) => Err(AllocError),
+        Err(_) => Ok(None),
+    }
+}
+
+// The message that asks for the page with this path.
+fn page_message(alloc: Global, path: &str, query: &str) -> Result<Message, AllocError>
+    ensures { IfOk result (λ found. found ≡ page_message (resolved (segments None path.now)) query.now) }
+{
+    let Some(path) = path_of(alloc, path)? else {
+        return Ok(Message::Missing);
+    };
+    if path.as_bytes().starts_with(HIDDEN) {
+        return Ok(Message::Missing);
+    }
+    Ok(Message::Get(path, Text::copy_of(alloc, query)?))
+}

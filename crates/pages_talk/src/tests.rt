@@ -1,0 +1,269 @@
+ghost use Rattle.std.specs.Prelude.{◌≡◌, ◌<◌, ◌≤◌};
+
+use crate::play;
+use edges::{MemSink, MemSource, Steps, Unseen};
+use std::alloc::{AllocError, Global};
+use std::marker::Brand;
+use std::sync::ledger::{Blank, Ledger};
+use std::test::Fail;
+
+const PAGE_IN: &[u8] =
+    b"PUT /_editor/files/a.jsp HTTP/1.1\r\nHost: x\r\nContent-Length: 41\r\n\r\n<%@ page session=\"false\" %>Hi ${param.n}!POST /_editor/publish HTTP/1.1\r\nHost: x\r\n\r\nGET /a.jsp?n=Bo HTTP/1.1\r\nHost: x\r\n\r\n";
+
+const PAGE_OUT: &[u8] =
+    b"HTTP/1.1 200 OK\r\nContent-Type: text/plain;charset=UTF-8\r\nContent-Length: 8\r\n\r\ndraft 1\nHTTP/1.1 200 OK\r\nContent-Type: text/plain;charset=UTF-8\r\nContent-Length: 10\r\n\r\nversion 1\nHTTP/1.1 200 OK\r\nContent-Type: text/html;charset=UTF-8\r\nContent-Length: 6\r\n\r\nHi Bo!";
+
+const OTHER_IN: &[u8] =
+    b"PUT /_editor/files/b.jsp HTTP/1.1\r\nHost: x\r\nContent-Length: 31\r\n\r\n<%@ page session=\"false\" %>${1}POST /_editor/publish HTTP/1.1\r\nHost: x\r\n\r\nGET /b.jsp HTTP/1.1\r\nHost: x\r\n\r\nGET /c.jsp HTTP/1.1\r\nHost: x\r\n\r\n";
+
+const OTHER_OUT: &[u8] =
+    b"HTTP/1.1 200 OK\r\nContent-Type: text/plain;charset=UTF-8\r\nContent-Length: 8\r\n\r\ndraft 1\nHTTP/1.1 200 OK\r\nContent-Type: text/plain;charset=UTF-8\r\nContent-Length: 10\r\n\r\nversion 1\nHTTP/1.1 501 Not Implemented\r\nContent-Type: text/plain;charset=UTF-8\r\nContent-Length: 9\r\n\r\nNotBuilt\nHTTP/1.1 404 Not Found\r\nContent-Type: text/plain;charset=UTF-8\r\nContent-Length: 9\r\n\r\nNotFound\n";
+
+// The status of `play` over this input, which comes in pieces of that size, and what it wrote.
+fn played<N: Ledger>(
+    alloc: Global,
+    blank: Blank,
+    input: &[u8],
+    piece: usize,
+    read_fails: &[u64],
+    write_fails: &[u64],
+) -> Result<(u8, Vec<u8>), AllocError>
+    requires name { blank.name ≡ N.name }
+    requires parts { blank.parts ≡ N.parts }
+    requires some { 0 < N.parts }
+    requires piece { 1 ≤ piece }
+{
+    let mut source = MemSource::new(input.to_vec(alloc)?, piece, read_fails.to_vec(alloc)?);
+    let mut sink = MemSink::new(alloc, write_fails.to_vec(alloc)?);
+    let mut steps = Steps::<Unseen<N>>::unseen(blank);
+    let words = vec![in alloc; String::from_str(alloc, "play")?]?;
+    let status = play(alloc, &words, &mut source, &mut sink, &mut steps);
+    Ok((status, sink.taken().to_vec(alloc)?))
+}
+
+// The status of these words over an empty input.
+fn worded<N: Ledger>(alloc: Global, blank: Blank, words: &[&str]) -> Result<u8, AllocError>
+    requires name { blank.name ≡ N.name }
+    requires parts { blank.parts ≡ N.parts }
+    requires some { 0 < N.parts }
+{
+    let mut owned = Vec::new(alloc);
+    for word in words {
+        owned.push(String::from_str(alloc, word)?)?;
+    }
+    let mut source = MemSource::new(Vec::new(alloc), 1, Vec::new(alloc));
+    let mut sink = MemSink::new(alloc, Vec::new(alloc));
+    let mut steps = Steps::<Unseen<N>>::unseen(blank);
+    Ok(play(alloc, &owned, &mut source, &mut sink, &mut steps))
+}
+
+#[test]
+fn a_page_is_answered(rt: HostRuntime) -> Result<(), Fail> {
+    for (input, output) in [(PAGE_IN, PAGE_OUT), (OTHER_IN, OTHER_OUT), (b"", b"")] {
+        for piece in [1, 4_096] {
+            let (status, text) = played::<Brand>(
+                rt.alloc(),
+                Blank::new(1),
+                input,
+                piece,
+                &[],
+                &[],
+            )?;
+            assert_eq!(rt; status, 0);
+            assert_eq!(rt; text.as_slice(), output);
+        }
+    }
+    Ok(())
+}
+
+#[test]
+fn the_words_are_play_alone(rt: HostRuntime) -> Result<(), Fail> {
+    for (words, status) in [
+        (["play"].as_slice(), 0),
+        (["play", "--seed", "00"].as_slice(), 1),
+        (["serve"].as_slice(), 1),
+        ([].as_slice(), 1),
+    ] {
+        let found = worded::<Brand>(rt.alloc(), Blank::new(1), words)?;
+        assert_eq!(rt; found, status);
+    }
+    Ok(())
+}
+
+#[test]
+fn a_fault_of_the_outside_is_told(rt: HostRuntime) -> Result<(), Fail> {
+    let first = b"draft 1\n".as_slice();
+    let (status, text) = played::<Brand>(rt.alloc(), Blank::new(1), PAGE_IN, 120, &[1], &[])?;
+    assert_eq!(rt; status, 3);
+    assert!(rt; text.as_slice().ends_with(first));
+    let (status, text) = played::<Brand>(rt.alloc(), Blank::new(1), PAGE_IN, 120, &[], &[1])?;
+    assert_eq!(rt; status, 4);
+    assert!(rt; text.as_slice().ends_with(first));
+    Ok(())
+}
+
+// What one message is answered: how the answer begins, and how it ends.
+const ANSWERS: [(&str, &str, &str); 24] = [
+    ("GET /none.jsp", "404 Not Found", "NotFound\n"),
+    ("GET /a/../../x.jsp", "404 Not Found", "NotFound\n"),
+    ("GET //x.jsp", "404 Not Found", "NotFound\n"),
+    ("GET /WEB-INF/x.jsp?a=b", "404 Not Found", "NotFound\n"),
+    ("GET /a/../WEB-INF/x.jsp", "404 Not Found", "NotFound\n"),
+    ("GET /x.jsp?a=%41", "404 Not Found", "NotFound\n"),
+    ("GET /WEB-INF", "501 Not Implemented", "NotBuilt\n"),
+    ("GET /WEB-INF/x.tag", "501 Not Implemented", "NotBuilt\n"),
+    ("GET /x.jspx", "501 Not Implemented", "NotBuilt\n"),
+    ("GET /x.html?.jsp", "501 Not Implemented", "NotBuilt\n"),
+    ("GET /%41.jsp", "501 Not Implemented", "NotBuilt\n"),
+    ("GET /_editor/x.jsp", "501 Not Implemented", "NotBuilt\n"),
+    ("get /x.jsp", "501 Not Implemented", "NotBuilt\n"),
+    ("POST /x.jsp", "501 Not Implemented", "NotBuilt\n"),
+    (
+        "HEAD /x.jsp",
+        "501 Not Implemented",
+        "Content-Length: 9\r\n\r\n",
+    ),
+    ("POST /_editor/publish", "200 OK", "version 1\n"),
+    (
+        "POST /_editor/publish?base=0",
+        "501 Not Implemented",
+        "NotBuilt\n",
+    ),
+    ("GET /_editor/publish", "501 Not Implemented", "NotBuilt\n"),
+    (
+        "DELETE /_editor/files/a",
+        "501 Not Implemented",
+        "NotBuilt\n",
+    ),
+    ("PUT /_editor/files/a/b", "200 OK", "draft 1\n"),
+    (
+        "PUT /_editor/files/a/../b",
+        "501 Not Implemented",
+        "NotBuilt\n",
+    ),
+    ("PUT /_editor/files/", "501 Not Implemented", "NotBuilt\n"),
+    ("PUT /_editor/files/a?", "501 Not Implemented", "NotBuilt\n"),
+    (
+        "PUT /_editor/files/a%41",
+        "501 Not Implemented",
+        "NotBuilt\n",
+    ),
+];
+
+#[test]
+fn each_message_has_its_answer(rt: HostRuntime) -> Result<(), Fail> {
+    for (message, status, end) in ANSWERS {
+        let input = format!(in rt.alloc(); "{message} HTTP/1.1\r\nHost: x\r\n\r\n")?;
+        let (_ended, text) = played::<Brand>(
+            rt.alloc(),
+            Blank::new(1),
+            input.as_bytes(),
+            4_096,
+            &[],
+            &[],
+        )?;
+        let begin = format!(in rt.alloc(); "HTTP/1.1 {status}\r\n")?;
+        assert!(rt; text.as_slice().starts_with(begin.as_bytes()), "{message}");
+        assert!(rt; text.as_slice().ends_with(end.as_bytes()), "{message}");
+    }
+    Ok(())
+}
+
+#[test]
+fn a_connection_closes_where_it_is_asked_to(rt: HostRuntime) -> Result<(), Fail> {
+    for (input, status, output) in [
+        (
+            b"GET / HTTP/1.1\r\nHost: x\r\nConnection: Close\r\n\r\nGET".as_slice(),
+            0,
+            b"HTTP/1.1 501 Not Implemented\r\nContent-Type: text/plain;charset=UTF-8\r\nContent-Length: 9\r\nConnection: close\r\n\r\nNotBuilt\n".as_slice(),
+        ),
+        (
+            b"GET / HTTP/1.1\r\n\r\nGET".as_slice(),
+            2,
+            b"HTTP/1.1 400 Bad Request\r\nContent-Type: text/plain;charset=UTF-8\r\nContent-Length: 8\r\nConnection: close\r\n\r\nBadHead\n".as_slice(),
+        ),
+        (b"GET / HTTP/1.1\r\nHost".as_slice(), 2, b"".as_slice()),
+    ] {
+        let (ended, text) = played::<Brand>(rt.alloc(), Blank::new(1), input, 1, &[], &[])?;
+        assert_eq!(rt; ended, status);
+        assert_eq!(rt; text.as_slice(), output);
+    }
+    Ok(())
+}
+
+// A message that puts a file with so many bytes of text, at a path of so many bytes.
+fn put_of(alloc: Global, path: usize, bytes: usize, byte: u8) -> Result<Vec<u8>, AllocError> {
+    let mut message = Vec::from_slice(alloc, b"PUT /_editor/files/")?;
+    for _ in 1..path {
+        message.push(b'a')?;
+    }
+    let fields = format!(in alloc; " HTTP/1.1\r\nHost: x\r\nContent-Length: {bytes}\r\n\r\n")?;
+    message.extend_from_slice(fields.as_bytes())?;
+    for _ in 0..bytes {
+        message.push(byte)?;
+    }
+    Ok(message)
+}
+
+// The same message so many times, and then another.
+fn repeated(
+    alloc: Global,
+    message: &[u8],
+    times: usize,
+    last: &[u8],
+) -> Result<Vec<u8>, AllocError> {
+    let mut input = Vec::new(alloc);
+    for _ in 0..times {
+        input.extend_from_slice(message)?;
+    }
+    input.extend_from_slice(last)?;
+    Ok(input)
+}
+
+#[test]
+fn a_draft_keeps_its_limits(rt: HostRuntime) -> Result<(), Fail> {
+    let small = put_of(rt.alloc(), 2, 0, b'x')?;
+    let large = put_of(rt.alloc(), 2, 2_097_152, b'x')?;
+    let publish = b"POST /_editor/publish HTTP/1.1\r\nHost: x\r\n\r\n".as_slice();
+    for (message, times, last, end) in [
+        (
+            b"".as_slice(),
+            0,
+            put_of(rt.alloc(), 1_024, 1, b'x')?,
+            "draft 1\n",
+        ),
+        (
+            b"".as_slice(),
+            0,
+            put_of(rt.alloc(), 1_025, 1, b'x')?,
+            "NotBuilt\n",
+        ),
+        (
+            b"".as_slice(),
+            0,
+            put_of(rt.alloc(), 2, 1, 0xff)?,
+            "NotBuilt\n",
+        ),
+        (small.as_slice(), 1_023, small.clone()?, "draft 1024\n"),
+        (small.as_slice(), 1_024, small.clone()?, "NotBuilt\n"),
+        (large.as_slice(), 8, small.clone()?, "draft 9\n"),
+        (
+            large.as_slice(),
+            8,
+            put_of(rt.alloc(), 2, 1, b'x')?,
+            "NotBuilt\n",
+        ),
+        (
+            large.as_slice(),
+            1,
+            publish.to_vec(rt.alloc())?,
+            "NotBuilt\n",
+        ),
+    ] {
+        let input = repeated(rt.alloc(), message, times, &last)?;
+        let (status, text) = played::<Brand>(rt.alloc(), Blank::new(1), &input, 65_536, &[], &[])?;
+        assert_eq!(rt; status, 0);
+        assert!(rt; text.as_slice().ends_with(end.as_bytes()), "{end}");
+    }
+    Ok(())
+}
