@@ -32,14 +32,14 @@ pub head_fault : {T : Type 0} (fault : HttpFault) (left later : Option (List ℕ
     → Reads left later old new (Err fault)
 head_fault HeadTooLarge left later old new large cut bad moved unfinished =
     let facts = large refl in
-    saw left later old new HasNoHead (moved (λ e. (cc))) (record { ends = facts.0; long = facts.1 })
+    (moved (λ e. (cc)), record { ends = facts.0; long = facts.1 })
 head_fault BadHead left later old new large cut bad moved unfinished = absurd (bad refl)
 head_fault CutOff left later old new large cut bad moved unfinished =
     let facts = cut refl in
-    (saw left later old new IsCutOff (moved (λ e. (cc))) (inl (record { ends = facts.0; short = facts.1; begun = facts.2 })), facts.3)
+    (moved (λ e. (cc)), inl (record { ends = facts.0; short = facts.1; begun = facts.2 }), facts.3)
 head_fault ReadFault left later old new large cut bad moved unfinished =
     let facts = unfinished refl in
-    saw left later old new IsUnfinished (moved (λ e. (cc))) (unfinished_head new facts.0 facts.1)
+    (moved (λ e. (cc)), unfinished_head new facts.0 facts.1)
 head_fault NoMemory left later old new large cut bad moved unfinished = tt
 
 -- a fault while the head was parsed
@@ -53,7 +53,7 @@ pub parse_fault : {T : Type 0} (fault : HttpFault) (left later : Option (List �
     → Reads left later old new (Err fault)
 parse_fault HeadTooLarge left later old new len ends bad large cut read moved = absurd (large refl)
 parse_fault BadHead left later old new len ends bad large cut read moved =
-    saw left later old new HasBadHead moved (record { len = len; ends = ends; bad = bad refl })
+    (moved, record { len = len; ends = ends; bad = bad refl })
 parse_fault CutOff left later old new len ends bad large cut read moved = absurd (cut refl)
 parse_fault ReadFault left later old new len ends bad large cut read moved = absurd (read refl)
 parse_fault NoMemory left later old new len ends bad large cut read moved = tt
@@ -86,10 +86,10 @@ body_fault BadHead left mid later old between new len head size ends within is_g
 body_fault CutOff left mid later old between new len head size ends within is_good moved cut large bad more unfinished =
     let facts = cut refl in
     let then_ = more (λ e. (cc)) in
-    (saw left later old new IsCutOff (moves_both left mid later old between new moved then_) (short_body between then_.piece new len head size then_.grown within ends is_good facts.0), facts.1)
+    (moves_both left mid later old between new moved then_, short_body between then_.piece new len head size then_.grown within ends is_good facts.0, facts.1)
 body_fault ReadFault left mid later old between new len head size ends within is_good moved cut large bad more unfinished =
     let then_ = more (λ e. (cc)) in
-    saw left later old new IsUnfinished (moves_both left mid later old between new moved then_) (inr (short_body between then_.piece new len head size then_.grown within ends is_good (unfinished refl)))
+    (moves_both left mid later old between new moved then_, inr (short_body between then_.piece new len head size then_.grown within ends is_good (unfinished refl)))
 body_fault NoMemory left mid later old between new len head size ends within is_good moved cut large bad more unfinished = tt
 
 -- a request that was read whole

@@ -18,12 +18,12 @@ pub record Saw (left later : Option (List ℕ)) (old : List ℕ) (P : List ℕ �
   pub consumed : Consumes left later piece
   pub holds : P (old ++ piece)
 
--- what reading a request answers, by the bytes that it saw: those of old and those that came; new is what it left of them
+-- what reading a request answers, by the bytes that it saw: those of old, and those that came. New is what it left of them: all of them, but for the request
 abbrev pub Reads : Option (List ℕ) → Option (List ℕ) → List ℕ → List ℕ → Result (Option Request) HttpFault → Type 0
 Reads left later old new (Ok (Some request)) = Saw left later old (λ seen. StandsFirst seen request new)
-Reads left later old new (Ok None) = Saw left later old IsEnd × IsAtEnd later
-Reads left later old new (Err fault.HeadTooLarge) = Saw left later old HasNoHead
-Reads left later old new (Err fault.BadHead) = Saw left later old HasBadHead
-Reads left later old new (Err fault.CutOff) = Saw left later old IsCutOff × IsAtEnd later
-Reads left later old new (Err fault.ReadFault) = Saw left later old IsUnfinished
+Reads left later old new (Ok None) = Moves left later old new × IsEnd new × IsAtEnd later
+Reads left later old new (Err fault.HeadTooLarge) = Moves left later old new × HasNoHead new
+Reads left later old new (Err fault.BadHead) = Moves left later old new × HasBadHead new
+Reads left later old new (Err fault.CutOff) = Moves left later old new × IsCutOff new × IsAtEnd later
+Reads left later old new (Err fault.ReadFault) = Moves left later old new × IsUnfinished new
 Reads left later old new (Err fault.NoMemory) = ⊤

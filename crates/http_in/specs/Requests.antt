@@ -58,7 +58,7 @@ IsCutOff bytes = EndsInHead bytes ⊎ EndsInBody bytes
 abbrev pub IsUnfinished : List ℕ → Type 0
 IsUnfinished bytes = IsEnd bytes ⊎ IsCutOff bytes
 
--- the fault stands at the front of the bytes, after which none follow
+-- the fault stands at the front of the bytes; an input that was cut off has no bytes behind them
 abbrev pub HasFault : HttpFault → List ℕ → Type 0
 HasFault fault.HeadTooLarge bytes = HasNoHead bytes
 HasFault fault.BadHead bytes = HasBadHead bytes

@@ -12,7 +12,7 @@ use Rattle.std.proofs.lemmas.List.Sums.{prefix_len_passes}
 use Rattle.std.proofs.lemmas.List.Splits.{slice_split_none, slice_split_first}
 use Rattle.std.proofs.lemmas.Slice.Eq.{bytes_eq-Decides}
 use Rattle.pages_talk.specs.declared.first_page.Parameter.{Parameter}
-use Rattle.pages_talk.specs.FirstPage.{behind, is_dollar, pieces_behind, limited, joined, filled, pieces_written, stretch_written, stretches_written, begins_other_syntax, has_other_syntax, template_body}
+use Rattle.pages_talk.specs.FirstPage.{behind, is_dollar, pieces_behind, limited, both_written, filled, pieces_written, stretch_written, stretches_written, begins_other_syntax, has_other_syntax, template_body}
 
 -- what `strip_prefix` gives at a text
 pub stripped : (n s : List ℕ) (r : Option (Bor (List ℕ))) → MatchOption r (FindsTextPrefix n s None) (λ x. StripsPrefix (FindsTextPrefix n) s x.now) → option_map (λ x. x.now) r ≡ behind n s
@@ -82,7 +82,7 @@ left_len None = 0
 left_len (Some text) = length text + 1
 
 -- a body that one stretch makes longer, and the rest behind it
-grown_more : (body longer : List ℕ) (stretch rest : Option (List ℕ)) → Some longer ≡ grown body stretch → grown longer rest ≡ grown body (joined stretch rest)
+grown_more : (body longer : List ℕ) (stretch rest : Option (List ℕ)) → Some longer ≡ grown body stretch → grown longer rest ≡ grown body (both_written stretch rest)
 grown_more body longer None rest is = absurd (cc)
 grown_more body longer (Some bytes) None is = refl
 grown_more body longer (Some bytes) (Some more) is = grown_twice body bytes longer more (sym is)
@@ -91,13 +91,13 @@ grown_within : (body longer : List ℕ) (stretch : Option (List ℕ)) → Some l
 grown_within body longer None is = absurd (cc)
 grown_within body longer (Some bytes) is = ap limited (limited_parts (body ++ bytes) longer (sym is)).0 ∙ sym is
 
-grown_none : (body : List ℕ) (stretch rest : Option (List ℕ)) → None ≡ grown body stretch → grown body (joined stretch rest) ≡ None
+grown_none : (body : List ℕ) (stretch rest : Option (List ℕ)) → None ≡ grown body stretch → grown body (both_written stretch rest) ≡ None
 grown_none body None rest is = refl
 grown_none body (Some bytes) None is = refl
 grown_none body (Some bytes) (Some more) is = past_longer body bytes more (sym is)
 
 module _ (parameters : List Parameter) (template front : List ℕ) (left : Option (List ℕ)) (cut : slice_split is_dollar template ≡ front ∷ pieces_behind left) where
-  in_pieces : grown [] (joined (Some front) (stretches_written parameters (pieces_behind left))) ≡ option_and_then limited (filled parameters template)
+  in_pieces : grown [] (both_written (Some front) (stretches_written parameters (pieces_behind left))) ≡ option_and_then limited (filled parameters template)
   in_pieces = ap (λ pieces. option_and_then limited (pieces_written parameters pieces)) (sym cut)
 
   -- the loop begins with the text before the first dollar sign

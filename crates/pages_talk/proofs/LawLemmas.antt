@@ -16,7 +16,7 @@ use Rattle.pages_talk.specs.declared.message.Message.{Message}
 use Rattle.pages_talk.specs.declared.message.Message.TheVariants as message
 use Rattle.pages_talk.specs.Draft.{is_draft}
 use Rattle.pages_talk.specs.FirstPage.{first_page_body}
-use Rattle.pages_talk.specs.Law.{published_by, publishings, files_after, IsLegal, HasHistory, HasOneHistory, HasOneTalk}
+use Rattle.pages_talk.specs.Law.{published_by, publishings, files_after, IsLegal, HasHistory, HasOneHistory, HasOneConversation}
 use Rattle.pages_talk.specs.Message.{message as message_of}
 use Rattle.pages_talk.specs.Site.{Site, Turn, turn, turn_of, site_of, next_files, published, page_of, page_answer}
 use Rattle.pages_talk.specs.Talk.{after, after_all, closes, EndsAt}
@@ -92,11 +92,11 @@ history_more start next made requests legal files version has = (
 
 pub one_history : HasOneHistory
 unfolding after
-one_history start [] = record { legal = tt; files = refl; version = omega arith }
+one_history start [] = record { legal = tt; files = refl; version = omega arith; fresh = λ path query. refl }
 one_history start (request ∷ requests) =
     let first = history_turn start (message_of request) in
     let all = history_more start (after start request) (published_by (turn start (message_of request)).answer start.draft) requests first.legal first.files first.version (one_history (after start request) requests) in
-    record { legal = all.0; files = all.1; version = all.2 }
+    record { legal = all.0; files = all.1; version = all.2; fresh = λ path query. ap (λ f. page_answer (file_at path f) query) all.1 }
 
 -- two walks over the bytes that begin after as many requests
 one_walk : (bytes : List ℕ) (number : ℕ) (requests others : List Request) (stop other : Stop) (rest after_them : List ℕ)
@@ -124,6 +124,6 @@ one_walk bytes number (r ∷ requests) (q ∷ others) stop other rest after_them
         let both = further first.1 (rw is at ends, rw (sym (ap (closes number) first.0) ∙ is) at also) in
         (ap (λ x. x ∷ requests) first.0 ∙ ap (λ xs. q ∷ xs) both.0, both.1)
 
-pub one_talk : HasOneTalk
-one_talk bytes requests others stop other a ends b also =
+pub one_conversation : HasOneConversation
+one_conversation bytes requests others stop other a ends b also =
     one_walk bytes 0 requests others stop other a.rest b.rest a.front a.stops ends b.front b.stops also

@@ -1,5 +1,5 @@
 -- How a connection goes on from request to request.
-use Rattle.std.proofs.Common.{◌≡◌, ◌≢◌, ◌≤◌, ℕ, ◌+◌, Bool, true, false, List, [], ◌∷◌, ◌++◌, inl, inr, length, take, Option, Some, None, Err, IfSome, refl, sym, ap, subst, ◌∙◌, append_assoc, arith}
+use Rattle.std.proofs.Common.{◌≡◌, ◌≢◌, ◌<◌, ℕ, ◌+◌, Bool, true, false, List, [], ◌∷◌, ◌++◌, ◌⊎◌, inl, inr, length, take, Option, Some, None, Err, IfSome, refl, sym, ap, subst, ◌∙◌, append_assoc, arith}
 use Rattle.std.specs.Prelude.{⊤}
 use Rattle.std.specs.Bool.{MatchBool}
 use Rattle.std.specs.Io.KnownBytes.{Appends, Consumes, IsAtEnd}
@@ -8,15 +8,16 @@ use Rattle.edges.proofs.ToldBytes.{consumes_both, consumes_none, told_front, non
 use Rattle.http_in.specs.declared.fault.HttpFault.{HttpFault}
 use Rattle.http_in.specs.declared.fault.HttpFault.TheVariants as http
 use Rattle.http_in.specs.declared.request.Request.{Request}
-use Rattle.http_in.specs.Reading.{Saw, Reads}
-use Rattle.http_in.specs.Requests.{Stop, Ended, Full, Faulted, Front, StopsAt, StandsFirst, HasFault, IsEnd, IsCutOff, HasNoHead, HasBadHead}
-use Rattle.http_in.proofs.Growth.{front_of_requests_grows, front_more, no_head_grows, bad_head_grows}
+use Rattle.http_in.specs.Reading.{Moves, Saw, Reads}
+use Rattle.http_in.specs.Requests.{Stop, Ended, Full, Faulted, Front, StopsAt, StandsFirst, HasFault, IsEnd, IsCutOff, IsUnfinished, HasNoHead, HasBadHead}
+use Rattle.http_in.proofs.Moving.{saw as seen_so}
+use Rattle.http_in.proofs.Growth.{front_of_requests_grows, front_more, stands_grows, no_head_grows, bad_head_grows}
 use Rattle.source_tree.specs.declared.file.File.{File}
 use Rattle.pages_talk.specs.declared.connection.Ended.{Ended as Outcome}
 use Rattle.pages_talk.specs.declared.connection.Ended.TheVariants as outcome
 use Rattle.pages_talk.specs.Refusal.{Refuses, IsShown}
 use Rattle.pages_talk.specs.Site.{Site}
-use Rattle.pages_talk.specs.Talk.{after, after_all, closes, reply, replies, GoesOn, EndsAt, last_words, outcome_of, IsTalk, StoppedWriting, StoppedForMemory, Tells}
+use Rattle.pages_talk.specs.Talk.{after, after_all, closes, reply, replies, GoesOn, EndsAt, IsReadOut, HasRunAtMostOne, last_words, outcome_of, IsConversation, StoppedWriting, StoppedForMemory, Tells}
 use Rattle.pages_talk.specs.Wire.{refusal}
 
 -- so far the bytes that came are these requests and then the rest, none of them closed the connection, each was answered, and the site is as they left it
@@ -121,7 +122,7 @@ goes_on start site left later old new after_it number request was open_still = r
 -- where it closes the connection, the conversation is whole
 pub closed : (start site : Site) (left later old new : Option (List ℕ)) (files : List File) (after_it : List ℕ) (number : ℕ) (request : Request)
     → IsAnswered start site left later old new after_it number request → closes number request ≡ true → files ≡ (after site request).files
-    → IfSome left (λ bytes. IsTalk start bytes files old new outcome.Done)
+    → IfSome left (λ bytes. IsConversation start bytes later files old new outcome.Done)
 closed start site None later old new files after_it number request was last files_are = tt
 closed start site (Some bytes) later old new files after_it number request was last files_are =
     let all = told_front bytes later was.came was.consumed in
@@ -134,6 +135,7 @@ closed start site (Some bytes) later old new files after_it number request was l
         stops = tt;
       };
       ends = ends_by_request 0 was.requests request was.goes_on (subst (λ n. closes n request ≡ true) (let e : number ≡ 0 + length was.requests = omega (arith, was.count) in e) last);
+      read_out = tt;
       outcome = refl;
       written = subst (λ text. Appends old new text) (sym (append-nil (replies start 0 (was.requests ++ request ∷ [])))) was.written;
       files_are = files_are ∙ ap (λ s. s.files) was.site_is;
@@ -163,13 +165,22 @@ stop_is_not_full Ended seen later has = λ e. (cc)
 stop_is_not_full Full seen later has = absurd has
 stop_is_not_full (Faulted fault) seen later has = λ e. (cc)
 
+stop_read_out : (stop : Stop) (seen : List ℕ) (later : Option (List ℕ)) → StopSeen stop seen later → IsReadOut stop later
+stop_read_out Ended seen later has = has.1
+stop_read_out Full seen later has = absurd has
+stop_read_out (Faulted http.HeadTooLarge) seen later has = tt
+stop_read_out (Faulted http.BadHead) seen later has = tt
+stop_read_out (Faulted http.CutOff) seen later has = has.1
+stop_read_out (Faulted http.ReadFault) seen later has = tt
+stop_read_out (Faulted http.NoMemory) seen later has = tt
+
 -- where the bytes stop the requests, the conversation is whole
 pub stops : (start site : Site) (left mid later old between new : Option (List ℕ)) (files : List File) (rest : List ℕ) (number : ℕ) (stop : Stop) (answer : Outcome)
     → IsSoFar start site left mid old between rest number
     → Saw mid later rest (λ seen. StopSeen stop seen later)
     → Appends between new (last_words stop)
     → answer ≡ outcome_of stop → files ≡ site.files
-    → IfSome left (λ bytes. IsTalk start bytes files old new answer)
+    → IfSome left (λ bytes. IsConversation start bytes later files old new answer)
 stops start site None mid later old between new files rest number stop answer was saw last is files_are = tt
 stops start site (Some bytes) mid later old between new files rest number stop answer was saw last is files_are =
     let came : List ℕ = was.came ++ saw.piece in
@@ -184,34 +195,66 @@ stops start site (Some bytes) mid later old between new files rest number stop a
         stops = stop_grows stop (rest ++ saw.piece) later all.0 all.1 saw.holds;
       };
       ends = ends_by_bytes stop 0 was.requests (stop_is_not_full stop (rest ++ saw.piece) later saw.holds) was.goes_on;
+      read_out = stop_read_out stop (rest ++ saw.piece) later saw.holds;
       outcome = is;
       written = appends_both old between new (replies start 0 was.requests) (last_words stop) was.written last;
       files_are = files_are ∙ ap (λ s. s.files) was.site_is;
     }
 
+-- the bytes that were told hold what came and what is left
+told_requests : (bytes : List ℕ) (later : Option (List ℕ)) (came : List ℕ) (requests : List Request) (rest : List ℕ) → Consumes (Some bytes) later came → Front came requests rest
+    → (more : List ℕ) × Front bytes requests (rest ++ more)
+told_requests bytes later came requests rest consumed front =
+    let all = told_front bytes later came consumed in
+    (all.0, subst (λ text. Front text requests (rest ++ all.0)) (sym all.2) (front_of_requests_grows requests came all.0 rest front))
+
 -- where memory was wanting after some answers, what follows them is left open
-pub starved : (start site : Site) (left mid old between new : Option (List ℕ)) (rest : List ℕ) (number : ℕ) (more : List ℕ)
-    → IsSoFar start site left mid old between rest number → Appends between new more
-    → IfSome left (λ bytes. StoppedForMemory start bytes old new)
-starved start site None mid old between new rest number more was wrote = tt
-starved start site (Some bytes) mid old between new rest number more was wrote =
-    let all = told_front bytes mid was.came was.consumed in
+pub starved : (start site : Site) (left mid old between new : Option (List ℕ)) (files : List File) (rest : List ℕ) (number : ℕ) (more : List ℕ)
+    → IsSoFar start site left mid old between rest number → Appends between new more → files ≡ site.files
+    → IfSome left (λ bytes. StoppedForMemory start bytes files old new)
+starved start site None mid old between new files rest number more was wrote files_are = tt
+starved start site (Some bytes) mid old between new files rest number more was wrote files_are =
+    let all = told_requests bytes mid was.came was.requests rest was.consumed was.front in
     record {
       requests = was.requests;
       rest = rest ++ all.0;
-      front = subst (λ text. Front text was.requests (rest ++ all.0)) (sym all.2) (front_of_requests_grows was.requests was.came all.0 rest was.front);
+      front = all.1;
       goes_on = was.goes_on;
+      files_are = inl (files_are ∙ ap (λ s. s.files) was.site_is);
       more = more;
       written = appends_both old between new (replies start 0 was.requests) more was.written wrote;
     }
 
+-- where memory was wanting for the answer to a request, which may have been run
+pub starved_by : (start site : Site) (left mid later old between : Option (List ℕ)) (files : List File) (rest after_it : List ℕ) (number : ℕ) (request : Request)
+    → IsSoFar start site left mid old between rest number
+    → Saw mid later rest (λ seen. StandsFirst seen request after_it)
+    → ((files ≡ site.files) ⊎ (files ≡ (after site request).files))
+    → IfSome left (λ bytes. StoppedForMemory start bytes files old between)
+starved_by start site None mid later old between files rest after_it number request was saw files_are = tt
+starved_by start site (Some bytes) mid later old between files rest after_it number request was saw files_are =
+    let came : List ℕ = was.came ++ saw.piece in
+    let all = told_requests bytes later came was.requests (rest ++ saw.piece) (consumes_both (Some bytes) mid later was.came saw.piece was.consumed saw.consumed) (front_of_requests_grows was.requests was.came saw.piece rest was.front) in
+    record {
+      requests = was.requests;
+      rest = (rest ++ saw.piece) ++ all.0;
+      front = all.1;
+      goes_on = was.goes_on;
+      files_are = ran files_are ((rest ++ saw.piece) ++ all.0) (after_it ++ all.0) (stands_grows (rest ++ saw.piece) all.0 request after_it saw.holds);
+      more = [];
+      written = appends_both old between between (replies start 0 was.requests) [] was.written (appends_none between);
+    }
+  where
+    ran : ((files ≡ site.files) ⊎ (files ≡ (after site request).files)) → (bytes after_it : List ℕ) → StandsFirst bytes request after_it → HasRunAtMostOne (after_all start was.requests) bytes files
+    ran (inl none) bytes after_it stands = inl (none ∙ ap (λ s. s.files) was.site_is)
+    ran (inr one) bytes after_it stands = inr (request, after_it, stands, one ∙ ap (λ s. (after s request).files) was.site_is)
+
 -- what was seen of a fault that the bytes show
 fault_seen : (fault : HttpFault) (mid later : Option (List ℕ)) (rest after_it : List ℕ) → IsShown fault
     → Reads mid later rest after_it (Err fault) → Saw mid later rest (λ seen. StopSeen (Faulted fault) seen later)
-fault_seen http.HeadTooLarge mid later rest after_it shown has = has
-fault_seen http.BadHead mid later rest after_it shown has = has
-fault_seen http.CutOff mid later rest after_it shown has =
-    record { piece = has.0.piece; consumed = has.0.consumed; holds = (has.0.holds, has.1) }
+fault_seen http.HeadTooLarge mid later rest after_it shown has = seen_so mid later rest after_it (λ seen. StopSeen (Faulted http.HeadTooLarge) seen later) has.0 has.1
+fault_seen http.BadHead mid later rest after_it shown has = seen_so mid later rest after_it (λ seen. StopSeen (Faulted http.BadHead) seen later) has.0 has.1
+fault_seen http.CutOff mid later rest after_it shown has = seen_so mid later rest after_it (λ seen. StopSeen (Faulted http.CutOff) seen later) has.0 (has.1, has.2)
 fault_seen http.ReadFault mid later rest after_it shown has = absurd (shown.read refl)
 fault_seen http.NoMemory mid later rest after_it shown has = absurd (shown.memory refl)
 
@@ -230,7 +273,8 @@ pub refused : (start site : Site) (left mid later old between new : Option (List
     → Tells start left later files old new answer
 refused start site left mid later old between new files rest after_it number fault outcome.Done was has told files_are = absurd told
 refused start site left mid later old between new files rest after_it number fault outcome.ReadFault was has told files_are =
-    let saw = subst (λ f. Reads mid later rest after_it (Err f)) told.0 has in
+    let read = subst (λ f. Reads mid later rest after_it (Err f)) told.0 has in
+    let saw = seen_so mid later rest after_it IsUnfinished read.0 read.1 in
     record {
       came = was.came ++ saw.piece;
       consumed = consumes_both left mid later was.came saw.piece was.consumed saw.consumed;
@@ -258,7 +302,7 @@ refused start site left mid later old between new files rest after_it number fau
       written = appends_both old between new (replies start 0 was.requests) (take told.count (refusal fault)) was.written told.written;
     }
 refused start site left mid later old between new files rest after_it number fault outcome.NoMemory was has told files_are =
-    starved start site left mid old between new rest number told.0 was told.1
+    starved start site left mid old between new files rest number told.0 was told.1 files_are
 refused start site left mid later old between new files rest after_it number fault (outcome.Refused same) was has told files_are =
     stops start site left mid later old between new files rest number (Faulted fault) (outcome.Refused same) was (fault_seen fault mid later rest after_it told.shown has) told.written (ap outcome.Refused told.same) files_are
 
@@ -266,7 +310,7 @@ refused start site left mid later old between new files rest after_it number fau
 pub unwritten : (start site : Site) (left mid later old between new : Option (List ℕ)) (files : List File) (rest after_it : List ℕ) (number : ℕ) (request : Request) (count : ℕ)
     → IsSoFar start site left mid old between rest number
     → Saw mid later rest (λ seen. StandsFirst seen request after_it)
-    → count ≤ length (reply site number request) → Appends between new (take count (reply site number request))
+    → count < length (reply site number request) → Appends between new (take count (reply site number request))
     → files ≡ (after site request).files
     → StoppedWriting start left later files old new
 unwritten start site left mid later old between new files rest after_it number request count was saw within wrote files_are = record {
@@ -284,5 +328,5 @@ unwritten start site left mid later old between new files rest after_it number r
 }
 
 -- the input ended between requests
-pub ended_seen : (mid later : Option (List ℕ)) (rest : List ℕ) → Saw mid later rest IsEnd × IsAtEnd later → Saw mid later rest (λ seen. StopSeen Ended seen later)
-ended_seen mid later rest has = record { piece = has.0.piece; consumed = has.0.consumed; holds = (has.0.holds, has.1) }
+pub ended_seen : (mid later : Option (List ℕ)) (rest after_it : List ℕ) → Moves mid later rest after_it × IsEnd after_it × IsAtEnd later → Saw mid later rest (λ seen. StopSeen Ended seen later)
+ended_seen mid later rest after_it has = seen_so mid later rest after_it (λ seen. StopSeen Ended seen later) has.0 (has.1, has.2)

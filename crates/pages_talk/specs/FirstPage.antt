@@ -50,22 +50,23 @@ stretch_written parameters stretch = written (behind (codes "{") stretch)
     written None = Some (36 ∷ stretch)
     written (Some expression) = expression_written parameters expression
 
--- one text behind the other
-abbrev pub joined : Option (List ℕ) → Option (List ℕ) → Option (List ℕ)
-joined first second = option_and_then (λ bytes. option_map (λ more. bytes ++ more) second) first
+-- one text behind the other, where both are there
+abbrev pub both_written : Option (List ℕ) → Option (List ℕ) → Option (List ℕ)
+both_written first second = option_and_then (λ bytes. option_map (λ more. bytes ++ more) second) first
 
 -- what the stretches behind the dollar signs write, one behind the other
 abbrev pub stretches_written : List Parameter → List (List ℕ) → Option (List ℕ)
 stretches_written parameters [] = Some []
-stretches_written parameters (stretch ∷ stretches) = joined (stretch_written parameters stretch) (stretches_written parameters stretches)
+stretches_written parameters (stretch ∷ stretches) = both_written (stretch_written parameters stretch) (stretches_written parameters stretches)
 
+-- the byte `$`
 abbrev pub is_dollar : ℕ → Bool
 is_dollar b = b == 36
 
 -- what the pieces between the dollar signs write: the first is text
 abbrev pub pieces_written : List Parameter → List (List ℕ) → Option (List ℕ)
 pieces_written parameters [] = Some []
-pieces_written parameters (front ∷ stretches) = joined (Some front) (stretches_written parameters stretches)
+pieces_written parameters (front ∷ stretches) = both_written (Some front) (stretches_written parameters stretches)
 
 -- what a template writes
 abbrev pub filled : List Parameter → List ℕ → Option (List ℕ)
@@ -87,11 +88,11 @@ begins_element [] = false
 begins_element (b ∷ []) = false
 begins_element (b ∷ c ∷ text) = (b == 60) && (is_ascii_alphabetic c && letters_then_colon text)
 
--- the text begins with `<%`, `#{`, a backslash, or an element with a prefix
+-- the text begins with other syntax: `<%`, `#{`, a backslash, or an element with a prefix
 abbrev pub begins_other_syntax : List ℕ → Bool
 begins_other_syntax text = starts_with nat_eq text (codes "<%") || starts_with nat_eq text (codes "#{") || starts_with nat_eq text (codes "\\") || begins_element text
 
--- at some byte the text goes on with what a first page does not hold
+-- from some byte on the text begins with other syntax
 abbrev pub has_other_syntax : List ℕ → Bool
 has_other_syntax [] = false
 has_other_syntax (b ∷ text) = begins_other_syntax (b ∷ text) || has_other_syntax text
@@ -104,10 +105,10 @@ directive = codes "<%@ page session=\"false\" %>"
 unfoldable pub limited : List ℕ → Option (List ℕ)
 limited bytes = if nat_le (length bytes) 16777216 then Some bytes else None
 
--- what a template answers, where it holds nothing else and does not answer too much
+-- what a template answers, where it has no other syntax and does not write too much
 abbrev pub template_body : List Parameter → List ℕ → Option (List ℕ)
 template_body parameters template = if has_other_syntax template then None else option_and_then limited (filled parameters template)
 
--- what a text answers to a query, where it is a first page
-abbrev pub first_page_body : List ℕ → List ℕ → Option (List ℕ)
+-- what a text answers to a query, where it is a first page and does not answer too much
+unfoldable pub first_page_body : List ℕ → List ℕ → Option (List ℕ)
 first_page_body text query = option_and_then (template_body (parameters_of query)) (behind directive text)

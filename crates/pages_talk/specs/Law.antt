@@ -4,12 +4,13 @@ use Rattle.http_in.specs.declared.request.Request.{Request}
 use Rattle.http_in.specs.Requests.{Stop, Cut}
 use Rattle.source_tree.specs.declared.edit.Edit.{Edit}
 use Rattle.source_tree.specs.declared.file.File.{File}
-use Rattle.source_tree.specs.Edits.{after_edits}
+use Rattle.source_tree.specs.Edits.{after_edits, file_at}
 use Rattle.source_tree.specs.Limits.{IsWithinLimits}
 use Rattle.pages_talk.specs.declared.answer.Answer.{Answer}
 use Rattle.pages_talk.specs.declared.answer.Answer.TheVariants.{Published}
+use Rattle.pages_talk.specs.declared.message.Message.TheVariants.{Get}
 use Rattle.pages_talk.specs.Message.{message}
-use Rattle.pages_talk.specs.Site.{Site, turn}
+use Rattle.pages_talk.specs.Site.{Site, page_answer, turn}
 use Rattle.pages_talk.specs.Talk.{after, after_all, EndsAt}
 
 -- the edits that an answer tells to be published: those of the draft, or none
@@ -38,12 +39,14 @@ pub record HasHistory (start : Site) (requests : List Request) : Type 0 where
   pub legal : IsLegal start.files start.version (publishings start requests)
   pub files : (after_all start requests).files ≡ files_after start.files start.version (publishings start requests)
   pub version : (after_all start requests).version ≡ start.version + length (publishings start requests)
+  -- a page that is asked for then is served from the files that the history made last
+  pub fresh : (path query : List ℕ) → (turn (after_all start requests) (Get path query)).answer ≡ page_answer (file_at path (files_after start.files start.version (publishings start requests))) query
 
 abbrev pub HasOneHistory : Type 0
 HasOneHistory = (start : Site) (requests : List Request) → HasHistory start requests
 
 -- the bytes have one conversation: two walks over them, each to its end, are the same
-abbrev pub HasOneTalk : Type 0
-HasOneTalk =
+abbrev pub HasOneConversation : Type 0
+HasOneConversation =
     (bytes : List ℕ) (requests others : List Request) (stop other : Stop) → Cut bytes requests stop → EndsAt stop 0 requests
     → Cut bytes others other → EndsAt other 0 others → (requests ≡ others) × (stop ≡ other)

@@ -26,15 +26,15 @@ query_part target = after_first is_question target
 unfoldable pub is_file_target : List ℕ → Bool
 is_file_target target = starts_with nat_eq target (codes "/_editor/files/")
 
--- the message puts a file
+-- the request is sent as one that puts a file
 unfoldable pub is_put : Request → Bool
 is_put request = bytes_eq request.method (codes "PUT") && is_file_target request.target
 
--- the message publishes the draft; a query makes it another message
+-- the request publishes the draft; a query makes it another message
 unfoldable pub is_publish : Request → Bool
 is_publish request = bytes_eq request.method (codes "POST") && bytes_eq request.target (codes "/_editor/publish")
 
--- the message asks for a page
+-- the request asks for a page: by GET, a path without escapes that ends in .jsp, and no target of an editor
 unfoldable pub is_page_get : Request → Bool
 is_page_get request =
     bytes_eq request.method (codes "GET") && (not (starts_with nat_eq request.target (codes "/_editor/"))

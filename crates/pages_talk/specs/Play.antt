@@ -11,9 +11,9 @@ is_play (word ∷ []) = bytes_eq word (codes "play")
 is_play (word ∷ next ∷ words) = false
 
 -- the status of the program
-abbrev pub status_of : Ended → ℕ
-status_of Done = 0
-status_of (Refused fault) = 2
-status_of ReadFault = 3
-status_of WriteFault = 4
-status_of NoMemory = 5
+abbrev pub exit_status : Ended → ℕ
+exit_status Done = 0
+exit_status (Refused fault) = 2
+exit_status ReadFault = 3
+exit_status WriteFault = 4
+exit_status NoMemory = 5

@@ -1,5 +1,5 @@
 -- What is told of a fault that ends a connection.
-use Rattle.std.specs.Prelude.{◌≡◌, ◌≢◌, ◌≤◌, ℕ, List, [], length, take, Option}
+use Rattle.std.specs.Prelude.{◌≡◌, ◌≢◌, ◌<◌, ℕ, List, [], length, take, Option}
 use Rattle.std.specs.Io.KnownBytes.{Appends}
 use Rattle.http_in.specs.declared.fault.HttpFault.{HttpFault}
 use Rattle.http_in.specs.declared.fault.HttpFault.TheVariants as http
@@ -16,11 +16,11 @@ pub record IsShown (fault : HttpFault) : Type 0 where
 pub record BreaksOff (fault : HttpFault) (old new : Option (List ℕ)) : Type 0 where
   pub shown : IsShown fault
   pub count : ℕ
-  pub within : count ≤ length (refusal fault)
+  pub within : count < length (refusal fault)
   pub written : Appends old new (take count (refusal fault))
 
 -- the fault was answered
-pub record Answers (fault told : HttpFault) (old new : Option (List ℕ)) : Type 0 where
+pub record IsAnswered (fault told : HttpFault) (old new : Option (List ℕ)) : Type 0 where
   pub same : told ≡ fault
   pub shown : IsShown fault
   pub written : Appends old new (refusal fault)
@@ -31,4 +31,4 @@ Refuses fault old new outcome.ReadFault = (fault ≡ http.ReadFault) × Appends 
 Refuses fault old new outcome.WriteFault = BreaksOff fault old new
 Refuses fault old new outcome.NoMemory = (more : List ℕ) × Appends old new more
 Refuses fault old new outcome.Done = ⊥
-Refuses fault old new (outcome.Refused told) = Answers fault told old new
+Refuses fault old new (outcome.Refused told) = IsAnswered fault told old new

@@ -1,9 +1,10 @@
 -- The conversation on a connection: what its requests are answered, one after the other.
-use Rattle.std.specs.Prelude.{◌≡◌, ◌≢◌, ◌≤◌, ◌+◌, ◌⊎◌, ◌||◌, ◌==◌, ℕ, Bool, true, false, List, [], ◌∷◌, ◌++◌, length, take, Option, IfSome, ⊤, codes}
+use Rattle.std.specs.Prelude.{◌≡◌, ◌≢◌, ◌<◌, ◌+◌, ◌⊎◌, ◌||◌, ◌==◌, ℕ, Bool, true, false, List, [], ◌∷◌, ◌++◌, length, take, Option, IfSome, ⊤, codes}
 use Rattle.std.specs.Bool.{MatchBool}
-use Rattle.std.specs.Io.KnownBytes.{Appends, Consumes}
+use Rattle.std.specs.Io.KnownBytes.{Appends, Consumes, IsAtEnd}
 use Rattle.std.specs.Str.{bytes_eq}
 use Rattle.http_in.specs.declared.fault.HttpFault.{HttpFault}
+use Rattle.http_in.specs.declared.fault.HttpFault.TheVariants as http
 use Rattle.http_in.specs.declared.request.Request.{Request}
 use Rattle.http_in.specs.Requests.{Stop, Ended, Full, Faulted, Cut, Front, StandsFirst, HasFault, IsUnfinished}
 use Rattle.source_tree.specs.declared.file.File.{File}
@@ -57,12 +58,19 @@ outcome_of Ended = outcome.Done
 outcome_of Full = outcome.Done
 outcome_of (Faulted fault) = outcome.Refused fault
 
+-- where the input ended there is nothing left to read
+abbrev pub IsReadOut : Stop → Option (List ℕ) → Type 0
+IsReadOut Ended later = IsAtEnd later
+IsReadOut (Faulted http.CutOff) later = IsAtEnd later
+IsReadOut stop later = ⊤
+
 -- the bytes are these requests, each was answered, nothing else was written, and the files are as the requests left them
-pub record IsTalk (start : Site) (bytes : List ℕ) (files : List File) (old new : Option (List ℕ)) (answer : Outcome) : Type 0 where
+pub record IsConversation (start : Site) (bytes : List ℕ) (later : Option (List ℕ)) (files : List File) (old new : Option (List ℕ)) (answer : Outcome) : Type 0 where
   pub requests : List Request
   pub stop : Stop
   pub cut : Cut bytes requests stop
   pub ends : EndsAt stop 0 requests
+  pub read_out : IsReadOut stop later
   pub outcome : answer ≡ outcome_of stop
   pub written : Appends old new (replies start 0 requests ++ last_words stop)
   pub files_are : files ≡ (after_all start requests).files
@@ -96,15 +104,21 @@ pub record StoppedWriting (start : Site) (left later : Option (List ℕ)) (files
   pub next : List ℕ
   pub is_next : IsNext (after_all start requests) (length requests) rest files next
   pub count : ℕ
-  pub within : count ≤ length next
+  pub within : count < length next
   pub written : Appends old new (replies start 0 requests ++ take count next)
 
--- requests at the front of the bytes were answered whole, and then memory was wanting; what follows their answers is left open
-pub record StoppedForMemory (start : Site) (bytes : List ℕ) (old new : Option (List ℕ)) : Type 0 where
+-- the files are as the site has them, or as a request leaves them that stands first in the bytes
+abbrev pub HasRunAtMostOne : Site → List ℕ → List File → Type 0
+HasRunAtMostOne site bytes files =
+    (files ≡ site.files) ⊎ ((request : Request) × (after_it : List ℕ) × StandsFirst bytes request after_it × (files ≡ (after site request).files))
+
+-- requests at the front of the bytes were answered whole, and then memory was wanting; the next request may have been run, and what follows the answers is left open
+pub record StoppedForMemory (start : Site) (bytes : List ℕ) (files : List File) (old new : Option (List ℕ)) : Type 0 where
   pub requests : List Request
   pub rest : List ℕ
   pub front : Front bytes requests rest
   pub goes_on : GoesOn 0 requests
+  pub files_are : HasRunAtMostOne (after_all start requests) rest files
   pub more : List ℕ
   pub written : Appends old new (replies start 0 requests ++ more)
 
@@ -112,5 +126,5 @@ pub record StoppedForMemory (start : Site) (bytes : List ℕ) (old new : Option 
 abbrev pub Tells : Site → Option (List ℕ) → Option (List ℕ) → List File → Option (List ℕ) → Option (List ℕ) → Outcome → Type 0
 Tells start left later files old new outcome.ReadFault = StoppedReading start left later files old new
 Tells start left later files old new outcome.WriteFault = StoppedWriting start left later files old new
-Tells start left later files old new outcome.NoMemory = IfSome left (λ bytes. StoppedForMemory start bytes old new)
-Tells start left later files old new answer = IfSome left (λ bytes. IsTalk start bytes files old new answer)
+Tells start left later files old new outcome.NoMemory = IfSome left (λ bytes. StoppedForMemory start bytes files old new)
+Tells start left later files old new answer = IfSome left (λ bytes. IsConversation start bytes later files old new answer)

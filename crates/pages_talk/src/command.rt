@@ -2,7 +2,7 @@ ghost use Rattle.std.specs.Prelude.{◌≡◌, List, [], true, false, map, strin
 ghost use Rattle.source_tree.specs.declared.file.File.{File};
 ghost use Rattle.edges.specs.Faults.{Rose};
 ghost use Rattle.pages_talk.specs.declared.connection.Ended.{Ended as Outcome};
-ghost use Rattle.pages_talk.specs.Play.{is_play, status_of};
+ghost use Rattle.pages_talk.specs.Play.{is_play, exit_status};
 ghost use Rattle.pages_talk.specs.Site.{site_of};
 ghost use Rattle.pages_talk.specs.Talk.{Tells};
 
@@ -19,7 +19,7 @@ pub fn play<S: Source, K: Sink, L: Ledger>(
     sink: &mut K,
     steps: &mut Steps<L>,
 ) -> u8
-    ensures talk { is_play (map string_bytes words.now) ≡ true → (ended : Outcome) × (result ≡ status_of ended)
+    ensures talk { is_play (map string_bytes words.now) ≡ true → (ended : Outcome) × (result ≡ exit_status ended)
         × ((files : List File) × Tells (site_of [] [] 0) (S.left source.old) (S.left source.new) files (K.taken sink.old) (K.taken sink.new) ended) }
     ensures words { is_play (map string_bytes words.now) ≡ false → result ≡ 1 }
     ensures only_words { result ≡ 1 → is_play (map string_bytes words.now) ≡ false }

@@ -1,8 +1,9 @@
-ghost use Rattle.std.specs.Prelude.{◌≡◌, ◌≤◌, ◌<◌, ◌+◌, ◌^◌, ℕ, false, [], IfOk, OnOk};
+ghost use Rattle.std.specs.Prelude.{◌≡◌, ◌≤◌, ◌<◌, ◌+◌, ◌^◌, ◌⊎◌, ℕ, false, [], IfOk, OnErr, OnOk};
 ghost use Rattle.std.specs.Io.KnownBytes.{Appends};
 ghost use Rattle.edges.specs.Faults.{Rose};
 ghost use Rattle.source_tree.specs.Limits.{IsWithinLimits};
-ghost use Rattle.pages_talk.specs.Refusal.{Refuses};
+ghost use Rattle.http_in.specs.declared.fault.HttpFault.{HttpFault};
+ghost use Rattle.pages_talk.specs.Refusal.{IsShown, Refuses};
 ghost use Rattle.pages_talk.specs.Site.{site_of};
 ghost use Rattle.pages_talk.specs.Talk.{Tells, after, closes, reply};
 
@@ -40,7 +41,7 @@ pub enum Ended {
     NoMemory,
 }
 
-/// Answers the requests of one connection, each before the next is read. What is published goes into the tree.
+/// Answers the requests of one connection, each before it reads the next, and makes the tree what is published.
 pub fn talk<S: Source, K: Sink, L: Ledger>(
     alloc: Global,
     tree: &mut Tree,
@@ -55,6 +56,7 @@ pub fn talk<S: Source, K: Sink, L: Ledger>(
     // The sink took the answers to the requests that stand in the source's bytes, and nothing else.
     ensures talk { Tells (site_of tree.old [] 0) (S.left source.old) (S.left source.new) tree.new (K.taken sink.old) (K.taken sink.new) result }
     ensures limits { IsWithinLimits tree.new }
+    ensures shown { (fault : HttpFault) → result ≡ Ended.Refused fault → IsShown fault }
 
     // A fault of the outside is told only where it was counted.
     ensures read { result ≡ Ended.ReadFault → Rose (S.faults source.old) (S.faults source.new) }
@@ -109,6 +111,7 @@ fn answer(
     requires { version.old < 2 ^ 32 }
     ensures reply { IfOk result (λ text. (number : ℕ) → last ≡ closes number request.now → text.items ≡ reply (site_of tree.old draft.old version.old) number request.now) }
     ensures after { OnOk result (site_of tree.new draft.new version.new ≡ after (site_of tree.old draft.old version.old) request.now) }
+    ensures err { OnErr result ((tree.new ≡ tree.old) ⊎ (tree.new ≡ (after (site_of tree.old draft.old version.old) request.now).files)) }
     ensures limits { IsWithinLimits tree.old → IsWithinLimits tree.new }
     ensures version { version.new ≤ version.old + 1 }
 {
@@ -125,6 +128,7 @@ fn answer(
 // Answers a fault of reading, and ends.
 fn refuse<K: Sink>(alloc: Global, fault: HttpFault, sink: &mut K) -> Ended
     ensures ended { Refuses fault (K.taken sink.old) (K.taken sink.new) result }
+    ensures shown { (told : HttpFault) → result ≡ Ended.Refused told → IsShown told }
     ensures read { result ≡ Ended.ReadFault → fault ≡ HttpFault.ReadFault }
     ensures write { result ≡ Ended.WriteFault → Rose (K.faults sink.old) (K.faults sink.new) }
 {

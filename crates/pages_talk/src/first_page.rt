@@ -47,7 +47,7 @@ fn behind<'a>(beginning: &str, text: &'a str) -> Option<&'a str>
     text.strip_prefix(beginning)
 }
 
-// Whether the template holds what a first page does not.
+// Whether the template has other syntax than a first page.
 fn has_other_syntax(template: &[u8]) -> bool
     ensures { result ≡ has_other_syntax template.now }
 {
@@ -59,7 +59,7 @@ fn has_other_syntax(template: &[u8]) -> bool
     false
 }
 
-// Whether the text begins with `<%`, `#{`, a backslash, or an element with a prefix.
+// Whether the text begins with other syntax: `<%`, `#{`, a backslash, or an element with a prefix.
 fn begins_other_syntax(text: &[u8]) -> bool
     ensures { result ≡ begins_other_syntax text.now }
 {
@@ -110,7 +110,7 @@ fn parameters_of(alloc: Global, query: &[u8]) -> Result<Vec<Parameter>, AllocErr
     Ok(parameters)
 }
 
-// The template with the values of parameters in the place of its expressions, where it has no other and is not too long.
+// What the template writes, where its expressions are all parameters and it does not write too much.
 fn filled(
     alloc: Global,
     template: &str,

@@ -14,7 +14,7 @@ mod wire;
 
 pub use command::play;
 pub use connection::{Ended, Role, talk};
-pub use law::{one_history, one_talk};
+pub use law::{one_conversation, one_history};
 
 #[cfg(test)]
 mod tests;

@@ -146,14 +146,14 @@ fn own_path(alloc: Global, text: &str) -> Result<Option<Path>, AllocError>
     ensures own { IfOk result (λ found. is_some found ≡ is_own_path text.now) }
     ensures same { IfOk result (λ found. IfSome found (λ path. path ≡ text.now)) }
 {
-    match path_of(alloc, text)? {
+    match resolved_path(alloc, text)? {
         Some(path) if path.as_str() == text => Ok(Some(path)),
         _ => Ok(None),
     }
 }
 
 // The path that a text stands for from the root on.
-fn path_of(alloc: Global, text: &str) -> Result<Option<Path>, AllocError>
+fn resolved_path(alloc: Global, text: &str) -> Result<Option<Path>, AllocError>
     ensures { IfOk result (λ found. found ≡ result_ok (resolved (segments None text.now))) }
 {
     match resolve(alloc, None, text) {
@@ -167,7 +167,7 @@ fn path_of(alloc: Global, text: &str) -> Result<Option<Path>, AllocError>
 fn page_message(alloc: Global, path: &str, query: &str) -> Result<Message, AllocError>
     ensures { IfOk result (λ found. found ≡ page_message (resolved (segments None path.now)) query.now) }
 {
-    let Some(path) = path_of(alloc, path)? else {
+    let Some(path) = resolved_path(alloc, path)? else {
         return Ok(Message::Missing);
     };
     if path.as_bytes().starts_with(HIDDEN) {

@@ -7,7 +7,7 @@ use Rattle.std.proofs.lemmas.Bool.{false≢true}
 use Rattle.std.proofs.lemmas.List.{take-append-drop}
 use Rattle.std.proofs.lemmas.List.Folds.{list_any-append}
 use Rattle.pg_text.specs.Normal.{is_bad_byte, is_bad_name, is_slash}
-use Rattle.pg_text.specs.Path.{folder, kept, rooted, segments}
+use Rattle.pg_text.specs.Path.{Kept, folder, kept, rooted, segments}
 
 neither : (b c : Bool) → (b || c) ≡ false → (b ≡ false) × (c ≡ false)
 neither true c e = absurd (false≢true (sym e))
@@ -93,3 +93,7 @@ good_names segments unslashed clean filled =
     none_passes (λ name. is_empty name || is_dots name) (λ name. list_any is_slash name || list_any is_bad_byte name) names
     (none_passes is_empty is_dots names (none_kept is_empty segments filled) (no_dots_kept segments))
     (none_passes (list_any is_slash) (list_any is_bad_byte) names (none_kept (list_any is_slash) segments unslashed) (none_kept (list_any is_bad_byte) segments clean))
+
+-- the names so far, and those that the rest of a path keeps, which takes some of them
+abbrev pub all_kept : List (List ℕ) → Kept → Kept
+all_kept names rest = record { open_ups = rest.open_ups - length names; names = take (length names - rest.open_ups) names ++ rest.names }

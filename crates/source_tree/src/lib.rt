@@ -16,7 +16,7 @@ pub use fault::TreeFault;
 pub use file::File;
 pub use file_text::FileText;
 pub use limits::{MAX_FILE_BYTES, MAX_FILES, MAX_TREE_BYTES};
-pub use tree::{Tree, edits_tell_files};
+pub use tree::{Tree, edits_by_path};
 
 #[cfg(test)]
 mod tests;

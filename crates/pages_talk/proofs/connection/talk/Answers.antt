@@ -1,15 +1,15 @@
-use Rattle.std.proofs.Common.{[], refl, sym, ap, ◌∙◌, arith}
+use Rattle.std.proofs.Common.{refl, sym, ap, ◌∙◌, arith}
 use Rattle.edges.proofs.ToldBytes.{appends_none}
 use Rattle.http_in.specs.Requests.{Ended}
 use Rattle.pages_talk.specs.declared.connection.Ended.TheVariants.{Done}
 use Rattle.pages_talk.specs.Site.{Site, site_of}
-use Rattle.pages_talk.proofs.TalkLemmas.{answered, closed, ended_seen, goes_on, refused, starved, stops, unwritten}
+use Rattle.pages_talk.proofs.TalkLemmas.{answered, closed, ended_seen, goes_on, refused, starved_by, stops, unwritten}
 use Rattle.pages_talk.proofs.connection.talk.Goals as goal
 
 pub returns-in-Ok-None-clause-talk : goal.returns-in-Ok-None-clause-talk
 returns-in-Ok-None-clause-talk g c =
     let end = rw c.in-Ok-None.field-0-is at c.in-Ok-None.ensures.answer in
-    stops _ _ _ _ _ _ _ (g.K.Sink.taken c.requests.sink) c.requests.tree c.requests.rest c.requests.number Ended Done c.requests.invariant.so_far (ended_seen _ _ _ end) (appends_none _) refl refl
+    stops _ _ _ _ _ _ _ (g.K.Sink.taken c.requests.sink) c.requests.tree c.requests.rest c.requests.number Ended Done c.requests.invariant.so_far (ended_seen _ _ _ _ end) (appends_none _) refl refl
 
 pub returns-in-Err-clause-talk : goal.returns-in-Err-clause-talk
 returns-in-Err-clause-talk g c =
@@ -17,7 +17,9 @@ returns-in-Err-clause-talk g c =
 
 pub returns-in_default-clause-talk : goal.returns-in_default-clause-talk
 returns-in_default-clause-talk g c =
-    starved _ _ _ _ _ _ (g.K.Sink.taken c.requests.sink) c.requests.rest c.requests.number [] c.requests.invariant.so_far (appends_none _)
+    let site : Site = site_of c.requests.tree c.requests.draft c.requests.version in
+    let saw = rw c.in-Ok-Some.field-0-is at c.in-Ok-Some.ensures.answer in
+    starved_by _ site _ _ _ _ (g.K.Sink.taken c.requests.sink) c.answer.new.tree c.requests.rest c.read_request.new.rest c.requests.number c.in-Ok-Some.request c.requests.invariant.so_far saw c.in_default.ensures.err
 
 pub returns-in_default-send-clause-talk : goal.returns-in_default-send-clause-talk
 returns-in_default-send-clause-talk g c =
