@@ -13,6 +13,7 @@ use pg_text::Bytes;
 use std::alloc::{AllocError, Global};
 
 /// Reads the next request, in whatever pieces the source gives its bytes. None means that the input ended between requests.
+/// What `rest` holds after that, or after a fault, is left open.
 pub fn read_request<S: Source>(
     alloc: Global,
     source: &mut S,
