@@ -1,5 +1,5 @@
 -- What reading a request answers, by what the calls in it answered.
-use Rattle.std.proofs.Common.{◌≡◌, ◌≢◌, Bool, ◌<◌, ◌≤◌, ◌+◌, inl, inr, ℕ, List, [], ◌∷◌, ◌++◌, length, take, drop, Option, Some, None, Err, IsErrOf, refl, sym, ap, subst, ◌∙◌}
+use Rattle.std.proofs.Common.{◌≡◌, Bool, ◌<◌, ◌≤◌, ◌+◌, inl, inr, ℕ, List, [], ◌∷◌, ◌++◌, length, take, drop, Option, Some, None, Err, IsErrOf, refl, sym, ap, subst, ◌∙◌}
 use Rattle.std.specs.Io.KnownBytes.{IsAtEnd}
 use Rattle.std.proofs.lemmas.List.{take-append-le}
 use Rattle.httparse.specs.Grammar.{RequestHead}
@@ -10,7 +10,7 @@ use Rattle.http_in.specs.Fields.{asks_to_close}
 use Rattle.http_in.specs.Head.{IsGoodHead, fields_of, request_of}
 use Rattle.http_in.specs.HeadEnd.{head_len, skip_pairs, front_of}
 use Rattle.http_in.specs.Reading.{Moves, Saw, Reads}
-use Rattle.http_in.specs.Requests.{StandsFirst, HasNoHead, HasBadHead, IsUnfinished, IsCutOff}
+use Rattle.http_in.specs.Requests.{StandsFirst, EndsInHead, HasNoHead, HasBadHead, IsUnfinished, IsCutOff}
 use Rattle.http_in.proofs.HeadEnds.{front_grows}
 use Rattle.http_in.proofs.Moving.{saw, moves_both}
 
@@ -24,19 +24,18 @@ unfinished_head bytes none short = go (skip_pairs bytes) refl
 
 -- a fault while the head was read
 pub head_fault : {T : Type 0} (fault : HttpFault) (left later : Option (List ℕ)) (old new : List ℕ)
-    → (IsErrOf {T = T} (Err fault) HeadTooLarge → (head_len (front_of new) ≡ None) × (16384 ≤ length new))
-    → (IsErrOf {T = T} (Err fault) CutOff → (head_len (front_of new) ≡ None) × (length new < 16384) × (skip_pairs new ≢ []) × IsAtEnd later)
+    → (IsErrOf {T = T} (Err fault) HeadTooLarge → HasNoHead new)
+    → (IsErrOf {T = T} (Err fault) CutOff → EndsInHead new × IsAtEnd later)
     → (IsErrOf {T = T} (Err fault) BadHead → ⊥)
     → ((IsErrOf {T = T} (Err fault) NoMemory → ⊥) → Moves left later old new)
     → (IsErrOf {T = T} (Err fault) ReadFault → (head_len (front_of new) ≡ None) × (length new < 16384))
     → Reads left later old new (Err fault)
 head_fault HeadTooLarge left later old new large cut bad moved unfinished =
-    let facts = large refl in
-    (moved (λ e. (cc)), record { ends = facts.0; long = facts.1 })
+    (moved (λ e. (cc)), large refl)
 head_fault BadHead left later old new large cut bad moved unfinished = absurd (bad refl)
 head_fault CutOff left later old new large cut bad moved unfinished =
     let facts = cut refl in
-    (moved (λ e. (cc)), inl (record { ends = facts.0; short = facts.1; begun = facts.2 }), facts.3)
+    (moved (λ e. (cc)), inl facts.0, facts.1)
 head_fault ReadFault left later old new large cut bad moved unfinished =
     let facts = unfinished refl in
     (moved (λ e. (cc)), unfinished_head new facts.0 facts.1)

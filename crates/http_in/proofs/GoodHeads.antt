@@ -1,5 +1,5 @@
 -- Which heads are good, by what the parser found in them.
-use Rattle.std.proofs.Common.{◌≡◌, ℕ, ◌<◌, ◌≤◌, true, List, [], ◌∷◌, length, map, take, min, refl, sym, ap, subst, ◌∙◌, arith}
+use Rattle.std.proofs.Common.{◌≡◌, ℕ, ◌<◌, ◌≤◌, true, List, [], length, map, take, sym, ap, subst, ◌∙◌, arith}
 use Rattle.std.specs.Prelude.{codes, nat_eq}
 use Rattle.std.specs.List.{starts_with}
 use Rattle.std.proofs.lemmas.List.{length-map, length-take, nil_from_length}
@@ -8,7 +8,7 @@ use Rattle.httparse.specs.declared.spans.RequestSpans.{RequestSpans}
 use Rattle.httparse.specs.Grammar.{RequestHead, ReadsRequest}
 use Rattle.httparse.specs.Spans.{header_bytes, name_and_value, IsRequestAt}
 use Rattle.http_in.specs.Fields.{values_of, GivesSize}
-use Rattle.http_in.specs.Head.{IsGoodHead, fields_of}
+use Rattle.http_in.specs.Head.{IsGoodHead}
 use Rattle.http_in.proofs.Sizes.{one_size}
 
 -- the fields that were found in a head

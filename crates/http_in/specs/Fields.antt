@@ -14,6 +14,10 @@ pub record GivesSize (values : List (List ℕ)) (size : ℕ) : Type 0 where
   pub each : All (λ value. whole_number value ≡ Some size) values
   pub none : values ≡ [] → size ≡ 0
 
+-- the values of Content-Length give no size
+abbrev pub GivesNoSize : List (List ℕ) → Type 0
+GivesNoSize values = (size : ℕ) → GivesSize values size → ⊥
+
 -- whether an item of a value, which commas part, is close, without regard to ASCII case and to spaces and tabs at its ends
 abbrev pub has_close : List ℕ → Bool
 has_close value = list_any (λ item. str_eq_ignore_ascii_case (trim_ows item) (codes "close")) (slice_split (λ b. b == 44) value)

@@ -1,8 +1,9 @@
 -- Which heads are read, and what they say.
-use Rattle.std.specs.Prelude.{◌≡◌, ◌≤◌, ℕ, true, List, [], ◌∷◌, length, map, codes, nat_eq}
+use Rattle.std.specs.Prelude.{◌≡◌, ◌≤◌, ℕ, true, List, [], length, map, codes, nat_eq}
 use Rattle.std.specs.List.{starts_with}
 use Rattle.httparse.specs.Grammar.{RequestHead, ReadsRequest}
 use Rattle.httparse.specs.Spans.{name_and_value}
+use Rattle.http_in.specs.declared.head.Head.{Head}
 use Rattle.http_in.specs.declared.request.Request.{Request}
 use Rattle.http_in.specs.Fields.{values_of, GivesSize, asks_to_close}
 
@@ -28,6 +29,18 @@ pub record IsGoodHead (bytes : List ℕ) (head : RequestHead) (size : ℕ) : Typ
   pub body : GivesSize (values_of (codes "content-length") (fields_of head)) size
   -- the size is at most 2,097,152 bytes
   pub small : size ≤ 2097152
+
+-- the bytes are no head that is read
+abbrev pub IsNoGoodHead : List ℕ → Type 0
+IsNoGoodHead bytes = (head : RequestHead) (size : ℕ) → IsGoodHead bytes head size → ⊥
+
+-- the bytes are a head that is read, and these are its parts
+pub record HasParts (bytes : List ℕ) (parts : Head) : Type 0 where
+  pub head : RequestHead
+  pub is_good : IsGoodHead bytes head parts.size
+  pub method : parts.method ≡ head.method
+  pub target : parts.target ≡ head.target
+  pub close : parts.close ≡ asks_to_close (fields_of head)
 
 -- the request that a head and a body make
 abbrev pub request_of : RequestHead → List ℕ → Request

@@ -4,7 +4,7 @@ use Rattle.httparse.specs.Grammar.{RequestHead}
 use Rattle.http_in.specs.declared.fault.HttpFault.{HttpFault}
 use Rattle.http_in.specs.declared.fault.HttpFault.TheVariants as fault
 use Rattle.http_in.specs.declared.request.Request.{Request}
-use Rattle.http_in.specs.Head.{IsGoodHead, request_of}
+use Rattle.http_in.specs.Head.{IsGoodHead, IsNoGoodHead, request_of}
 use Rattle.http_in.specs.HeadEnd.{head_len, skip_pairs, front_of}
 
 -- the request stands whole at the front of the bytes, and rest comes after it
@@ -48,7 +48,7 @@ pub record HasNoHead (bytes : List ℕ) : Type 0 where
 pub record HasBadHead (bytes : List ℕ) : Type 0 where
   pub len : ℕ
   pub ends : head_len (front_of bytes) ≡ Some len
-  pub bad : (head : RequestHead) (size : ℕ) → IsGoodHead (take len bytes) head size → ⊥
+  pub bad : IsNoGoodHead (take len bytes)
 
 -- the bytes end inside a request
 abbrev pub IsCutOff : List ℕ → Type 0

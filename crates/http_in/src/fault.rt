@@ -1,18 +1,19 @@
 use crate::rest::Lack;
 use std::alloc::AllocError;
+use thiserror::Error;
 
 /// Why a request could not be read. After a fault the connection has no further requests.
-#[derive(Clone, Copy, Debug, PartialEq, Eq)]
+#[derive(Clone, Copy, Debug, PartialEq, Eq, Error)]
 pub enum HttpFault {
-    /// 16,384 bytes are there and hold no end of the head.
+    #[error("16,384 bytes hold no end of the head")]
     HeadTooLarge,
-    /// The head isn't one that is read: it is malformed, of another version, or asks for what isn't built.
+    #[error("the head isn't one that is read")]
     BadHead,
-    /// The input ended inside a head or a body.
+    #[error("the input ended inside a request")]
     CutOff,
-    /// The source failed.
+    #[error("the source failed")]
     ReadFault,
-    /// There was no memory for the request.
+    #[error("out of memory")]
     NoMemory,
 }
 

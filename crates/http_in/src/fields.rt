@@ -1,8 +1,8 @@
-ghost use Rattle.std.specs.Prelude.{◌≡◌, ℕ, IfSome, IfNone, length, map, All, codes};
+ghost use Rattle.std.specs.Prelude.{◌≡◌, IfSome, IfNone, length, map, All, codes};
 ghost use Rattle.std.specs.Str.{str_eq_ignore_ascii_case};
 ghost use Rattle.httparse.specs.Grammar.{trim_ows, skip_ows};
 ghost use Rattle.httparse.specs.Spans.{header_bytes, IsHeaderWithin};
-ghost use Rattle.http_in.specs.Fields.{values_of, GivesSize, asks_to_close, has_close};
+ghost use Rattle.http_in.specs.Fields.{values_of, GivesSize, GivesNoSize, asks_to_close, has_close};
 
 use httparse::spans::HeaderSpan;
 use pg_text::whole_number;
@@ -28,7 +28,7 @@ pub fn count_of(head: &[u8], fields: &[HeaderSpan], name: &[u8]) -> usize
 pub fn body_size(head: &[u8], fields: &[HeaderSpan]) -> Option<u64>
     requires { All (IsHeaderWithin (length head.now)) fields.now }
     ensures some { IfSome result (GivesSize (values_of (codes "content-length") (map (header_bytes head.now) fields.now))) }
-    ensures none { IfNone result ((size : ℕ) → GivesSize (values_of (codes "content-length") (map (header_bytes head.now) fields.now)) size → ⊥) }
+    ensures none { IfNone result (GivesNoSize (values_of (codes "content-length") (map (header_bytes head.now) fields.now))) }
 {
     let mut found: Option<u64> = None;
     for field in fields {

@@ -1,8 +1,7 @@
-ghost use Rattle.std.specs.Prelude.{◌≡◌, ◌≤◌, ℕ, [], IfOk, IfSome, IfNone, IsErrOf, IsUtf8, length};
+ghost use Rattle.std.specs.Prelude.{◌≡◌, ◌≤◌, [], IfOk, IfSome, IfNone, IsErrOf, IsUtf8, length};
 ghost use Rattle.httparse.specs.Grammar.{RequestHead, ReadsRequest};
 ghost use Rattle.httparse.specs.Spans.{IsRequestAt, IsRequestWithin};
-ghost use Rattle.http_in.specs.Fields.{asks_to_close};
-ghost use Rattle.http_in.specs.Head.{IsGoodHead, fields_of};
+ghost use Rattle.http_in.specs.Head.{IsNoGoodHead, HasParts};
 
 use crate::HttpFault;
 use crate::fields::{asks_to_close, body_size, count_of};
@@ -16,11 +15,14 @@ pub const BODY_LIMIT: u64 = 2_097_152;
 
 const FIELD_LIMIT: usize = 64;
 
+// Of HTTP/1.1.
+const MINOR_VERSION: u8 = 1;
+
 const HOST: &[u8] = b"host";
 
 const TRANSFER_ENCODING: &[u8] = b"transfer-encoding";
 
-// What a head says, and the size of the body after it.
+// The parts of a head that is read, and the size of the body after it.
 #[derive(Drop)]
 pub struct Head {
     pub method: Text,
@@ -31,8 +33,8 @@ pub struct Head {
 
 // Reads a head that stands there whole.
 pub fn parse_head(alloc: Global, bytes: &[u8]) -> Result<Head, HttpFault>
-    ensures good { IfOk result (λ head. (h : RequestHead) × IsGoodHead bytes.now h head.size × (head.method ≡ h.method) × (head.target ≡ h.target) × (head.close ≡ asks_to_close (fields_of h))) }
-    ensures bad { IsErrOf result HttpFault.BadHead → (h : RequestHead) (size : ℕ) → IsGoodHead bytes.now h size → ⊥ }
+    ensures good { IfOk result (HasParts bytes.now) }
+    ensures bad { IsErrOf result HttpFault.BadHead → IsNoGoodHead bytes.now }
     ensures only_bad { IsErrOf result HttpFault.HeadTooLarge → ⊥ }
     ensures not_cut_off { IsErrOf result HttpFault.CutOff → ⊥ }
     ensures not_read { IsErrOf result HttpFault.ReadFault → ⊥ }
@@ -43,7 +45,7 @@ pub fn parse_head(alloc: Global, bytes: &[u8]) -> Result<Head, HttpFault>
     };
     let fields = &spans[..request.headers];
     let target = request.path.of(bytes);
-    if request.version != 1 || !target.starts_with(b"/") {
+    if request.version != MINOR_VERSION || !target.starts_with(b"/") {
         return Err(HttpFault::BadHead);
     }
     if count_of(bytes, fields, HOST) != 1 || count_of(bytes, fields, TRANSFER_ENCODING) != 0 {

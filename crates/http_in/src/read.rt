@@ -1,9 +1,9 @@
-ghost use Rattle.std.specs.Prelude.{◌≡◌, ◌≢◌, ◌^◌, ◌+◌, ◌<◌, ◌≤◌, ℕ, [], None, Some, length, take, drop, IfOk, IfSome, IfNone, OnOk, IsErrOf};
+ghost use Rattle.std.specs.Prelude.{◌≡◌, ◌^◌, ◌+◌, ◌<◌, ◌≤◌, None, Some, length, take, drop, IfOk, IfSome, IfNone, OnOk, IsErrOf};
 ghost use Rattle.std.specs.Io.KnownBytes.{IsAtEnd};
 ghost use Rattle.edges.specs.Faults.{Rose};
-ghost use Rattle.http_in.specs.HeadEnd.{head_len, skip_pairs, front_of};
+ghost use Rattle.http_in.specs.HeadEnd.{head_len, front_of};
 ghost use Rattle.http_in.specs.Reading.{Moves, Reads};
-ghost use Rattle.http_in.specs.Requests.{IsEnd};
+ghost use Rattle.http_in.specs.Requests.{IsEnd, EndsInHead, HasNoHead};
 
 use crate::head::{Head, parse_head};
 use crate::head_end::{HEAD_LIMIT, front_of, head_len, skip_pairs};
@@ -13,6 +13,7 @@ use pg_text::Bytes;
 use std::alloc::{AllocError, Global};
 
 /// Reads the next request, in whatever pieces the source gives its bytes. None means that the input ended between requests.
+/// After that, and after a fault but want of memory, `rest` holds all that was read and is no request.
 pub fn read_request<S: Source>(
     alloc: Global,
     source: &mut S,
@@ -36,9 +37,8 @@ fn read_head<S: Source>(source: &mut S, rest: &mut Rest) -> Result<Option<usize>
     ensures within { IfOk result (λ found. IfSome found (λ len. (len ≤ 16384) × (len ≤ length rest.new))) }
     ensures ended { IfOk result (λ found. IfNone found (IsEnd rest.new × IsAtEnd (S.left source.new))) }
 
-    ensures too_large { IsErrOf result HttpFault.HeadTooLarge → (head_len (front_of rest.new) ≡ None) × (16384 ≤ length rest.new) }
-    ensures cut_off { IsErrOf result HttpFault.CutOff
-        → (head_len (front_of rest.new) ≡ None) × (length rest.new < 16384) × (skip_pairs rest.new ≢ []) × IsAtEnd (S.left source.new) }
+    ensures too_large { IsErrOf result HttpFault.HeadTooLarge → HasNoHead rest.new }
+    ensures cut_off { IsErrOf result HttpFault.CutOff → EndsInHead rest.new × IsAtEnd (S.left source.new) }
     ensures not_bad { IsErrOf result HttpFault.BadHead → ⊥ }
 
     ensures bytes { (IsErrOf result HttpFault.NoMemory → ⊥) → Moves (S.left source.old) (S.left source.new) rest.old rest.new }

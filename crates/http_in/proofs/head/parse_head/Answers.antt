@@ -23,15 +23,15 @@ text_of-requires c =
 
 pub returns-clause-good : goal.returns-clause-good
 returns-clause-good c =
-    let found = c.in-Some.ensures.found in (
-      found.0,
-      good_head _ _ _ found.0 _ found.2 found.1 (omega arith) (omega arith)
+    let found = c.in-Some.ensures.found in record {
+      head = found.0;
+      is_good = good_head _ _ _ found.0 _ found.2 found.1 (omega arith) (omega arith)
           (ap (λ t. starts_with nat_eq t (codes "/")) (sym found.2.path ∙ sym c.of-target.ensures) ∙ sym c.starts_with.ensures.value ∙ c.if-not-starts_with.false)
           (omega arith)
           (omega arith)
           c.in-Some-body_size.ensures.some
-          (omega arith),
-      c.in_ok-text_of.ensures ∙ c.of.ensures ∙ found.2.method,
-      c.in_ok-text_of-2.ensures ∙ c.of-target.ensures ∙ found.2.path,
-      c.asks_to_close.ensures ∙ ap asks_to_close found.2.fields,
-    )
+          (omega arith);
+      method = c.in_ok-text_of.ensures ∙ c.of.ensures ∙ found.2.method;
+      target = c.in_ok-text_of-2.ensures ∙ c.of-target.ensures ∙ found.2.path;
+      close = c.asks_to_close.ensures ∙ ap asks_to_close found.2.fields;
+    }

@@ -23,9 +23,9 @@ returns-in_err-read_body-clause-answer g c =
     let found = rw c.in-Some.is at c.in_ok-len.ensures.found in
     let within = rw c.in-Some.is at c.in_ok-len.ensures.within in
     let good = c.in_ok-head.ensures.good in
-    let is_good = rw c.as_slice.ensures at good.1 in
+    let is_good = rw c.as_slice.ensures at good.is_good in
     let e = c.in_err-read_body.ensures in
-    rw (p.1, p.2) (body_fault c.in_err-read_body.field-0.0 _ _ _ _ c.read_head.new.rest c.read_body.new.rest c.in-Some.len good.0 c.in_ok-head.head.size found within.1 is_good
+    rw (p.1, p.2) (body_fault c.in_err-read_body.field-0.0 _ _ _ _ c.read_head.new.rest c.read_body.new.rest c.in-Some.len good.head c.in_ok-head.head.size found within.1 is_good
     (c.in_ok-len.ensures.bytes (λ e. (cc))) e.cut_off e.only_cut_off e.not_bad e.bytes e.unfinished)
 
 pub returns-clause-answer : goal.returns-clause-answer
@@ -33,7 +33,7 @@ returns-clause-answer g c =
     let found = rw c.in-Some.is at c.in_ok-len.ensures.found in
     let within = rw c.in-Some.is at c.in_ok-len.ensures.within in
     let good = c.in_ok-head.ensures.good in
-    let is_good = rw c.as_slice.ensures at good.1 in
-    let request = same_request c.in_ok-take_request.field-0 c.in_ok-head.head.method c.in_ok-head.head.target _ c.in_ok-head.head.close good.0 c.in_ok-take_request.ensures.request good.2 good.3 good.4 in
-    whole_request _ _ _ _ c.read_head.new.rest c.read_body.new.rest c.in-Some.len good.0 c.in_ok-head.head.size c.in_ok-take_request.field-0 c.take_request.new.rest found within.1 is_good
+    let is_good = rw c.as_slice.ensures at good.is_good in
+    let request = same_request c.in_ok-take_request.field-0 c.in_ok-head.head.method c.in_ok-head.head.target _ c.in_ok-head.head.close good.head c.in_ok-take_request.ensures.request good.method good.target good.close in
+    whole_request _ _ _ _ c.read_head.new.rest c.read_body.new.rest c.in-Some.len good.head c.in_ok-head.head.size c.in_ok-take_request.field-0 c.take_request.new.rest found within.1 is_good
     (c.in_ok-len.ensures.bytes (λ e. (cc))) (c.in_ok-read_body.ensures.bytes (λ e. (cc))) c.in_ok-read_body.ensures.whole request c.in_ok-take_request.ensures.after
