@@ -10,7 +10,7 @@ use Rattle.http_in.specs.Fields.{asks_to_close}
 use Rattle.http_in.specs.Head.{IsGoodHead, fields_of, request_of}
 use Rattle.http_in.specs.HeadEnd.{head_len, skip_pairs, front_of}
 use Rattle.http_in.specs.Reading.{Moves, Saw, Reads}
-use Rattle.http_in.specs.Requests.{StandsFirst, EndsInHead, HasNoHead, HasBadHead, IsUnfinished, IsCutOff}
+use Rattle.http_in.specs.Requests.{StandsFirst, EndsInHead, HasNoHead, IsUnfinished, IsCutOff}
 use Rattle.http_in.proofs.HeadEnds.{front_grows}
 use Rattle.http_in.proofs.Moving.{saw, moves_both}
 
