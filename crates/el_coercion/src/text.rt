@@ -1,0 +1,110 @@
+ghost use Rattle.std.specs.Prelude.{◌≡◌, ◌++◌, ℤ, FitsSigned, map, string_bytes, IfOk, OnOk};
+ghost use Rattle.std.specs.Int.{w64};
+ghost use Rattle.el_coercion.specs.Number.{number_of_text};
+ghost use Rattle.el_coercion.specs.Text as spec;
+ghost use Rattle.el_coercion.specs.Text.{inner_text, items_text, entries_text, separator_before, text_of};
+ghost use Rattle.pg_value.specs.Datum.{items_of, entries_of};
+ghost use Rattle.pg_value.specs.RunFault.{Answers};
+ghost use Rattle.pg_value.specs.Value.{datum_of, entry_of};
+
+use pg_text::decimal;
+use pg_value::{MAX_WEIGHT, RunFault, Text, Value};
+use std::alloc::{AllocError, Global};
+
+/// The text of a value. Fault 20 is a list or record whose text weighs more than 1,048,576.
+#[tactic(auto, using(crate::proofs::Printed::reads_back))]
+pub fn to_text(alloc: Global, value: &Value) -> Result<Text, RunFault>
+    ensures text { Answers (text_of (datum_of value.now)) result }
+    ensures reads_back { (n : ℤ) → FitsSigned w64 n → value.now ≡ Value.Int n → IfOk result (λ text. number_of_text text ≡ Ok n) }
+{
+    match value {
+        Value::Null => Ok(Text::new(String::new(alloc))),
+        Value::Text(text) => Ok(text.copy()?),
+        Value::Bool(_) | Value::Int(_) => Ok(Text::new(inner_text(alloc, value)?)),
+        Value::List(_) | Value::Rec(_) => made(inner_text(alloc, value)?),
+    }
+}
+
+// The text, where it isn't too large to be a value.
+fn made(text: String) -> Result<Text, RunFault>
+    ensures { result ≡ spec.made (string_bytes text) }
+{
+    if text.len() as u64 > MAX_WEIGHT - 16 {
+        return Err(RunFault::X(20));
+    }
+    Ok(Text::new(text))
+}
+
+fn inner_text(alloc: Global, value: &Value) -> Result<String, AllocError>
+    ensures { IfOk result (λ text. string_bytes text ≡ inner_text (datum_of value.now)) }
+{
+    let mut text = String::new(alloc);
+    write_value(alloc, value, &mut text)?;
+    Ok(text)
+}
+
+// Writes a value as it stands in a list or a record.
+#[cycle(write)]
+#[tactic(auto, using(pg_value::proofs::Sizes::sizes, crate::proofs::Joined::joined), unfolding(crate::specs::Text::null_text, crate::specs::Text::true_text, crate::specs::Text::false_text))]
+fn write_value(alloc: Global, value: &Value, text: &mut String) -> Result<(), AllocError>
+    ensures { OnOk result (string_bytes text.new ≡ string_bytes text.old ++ inner_text (datum_of value.now)) }
+{
+    match value {
+        Value::Null => text.push_str("null"),
+        Value::Bool(true) => text.push_str("true"),
+        Value::Bool(false) => text.push_str("false"),
+        Value::Int(number) => text.push_str(&decimal(alloc, *number)?),
+        Value::Text(inner) => text.push_str(inner.as_str()),
+        Value::List(items) => {
+            text.push('[')?;
+            write_items(alloc, items.as_slice(), text)?;
+            text.push(']')
+        }
+        Value::Rec(entries) => {
+            text.push('{')?;
+            write_entries(alloc, entries.as_slice(), text)?;
+            text.push('}')
+        }
+    }
+}
+
+#[cycle(write)]
+#[tactic(auto, using(pg_value::proofs::Sizes::sizes, crate::proofs::Joined::joined), unfolding(crate::specs::Text::null_text, crate::specs::Text::true_text, crate::specs::Text::false_text))]
+fn write_items(alloc: Global, items: &[Value], text: &mut String) -> Result<(), AllocError>
+    ensures { OnOk result (string_bytes text.new ≡ string_bytes text.old ++ items_text (items_of (map datum_of items.now))) }
+{
+    for (i, item) in items.iter().enumerate() {
+        separate(i, text)?;
+        write_value(alloc, item, text)?;
+    }
+    Ok(())
+}
+
+#[cycle(write)]
+#[tactic(auto, using(pg_value::proofs::Sizes::sizes, crate::proofs::Joined::joined), unfolding(crate::specs::Text::null_text, crate::specs::Text::true_text, crate::specs::Text::false_text))]
+fn write_entries(
+    alloc: Global,
+    entries: &[(Text, Value)],
+    text: &mut String,
+) -> Result<(), AllocError>
+    ensures { OnOk result (string_bytes text.new ≡ string_bytes text.old ++ entries_text (entries_of (map entry_of entries.now))) }
+{
+    for (i, (key, value)) in entries.iter().enumerate() {
+        separate(i, text)?;
+        text.push_str(key.as_str())?;
+        text.push('=')?;
+        write_value(alloc, value, text)?;
+    }
+    Ok(())
+}
+
+// Writes what stands before the item or entry of this index.
+#[tactic(auto, unfolding(crate::specs::Text::separator))]
+fn separate(index: usize, text: &mut String) -> Result<(), AllocError>
+    ensures { OnOk result (string_bytes text.new ≡ string_bytes text.old ++ separator_before index) }
+{
+    if index == 0 {
+        return Ok(());
+    }
+    text.push_str(", ")
+}

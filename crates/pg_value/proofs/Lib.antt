@@ -1,0 +1,7 @@
+pub mod Inverses
+pub mod JsonLemmas
+pub mod Lengths
+pub mod Sizes
+pub mod Order
+mod Worked
+pub mod Places

@@ -1,0 +1,13 @@
+pub mod Attrs
+pub mod Datum
+pub mod DatumCode
+pub mod Depth
+pub mod Equality
+pub mod EqualityLaws
+pub mod Json
+pub mod Limits
+pub mod RunFault
+pub mod Size
+pub mod SizeFalls
+pub mod Value
+pub mod Weight

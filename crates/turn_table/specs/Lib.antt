@@ -1,0 +1,7 @@
+pub mod Acted
+pub mod Calls
+pub mod History
+pub mod Passes
+pub mod Rule
+pub mod Steps
+pub mod View
