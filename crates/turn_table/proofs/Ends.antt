@@ -9,11 +9,12 @@ use Rattle.atomic_table.specs.Table.{State, Seen, Final}
 use Rattle.turn_table.specs.declared.view.View.{View}
 use Rattle.turn_table.specs.Rule.{Lock, Knows, Queues, Kept}
 use Rattle.turn_table.specs.Steps.{Sees}
-use Rattle.turn_table.specs.View.{IsIdle, first_view}
-use Rattle.turn_table.proofs.Facts.{true_false, no_member, has_only}
-use Rattle.turn_table.proofs.Looking.{sees_whole}
+use Rattle.turn_table.specs.View.{IsIdle, IsLegal, first_view}
+use Rattle.turn_table.proofs.Facts.{true_false, has_only}
+use Rattle.turn_table.proofs.Looking.{whole_legal}
 use Rattle.turn_table.proofs.Numbers.{in_range}
-use Rattle.turn_table.proofs.Own.{front_same, front_none}
+use Rattle.turn_table.proofs.Own.{front_same}
+use Rattle.turn_table.proofs.Shares.{shares_none, sees_whole}
 
 -- the lock at the start
 abbrev pub first_lock : {E : Type 0} → List E → Lock E
@@ -48,10 +49,8 @@ module _ {O X E : Type 0} (opening : O → X) (history : O → List E) (pass_of 
       knows : (seat : ℕ) (v : V) → get_elem? (view ∷ []) seat ≡ some v → Knows pass_of (opening x) passes (λ _. 0) (history x) seat v
       knows zero v at = subst (Knows pass_of (opening x) passes (λ _. 0) (history x) 0) (some-injective view v at) record {
         opening_is = λ y is. sym (same_Some (opening x) y is);
-        front = front_same (history x);
-        owned = λ k c. record { is_mine = refl; low = in_range passes k c; all_seen = refl };
-        met_front = front_none (history x);
-        met_owned = λ k c. absurd (no_member k c);
+        of_seen = record { front = front_same (history x); owned = λ k c. record { is_mine = refl; low = in_range passes k c; all_seen = refl } };
+        of_met = shares_none pass_of passes (λ _. 0) (history x) 0;
       }
       knows (suc seat) v at = absurd (some-ne-none v (sym at))
 
@@ -65,7 +64,7 @@ module _ {O X E : Type 0} (opening : O → X) (history : O → List E) (pass_of 
 
   -- where a seat has every number and no ticket, the value is at home
   closes : (start : X) (passes id : ℕ) (v : V) (s : State (Option O) V) → Seen (Rule start passes) id v s → IsIdle v → ((k : ℕ) → k < passes → Contains v.numbers k)
-      → (x : O) × (s.homes ≡ some (Some x) ∷ []) × (opening x ≡ start) × Sees pass_of legal v (history x)
+      → (x : O) × (s.homes ≡ some (Some x) ∷ []) × (opening x ≡ start) × Sees pass_of v.numbers v.seen (history x) × IsLegal legal v (history x)
   closes start passes id v s seen idle all = home seen.0.lock.out refl
     where
       r : Rule start passes s
@@ -74,21 +73,26 @@ module _ {O X E : Type 0} (opening : O → X) (history : O → List E) (pass_of 
       f : Knows pass_of start passes r.lock.owner r.lock.whole id v
       f = r.knows id v seen.1
 
-      home : (o : Bool) → r.lock.out ≡ o → (x : O) × (s.homes ≡ some (Some x) ∷ []) × (opening x ≡ start) × Sees pass_of legal v (history x)
+      home : (o : Bool) → r.lock.out ≡ o → (x : O) × (s.homes ≡ some (Some x) ∷ []) × (opening x ≡ start) × Sees pass_of v.numbers v.seen (history x) × IsLegal legal v (history x)
       home true is = let u = (r.gone is).1 in
           let q = r.queues r.lock.holder u.0 u.1 in
           let ticket = q.served (q.current u.2).0 in
-          let own = (r.knows r.lock.holder u.0 u.1).owned _ (has_only _ u.0.numbers (q.ticket r.lock.handed ticket).2) in
-          let same : r.lock.holder ≡ id = sym own.is_mine ∙ (f.owned _ (all _ own.low)).is_mine in
+          let own = (r.knows r.lock.holder u.0 u.1).of_seen.owned _ (has_only _ u.0.numbers (q.ticket r.lock.handed ticket).2) in
+          let same : r.lock.holder ≡ id = sym own.is_mine ∙ (f.of_seen.owned _ (all _ own.low)).is_mine in
           absurd (none-some r.lock.handed (sym idle.no_ticket ∙ (ap (λ (x : V). x.ticket) (some-injective v u.0 (sym seen.1 ∙ (ap (get_elem? s.views) (sym same) ∙ u.1))) ∙ ticket)))
-      home false is = let h = r.at_home is in
-          (h.0, h.1, h.3, subst (Sees pass_of legal v) (sym h.2) (sees_whole opening history pass_of legal start passes s r id v seen.1))
+      home false is = let h = r.at_home is in (
+        h.0,
+        h.1,
+        h.3,
+        subst (Sees pass_of v.numbers v.seen) (sym h.2) (sees_whole pass_of passes r.lock.owner r.lock.whole id v.seen v.numbers f.of_seen),
+        subst (IsLegal legal v) (sym h.2) (whole_legal opening history pass_of legal start passes s r id v seen.1),
+      )
 
   -- what the slot has when the table is closed
   pub closed_value : (start : X) (passes id : ℕ) (v : V) (ws : List ℕ) (xs : List (Option O)) (held : Option O) → Final (Seen (Rule start passes) id v) ws xs → IsIdle v
       → ((k : ℕ) → k < passes → Contains v.numbers k) → get_elem? xs 0 ≡ some held
-      → (x : O) × (held ≡ Some x) × (opening x ≡ start) × Sees pass_of legal v (history x)
+      → (x : O) × (held ≡ Some x) × (opening x ≡ start) × Sees pass_of v.numbers v.seen (history x) × IsLegal legal v (history x)
   closed_value start passes id v ws xs held end idle all there =
       let c = closes start passes id v end.0 end.1 idle all in
       let at = end.4 0 (Some c.0) (ap (λ (hs : List (mathlib.Core.Option.Option (Option O))). get_elem? hs 0) c.1) in
-      (c.0, some-injective held (Some c.0) (sym there ∙ at), c.2, c.3)
+      (c.0, some-injective held (Some c.0) (sym there ∙ at), c.2, c.3, c.4)

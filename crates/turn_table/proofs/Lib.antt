@@ -5,6 +5,7 @@ mod Looking
 mod Making
 pub mod Numbers
 pub mod Own
+mod Shares
 mod Splitting
 mod TakingBack
 mod Tickets

@@ -1,32 +1,27 @@
 -- Looks: at the length of the history, and what any look leaves as it is.
-use Rattle.std.proofs.Common.{◌≡◌, ℕ, List, [], ◌∷◌, ◌++◌, get_or, set, sym, refl, ap, ◌∙◌, subst, ⊎_elim}
+use Rattle.std.proofs.Common.{◌≡◌, ℕ, List, [], ◌∷◌, ◌++◌, get_or, set, sym, refl, ap, ◌∙◌, subst}
 use mathlib.Core.Option.{some, none}
 use lib.ListN.{get_elem?}
 use lib.Seq.{set-get_or}
-use Rattle.std.specs.Prelude.{Option, Some, None, true, Contains}
-use Rattle.std.proofs.lemmas.List.Elements.{Contains-append_cases}
+use Rattle.std.specs.Prelude.{Option, Some, None, true}
 use Rattle.std.proofs.lemmas.Option.{none-some}
 use Rattle.atomic_table.specs.Table.{State, Me, step, keeps, Allows}
 use Rattle.turn_table.specs.declared.view.View.{View}
 use Rattle.turn_table.specs.Calls.{Stays}
-use Rattle.turn_table.specs.Rule.{Owns, Knows, Queues, Kept}
+use Rattle.turn_table.specs.Rule.{Knows, Queues, Kept}
 use Rattle.turn_table.specs.Steps.{Sees, Looks}
-use Rattle.turn_table.proofs.Facts.{no_member, has_only}
-use Rattle.turn_table.proofs.Own.{front_same, front_none}
+use Rattle.turn_table.specs.View.{IsLegal}
+use Rattle.turn_table.proofs.Facts.{has_only}
+use Rattle.turn_table.proofs.Shares.{shares_none, shares_whole, shares_both, sees_whole}
 use Rattle.turn_table.proofs.Views.{each_set, callers_kept, current_kept}
 
--- who has seen the whole history has seen all entries of its numbers
-pub owns_whole : {E : Type 0} (pass_of : E → ℕ) (passes : ℕ) (owner : ℕ → ℕ) (whole : List E) (seat : ℕ) (front : List E) (number : ℕ)
-    → Owns pass_of passes owner whole seat front number → Owns pass_of passes owner whole seat whole number
-owns_whole pass_of passes owner whole seat front number o = record { is_mine = o.is_mine; low = o.low; all_seen = refl }
-
 -- what a view of one number sees tells of a call that adds no entry of the number
-pub stays : {X E : Type 0} (pass_of : E → ℕ) (legal : X → List E → Type 0) (v : View X E) (seen : List E) (number : ℕ) (x : X) → Sees pass_of legal v seen → v.numbers ≡ number ∷ [] → v.opening ≡ Some x
+pub stays : {X E : Type 0} (pass_of : E → ℕ) (legal : X → List E → Type 0) (v : View X E) (seen : List E) (number : ℕ) (x : X) → Sees pass_of v.numbers v.seen seen → IsLegal legal v seen → v.numbers ≡ number ∷ [] → v.opening ≡ Some x
     → Stays pass_of (legal x) number v.seen seen
-stays pass_of legal v seen number x sees numbers opening = record {
+stays pass_of legal v seen number x sees is_legal numbers opening = record {
   longer = sees.longer;
   same = sees.same number (has_only number v.numbers numbers);
-  is_legal = sees.is_legal x opening;
+  is_legal = is_legal x opening;
 }
 
 module _ {O X E : Type 0} (opening : O → X) (history : O → List E) (pass_of : E → ℕ) (legal : X → List E → Type 0) where
@@ -54,19 +49,16 @@ module _ {O X E : Type 0} (opening : O → X) (history : O → List E) (pass_of 
     queues = each_set (λ seat u. Queues r.lock u) s.views id w queues (λ seat u other there. r.queues seat u there);
   }
 
-  -- a view may see the whole history
-  pub sees_whole : (start : X) (passes : ℕ) (s : State (Option O) V) (r : Rule start passes s) (id : ℕ) (v : V) → get_elem? s.views id ≡ some v → Sees pass_of legal v r.lock.whole
-  sees_whole start passes s r id v at = let k = r.knows id v at in record {
-    longer = k.front;
-    same = λ number c. (k.owned number c).all_seen;
-    is_legal = λ x is. subst (λ (z : X). legal z r.lock.whole) (sym (k.opening_is x is)) r.is_legal;
-  }
+  -- the history is legal for each opening that a view knows
+  pub whole_legal : (start : X) (passes : ℕ) (s : State (Option O) V) (r : Rule start passes s) (id : ℕ) (v : V) → get_elem? s.views id ≡ some v → IsLegal legal v r.lock.whole
+  whole_legal start passes s r id v at x is = subst (λ (z : X). legal z r.lock.whole) (sym ((r.knows id v at).opening_is x is)) r.is_legal
 
   pub looks : (slots : ℕ) (start : X) (passes id : ℕ) (me : Me (Option O) V) → me.0.ticket ≡ None
       → Allows (Rule start passes) slots id me 0 (λ n. n) (Looks opening history pass_of legal (step slots 0 0 0 none) me)
   looks slots start passes id me no_ticket s r one at fits =
       let k = r.knows id me.0 at in
       let q = r.queues id me.0 at in
+      let owner : ℕ → ℕ = r.lock.owner in
       let whole : List E = r.lock.whole in
       let w : V = record me.0 { seen = whole; numbers = me.0.numbers ++ me.0.met_numbers; met = []; met_numbers = [] } in (
         w,
@@ -75,18 +67,22 @@ module _ {O X E : Type 0} (opening : O → X) (history : O → List E) (pass_of 
         unmoved start passes s r 0 id me.0 w at (λ c. c) refl
             record {
               opening_is = k.opening_is;
-              front = front_same whole;
-              owned = λ number c. ⊎_elim
-                  (λ (a : Contains me.0.numbers number). owns_whole pass_of passes r.lock.owner whole id me.0.seen number (k.owned number a))
-                  (λ (a : Contains me.0.met_numbers number). owns_whole pass_of passes r.lock.owner whole id me.0.met number (k.met_owned number a))
-                  (Contains-append_cases me.0.numbers me.0.met_numbers number c);
-              met_front = front_none whole;
-              met_owned = λ number c. absurd (no_member number c);
+              of_seen = shares_both pass_of passes owner whole id whole me.0.numbers me.0.met_numbers
+                  (shares_whole pass_of passes owner whole id me.0.seen me.0.numbers k.of_seen)
+                  (shares_whole pass_of passes owner whole id me.0.met me.0.met_numbers k.of_met);
+              of_met = shares_none pass_of passes owner whole id;
             }
             record {
               ticket = λ t is. absurd (none-some t (sym no_ticket ∙ is));
               served = q.served;
               current = λ c. let o = q.current c in (o.0, refl, o.2);
             },
-        (ap (λ (ws : List ℕ). get_or ws 0 0) r.words, refl, refl, sees_whole start passes s r id me.0 at, k.met_front, λ number c. (k.met_owned number c).all_seen),
+        (
+          ap (λ (ws : List ℕ). get_or ws 0 0) r.words,
+          refl,
+          refl,
+          sees_whole pass_of passes owner whole id me.0.seen me.0.numbers k.of_seen,
+          sees_whole pass_of passes owner whole id me.0.met me.0.met_numbers k.of_met,
+          whole_legal start passes s r id me.0 at,
+        ),
       )

@@ -5,34 +5,34 @@ use Rattle.std.proofs.lemmas.List.Elements.{All-map, All-weaker, All-contains, A
 use Rattle.atomic_table.specs.Seated.{TableId}
 use Rattle.turn_table.specs.declared.view.View.{View}
 use Rattle.turn_table.specs.Calls.{Stays}
-use Rattle.turn_table.specs.History.{IsFront, own}
 use Rattle.turn_table.specs.Passes.{Known, HasTaken}
 use Rattle.turn_table.specs.Steps.{Sees}
+use Rattle.turn_table.specs.View.{IsLegal}
 use Rattle.turn_table.proofs.Facts.{has_only, no_member}
 use Rattle.turn_table.proofs.Own.{front_same, front_both}
 
 module _ {X E : Type 0} (pass_of : E → ℕ) (legal : X → List E → Type 0) where
   -- what was seen stays seen when more is
-  pub stays_on : (v : View X E) (seen : List E) (x : X) (number : ℕ) (old : List E) → Contains v.numbers number → Stays pass_of (legal x) number old v.seen → Sees pass_of legal v seen → v.opening ≡ Some x
+  pub stays_on : (v : View X E) (seen : List E) (x : X) (number : ℕ) (old : List E) → Contains v.numbers number → Stays pass_of (legal x) number old v.seen → Sees pass_of v.numbers v.seen seen → IsLegal legal v seen → v.opening ≡ Some x
       → Stays pass_of (legal x) number old seen
-  stays_on v seen x number old has stays sees opening = record {
+  stays_on v seen x number old has stays sees is_legal opening = record {
     longer = front_both old v.seen seen stays.longer sees.longer;
     same = sees.same number has ∙ stays.same;
-    is_legal = sees.is_legal x opening;
+    is_legal = is_legal x opening;
   }
 
-  pub taken_on : (v w : View X E) (more : List ℕ) (x : X) (pass : Known X E) → HasTaken pass_of (legal x) v pass → Sees pass_of legal v w.seen → v.opening ≡ Some x → w.numbers ≡ v.numbers ++ more
+  pub taken_on : (v w : View X E) (more : List ℕ) (x : X) (pass : Known X E) → HasTaken pass_of (legal x) v pass → Sees pass_of v.numbers v.seen w.seen → IsLegal legal v w.seen → v.opening ≡ Some x → w.numbers ≡ v.numbers ++ more
       → HasTaken pass_of (legal x) w pass
-  taken_on v w more x pass taken sees opening numbers = record {
+  taken_on v w more x pass taken sees is_legal opening numbers = record {
     has = subst (λ (l : List ℕ). Contains l pass.number) (sym numbers) (Contains-append_left v.numbers more pass.number taken.has);
-    stays = stays_on v w.seen x pass.number pass.seen taken.has taken.stays sees opening;
+    stays = stays_on v w.seen x pass.number pass.seen taken.has taken.stays sees is_legal opening;
   }
 
-  pub taken_new : (v w u : View X E) (x : X) (table : TableId) (number : ℕ) → Sees pass_of legal v w.seen → v.opening ≡ Some x → w.numbers ≡ v.numbers ++ u.numbers → u.numbers ≡ number ∷ []
-      → IsFront u.seen w.seen → ((k : ℕ) → Contains u.numbers k → own pass_of k w.seen ≡ own pass_of k u.seen) → HasTaken pass_of (legal x) w record { table = table; opening = u.opening; number = number; seen = u.seen }
-  taken_new v w u x table number sees opening numbers only front same = let has = has_only number u.numbers only in record {
+  pub taken_new : (v w u : View X E) (x : X) (table : TableId) (number : ℕ) → Sees pass_of v.numbers v.seen w.seen → IsLegal legal v w.seen → v.opening ≡ Some x → w.numbers ≡ v.numbers ++ u.numbers → u.numbers ≡ number ∷ []
+      → Sees pass_of u.numbers u.seen w.seen → HasTaken pass_of (legal x) w record { table = table; opening = u.opening; number = number; seen = u.seen }
+  taken_new v w u x table number sees is_legal opening numbers only met = let has = has_only number u.numbers only in record {
     has = subst (λ (l : List ℕ). Contains l number) (sym numbers) (Contains-append_right v.numbers u.numbers number has);
-    stays = record { longer = front; same = same number has; is_legal = sees.is_legal x opening };
+    stays = record { longer = met.longer; same = met.same number has; is_legal = is_legal x opening };
   }
 
   pub taken_first : (v : View X E) (x : X) (table : TableId) (number : ℕ) → v.numbers ≡ number ∷ [] → legal x v.seen → HasTaken pass_of (legal x) v record { table = table; opening = v.opening; number = number; seen = v.seen }
@@ -42,12 +42,12 @@ module _ {X E : Type 0} (pass_of : E → ℕ) (legal : X → List E → Type 0) 
   }
 
   -- what the passes that were taken had seen stays seen
-  pub all_stay : (v : View X E) (seen : List E) (x y : X) (passes : List (Known X E)) → All (HasTaken pass_of (legal x) v) passes → Sees pass_of legal v seen → v.opening ≡ Some x → x ≡ y
+  pub all_stay : (v : View X E) (seen : List E) (x y : X) (passes : List (Known X E)) → All (HasTaken pass_of (legal x) v) passes → Sees pass_of v.numbers v.seen seen → IsLegal legal v seen → v.opening ≡ Some x → x ≡ y
       → All (λ (pass : Known X E). Stays pass_of (legal y) pass.number pass.seen seen) passes
-  all_stay v seen x y passes taken sees opening same k d h =
+  all_stay v seen x y passes taken sees is_legal opening same k d h =
       let t = taken k d h in
       let pass : Known X E = get_or passes k d in
-      subst (λ (z : X). Stays pass_of (legal z) pass.number pass.seen seen) same (stays_on v seen x pass.number pass.seen t.has t.stays sees opening)
+      subst (λ (z : X). Stays pass_of (legal z) pass.number pass.seen seen) same (stays_on v seen x pass.number pass.seen t.has t.stays sees is_legal opening)
 
   -- the numbers of passes that were taken are the view's
   pub has_all : (v : View X E) (x : X) (passes : List (Known X E)) (k : ℕ) → All (HasTaken pass_of (legal x) v) passes → Contains (map (λ (pass : Known X E). pass.number) passes) k → Contains v.numbers k

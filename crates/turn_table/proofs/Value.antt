@@ -3,23 +3,18 @@ use Rattle.std.proofs.Common.{◌≡◌, ◌≢◌, ℕ, ◌+◌, ◌%◌, ◌^�
 use mathlib.Core.Option.{some, none, some-injective}
 use lib.ListN.{get_elem?}
 use lib.Seq.{set-get_or}
-use Rattle.std.specs.Prelude.{Option, Some, Bool, true, false, Contains}
+use Rattle.std.specs.Prelude.{Option, Some, Bool, true, false}
 use Rattle.atomic_table.specs.Table.{State, Me, Act, step, keeps, takes, stepped, carried_after, Valid, Allows}
 use Rattle.atomic_table.proofs.Lists.{set_here}
 use Rattle.turn_table.specs.declared.view.View.{View}
-use Rattle.turn_table.specs.History.{IsFront, own}
-use Rattle.turn_table.specs.Rule.{Lock, Owns, Knows, Queues, Kept}
+use Rattle.turn_table.specs.History.{IsFront}
+use Rattle.turn_table.specs.Rule.{Lock, Shares, Knows, Queues, Kept}
 use Rattle.turn_table.specs.Steps.{Takes, Enters, MayTake, MayEnter}
-use Rattle.turn_table.proofs.Facts.{true_false, no_member, has_only, same_value, at_below}
-use Rattle.turn_table.proofs.Looking.{owns_whole, sees_whole}
-use Rattle.turn_table.proofs.Own.{front_same, front_push, own-push_other}
+use Rattle.turn_table.proofs.Facts.{true_false, has_only, same_value, at_below}
+use Rattle.turn_table.proofs.Looking.{whole_legal}
+use Rattle.turn_table.proofs.Own.{front_same, front_push}
+use Rattle.turn_table.proofs.Shares.{shares_front, shares_whole, shares_push, sees_whole}
 use Rattle.turn_table.proofs.Views.{each_set, callers_kept, not_resting}
-
--- an entry of another pass changes nothing for the owner of a number
-owns_push : {E : Type 0} (pass_of : E → ℕ) (passes : ℕ) (owner : ℕ → ℕ) (whole grown : List E) (e : E) (seat : ℕ) (front : List E) (number : ℕ) → grown ≡ whole ++ e ∷ [] → pass_of e ≢ number
-    → Owns pass_of passes owner whole seat front number → Owns pass_of passes owner grown seat front number
-owns_push pass_of passes owner whole grown e seat front number is other o =
-    record { is_mine = o.is_mine; low = o.low; all_seen = ap (own pass_of number) is ∙ (own-push_other pass_of number whole e other ∙ o.all_seen) }
 
 module _ {O X E : Type 0} (opening : O → X) (history : O → List E) (pass_of : E → ℕ) (legal : X → List E → Type 0) where
   abbrev V : Type 0
@@ -35,7 +30,7 @@ module _ {O X E : Type 0} (opening : O → X) (history : O → List E) (pass_of 
       let g = r.queues j w at' in
       let nv = (f.ticket r.lock.handed (f.served sv)).2 in
       let nw = (g.ticket r.lock.handed (g.served sw)).2 in
-      sym ((r.knows i v at).owned _ (has_only _ v.numbers nv)).is_mine ∙ ((r.knows j w at').owned _ (has_only _ w.numbers nw)).is_mine
+      sym ((r.knows i v at).of_seen.owned _ (has_only _ v.numbers nv)).is_mine ∙ ((r.knows j w at').of_seen.owned _ (has_only _ w.numbers nw)).is_mine
 
   pub takes_value : (slots : ℕ) (start : X) (passes id : ℕ) (me : Me (Option O) V) → MayTake me
       → Allows (Rule start passes) slots id me 0 (λ n. n) (Takes opening history pass_of legal (step slots 0 0 0 none) me)
@@ -74,17 +69,23 @@ module _ {O X E : Type 0} (opening : O → X) (history : O → List E) (pass_of 
               knows = each_set (Knows pass_of start passes r.lock.owner whole) s.views id w
                   record {
                     opening_is = k.opening_is;
-                    front = front_same whole;
-                    owned = λ number c. owns_whole pass_of passes r.lock.owner whole id me.0.seen number (k.owned number c);
-                    met_front = k.met_front;
-                    met_owned = k.met_owned;
+                    of_seen = shares_whole pass_of passes r.lock.owner whole id me.0.seen me.0.numbers k.of_seen;
+                    of_met = k.of_met;
                   }
                   (λ seat u other there. r.knows seat u there);
               queues = each_set (λ seat u. Queues out_lock u) s.views id w
                   record { ticket = q.ticket; served = q.served; current = λ c. (may.served, refl, refl) }
                   (λ seat u other there. let g = r.queues seat u there in record { ticket = g.ticket; served = g.served; current = λ c. let o = g.current c in (o.0, o.1, refl) });
             },
-            (h.0, ap (λ (cs : List (ℕ × Option O)). (0, Some h.0) ∷ cs) may.holds_none, h.2, (λ x is. h.3 ∙ sym (k.opening_is x is)), refl, sees_whole opening history pass_of legal start passes s r id me.0 at),
+            (
+              h.0,
+              ap (λ (cs : List (ℕ × Option O)). (0, Some h.0) ∷ cs) may.holds_none,
+              h.2,
+              (λ x is. h.3 ∙ sym (k.opening_is x is)),
+              refl,
+              sees_whole pass_of passes r.lock.owner whole id me.0.seen me.0.numbers k.of_seen,
+              whole_legal opening history pass_of legal start passes s r id me.0 at,
+            ),
           )
 
   pub enters : (slots : ℕ) (start : X) (passes id : ℕ) (me : Me (Option O) V) → MayEnter opening history pass_of legal me
@@ -95,8 +96,7 @@ module _ {O X E : Type 0} (opening : O → X) (history : O → List E) (pass_of 
       let c = q.current may.is_current in
       let grown : List E = history may.value in
       let is_grown : grown ≡ r.lock.whole ++ may.entry ∷ [] = may.one_more ∙ ap (λ z. z ++ may.entry ∷ []) c.1 in
-      let longer : (a : List E) → IsFront a r.lock.whole → IsFront a grown = λ a front. subst (IsFront a) (sym is_grown) (front_push a r.lock.whole (may.entry ∷ []) front) in
-      let mine = (k.owned may.number (has_only may.number me.0.numbers may.mine)).is_mine in
+      let mine = (k.of_seen.owned may.number (has_only may.number me.0.numbers may.mine)).is_mine in
       let another : (seat : ℕ) → seat ≢ id → (number : ℕ) → r.lock.owner number ≡ seat → pass_of may.entry ≢ number = λ seat other number owns same. other (sym owns ∙ (ap r.lock.owner (sym same ∙ may.by_me) ∙ mine)) in
       let short = may.short in
       let len : length grown ≡ length r.lock.whole + 1 = ap length is_grown ∙ length-append r.lock.whole (may.entry ∷ []) in
@@ -120,17 +120,14 @@ module _ {O X E : Type 0} (opening : O → X) (history : O → List E) (pass_of 
           knows = each_set (Knows pass_of start passes r.lock.owner grown) s.views id w
               record {
                 opening_is = k.opening_is;
-                front = front_same grown;
-                owned = λ number h. let o = k.owned number h in record { is_mine = o.is_mine; low = o.low; all_seen = refl };
-                met_front = longer me.0.met k.met_front;
-                met_owned = λ number h. absurd (no_member number (subst (λ (l : List ℕ). Contains l number) may.none_met h));
+                of_seen = record { front = front_same grown; owned = λ number h. let o = k.of_seen.owned number h in record { is_mine = o.is_mine; low = o.low; all_seen = refl } };
+                of_met = subst (Shares pass_of passes r.lock.owner grown id me.0.met) (sym may.none_met)
+                    (shares_front pass_of passes r.lock.owner grown id me.0.met (subst (IsFront me.0.met) (sym is_grown) (front_push me.0.met r.lock.whole (may.entry ∷ []) k.of_met.front)));
               }
               (λ seat u other there. let g = r.knows seat u there in record {
                 opening_is = g.opening_is;
-                front = longer u.seen g.front;
-                owned = λ number h. let o = g.owned number h in owns_push pass_of passes r.lock.owner r.lock.whole grown may.entry seat u.seen number is_grown (another seat other number o.is_mine) o;
-                met_front = longer u.met g.met_front;
-                met_owned = λ number h. let o = g.met_owned number h in owns_push pass_of passes r.lock.owner r.lock.whole grown may.entry seat u.met number is_grown (another seat other number o.is_mine) o;
+                of_seen = shares_push pass_of passes r.lock.owner r.lock.whole grown may.entry seat u.seen u.numbers is_grown (another seat other) g.of_seen;
+                of_met = shares_push pass_of passes r.lock.owner r.lock.whole grown may.entry seat u.met u.met_numbers is_grown (another seat other) g.of_met;
               });
           queues = each_set (λ seat u. Queues lock u) s.views id w
               record { ticket = q.ticket; served = q.served; current = λ h. (c.0, refl, c.2) }

@@ -30,13 +30,16 @@ pub record Owns {E : Type 0} (pass_of : E → ℕ) (passes : ℕ) (owner : ℕ �
   pub low : number < passes
   pub all_seen : own pass_of number whole ≡ own pass_of number front
 
--- what a view has seen, and was told, is a front of the history in which its numbers have all their entries
+-- what was seen is a front of the history, and has all entries of these numbers, which are the seat's
+pub record Shares {E : Type 0} (pass_of : E → ℕ) (passes : ℕ) (owner : ℕ → ℕ) (whole : List E) (seat : ℕ) (seen : List E) (numbers : List ℕ) : Type 0 where
+  pub front : IsFront seen whole
+  pub owned : (number : ℕ) → Contains numbers number → Owns pass_of passes owner whole seat seen number
+
+-- a view knows no other opening, and shares in the history by what it has seen and by what it met
 pub record Knows {X E : Type 0} (pass_of : E → ℕ) (start : X) (passes : ℕ) (owner : ℕ → ℕ) (whole : List E) (seat : ℕ) (v : View X E) : Type 0 where
   pub opening_is : (x : X) → v.opening ≡ Some x → x ≡ start
-  pub front : IsFront v.seen whole
-  pub owned : (number : ℕ) → Contains v.numbers number → Owns pass_of passes owner whole seat v.seen number
-  pub met_front : IsFront v.met whole
-  pub met_owned : (number : ℕ) → Contains v.met_numbers number → Owns pass_of passes owner whole seat v.met number
+  pub of_seen : Shares pass_of passes owner whole seat v.seen v.numbers
+  pub of_met : Shares pass_of passes owner whole seat v.met v.met_numbers
 
 -- a view with a ticket has one number, which waits at that ticket; a served one has the ticket that is served; a current one is served, has seen the whole history, and the value is out
 pub record Queues {X E : Type 0} (lock : Lock E) (v : View X E) : Type 0 where

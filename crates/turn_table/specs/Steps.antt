@@ -4,13 +4,17 @@ use Rattle.atomic_table.specs.Seated.{TableId}
 use Rattle.atomic_table.specs.Table.{Me, Step}
 use Rattle.turn_table.specs.declared.view.View.{View}
 use Rattle.turn_table.specs.History.{IsFront, own}
-use Rattle.turn_table.specs.View.{resting}
+use Rattle.turn_table.specs.View.{IsLegal, resting}
 
--- the seat is one of this table, which has the three words and the slot
-pub record IsSeatOf (table seat : TableId) : Type 0 where
-  pub same_table : seat ≡ table
+-- the table has three words and one slot
+pub record IsTurnTable (table : TableId) : Type 0 where
   pub words : table.words ≡ 3
   pub slots : table.slots ≡ 1
+
+-- the seat is one of this table
+pub record IsSeatOf (table seat : TableId) : Type 0 where
+  pub same_table : seat ≡ table
+  pub shape : IsTurnTable table
 
 -- whether the number that was found at `serving` is that of the ticket
 abbrev pub is_turn : Option ℕ → ℕ → Bool
@@ -36,22 +40,21 @@ module _ {O X E : Type 0} where
     pub served : me.0.served ≡ true
     pub not_current : me.0.current ≡ false
 
--- what a view has seen becomes another front of the history, which has no more entries of its numbers
-pub record Sees {X E : Type 0} (pass_of : E → ℕ) (legal : X → List E → Type 0) (v : View X E) (seen : List E) : Type 0 where
-  pub longer : IsFront v.seen seen
-  pub same : (number : ℕ) → Contains v.numbers number → own pass_of number seen ≡ own pass_of number v.seen
-  pub is_legal : (x : X) → v.opening ≡ Some x → legal x seen
+-- more was seen, with no entry more of these numbers
+pub record Sees {E : Type 0} (pass_of : E → ℕ) (numbers : List ℕ) (old new : List E) : Type 0 where
+  pub longer : IsFront old new
+  pub same : (number : ℕ) → Contains numbers number → own pass_of number new ≡ own pass_of number old
 
 module _ {O X E : Type 0} (opening : O → X) (history : O → List E) (pass_of : E → ℕ) (legal : X → List E → Type 0) where
-  -- look at the length of the history: the seat has seen the whole history, of which all that it was told is a front, and has the numbers that it was told of
+  -- look at the length of the history: the seat has seen the whole history, and what it met belongs to what it has seen
   abbrev pub Looks : Step (Option O) → Me (Option O) (View X E) → ℕ → Me (Option O) (View X E) → Type 0
   Looks st me n me' = (n ≡ length me'.0.seen) × (me'.0 ≡ record me.0 { seen = me'.0.seen; numbers = me.0.numbers ++ me.0.met_numbers; met = []; met_numbers = [] }) × (me'.1 ≡ me.1)
-      × Sees pass_of legal me.0 me'.0.seen × IsFront me.0.met me'.0.seen × ((number : ℕ) → Contains me.0.met_numbers number → own pass_of number me'.0.seen ≡ own pass_of number me.0.met)
+      × Sees pass_of me.0.numbers me.0.seen me'.0.seen × Sees pass_of me.0.met_numbers me.0.met me'.0.seen × IsLegal legal me.0 me'.0.seen
 
   -- look and take: the value is out with the seat, which has seen the whole history
   abbrev pub Takes : Step (Option O) → Me (Option O) (View X E) → ℕ → Me (Option O) (View X E) → Type 0
   Takes st me n me' = (x : O) × (me'.1 ≡ (0, Some x) ∷ []) × (history x ≡ me'.0.seen) × ((y : X) → me.0.opening ≡ Some y → opening x ≡ y) × (me'.0 ≡ record me.0 { seen = me'.0.seen; current = true })
-      × Sees pass_of legal me.0 me'.0.seen
+      × Sees pass_of me.0.numbers me.0.seen me'.0.seen × IsLegal legal me.0 me'.0.seen
 
   -- enter: the history is that of the value which the seat holds
   abbrev pub Enters : Step (Option O) → Me (Option O) (View X E) → ℕ → Me (Option O) (View X E) → Type 0

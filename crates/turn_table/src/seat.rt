@@ -2,7 +2,7 @@ ghost use Rattle.std.specs.Prelude.{◌≡◌, ℕ, ◌<◌, ◌≤◌, List, []
 ghost use Rattle.std.specs.List.{range_with_len};
 ghost use Rattle.turn_table.specs.History.{IsFront, own};
 ghost use Rattle.turn_table.specs.Steps.{IsSeatOf, Sees};
-ghost use Rattle.turn_table.specs.View.{IsIdle, IsSeatedAs, first_view, with_numbers, without_first, only_first};
+ghost use Rattle.turn_table.specs.View.{IsIdle, IsLegal, IsSeatedAs, first_view, with_numbers, without_first, only_first};
 
 use crate::object::Object;
 use crate::rule::{COUNT, Start, TurnSeat, TurnTable, VALUE};
@@ -42,9 +42,9 @@ pub fn look<O: Object>(table: &TurnTable<O>, seat: &mut TurnSeat<O>) -> u64
     ensures table { seat.new.table_id ≡ seat.old.table_id }
     ensures length { result ≡ length seat.new.me.0.seen }
     ensures view { seat.new.me.0 ≡ record seat.old.me.0 { seen = seat.new.me.0.seen; numbers = seat.old.me.0.numbers ++ seat.old.me.0.met_numbers; met = []; met_numbers = [] } }
-    ensures sees { Sees O.pass_of O.legal seat.old.me.0 seat.new.me.0.seen }
-    ensures met { IsFront seat.old.me.0.met seat.new.me.0.seen }
-    ensures met_own { (number : ℕ) → Contains seat.old.me.0.met_numbers number → own O.pass_of number seat.new.me.0.seen ≡ own O.pass_of number seat.old.me.0.met }
+    ensures sees { Sees O.pass_of seat.old.me.0.numbers seat.old.me.0.seen seat.new.me.0.seen }
+    ensures met { Sees O.pass_of seat.old.me.0.met_numbers seat.old.me.0.met seat.new.me.0.seen }
+    ensures is_legal { IsLegal O.legal seat.old.me.0 seat.new.me.0.seen }
     ensures holds { seat.new.me.1 ≡ seat.old.me.1 }
 {
     table.shared.load::<Look<O>>(seat, COUNT)
@@ -81,9 +81,9 @@ pub fn join<O: Object>(table: &TurnTable<O>, seat: &mut TurnSeat<O>, other: Turn
     requires none { other.me.1 ≡ [] }
     ensures table { seat.new.table_id ≡ seat.old.table_id }
     ensures view { seat.new.me.0 ≡ record seat.old.me.0 { seen = seat.new.me.0.seen; numbers = seat.old.me.0.numbers ++ other.me.0.numbers; met = []; met_numbers = [] } }
-    ensures sees { Sees O.pass_of O.legal seat.old.me.0 seat.new.me.0.seen }
-    ensures met { IsFront other.me.0.seen seat.new.me.0.seen }
-    ensures met_own { (number : ℕ) → Contains other.me.0.numbers number → own O.pass_of number seat.new.me.0.seen ≡ own O.pass_of number other.me.0.seen }
+    ensures sees { Sees O.pass_of seat.old.me.0.numbers seat.old.me.0.seen seat.new.me.0.seen }
+    ensures met { Sees O.pass_of other.me.0.numbers other.me.0.seen seat.new.me.0.seen }
+    ensures is_legal { IsLegal O.legal seat.old.me.0 seat.new.me.0.seen }
     ensures holds { seat.new.me.1 ≡ seat.old.me.1 }
 {
     table.shared.join_seat::<Both>(seat, other);
@@ -96,7 +96,8 @@ pub fn close<O: Object>(table: TurnTable<O>, seat: TurnSeat<O>) -> O
     requires idle { IsIdle seat.me.0 }
     requires all { (k : ℕ) → k < table.shared.key.passes → Contains seat.me.0.numbers k }
     ensures opening { O.opening result ≡ O.opening table.shared.key.object.value }
-    ensures sees { Sees O.pass_of O.legal seat.me.0 (O.history result) }
+    ensures sees { Sees O.pass_of seat.me.0.numbers seat.me.0.seen (O.history result) }
+    ensures is_legal { IsLegal O.legal seat.me.0 (O.history result) }
 {
     let mut closed = table.close_with(seat);
     let held = closed.take(VALUE);

@@ -3,7 +3,7 @@ ghost use Rattle.turn_table.specs.Acted.{MatchActed, IsDid};
 ghost use Rattle.turn_table.specs.Calls.{Acts, Stays};
 ghost use Rattle.turn_table.specs.History.{IsFront, own};
 ghost use Rattle.turn_table.specs.Steps.{IsSeatOf, MayTake, MayEnter, MayHandOn, Sees};
-ghost use Rattle.turn_table.specs.View.{IsIdle, resting};
+ghost use Rattle.turn_table.specs.View.{IsIdle, IsLegal, resting};
 
 use crate::object::Object;
 use crate::rule::{COUNT, SERVING, TICKET, TurnSeat, TurnTable, VALUE};
@@ -57,7 +57,8 @@ fn take_turn<O: Object, R: Wait>(rt: &R, table: &TurnTable<O>, seat: &mut TurnSe
     ensures out { seat.new.me.1 ≡ (0, None) ∷ [] }
     ensures view { (t : ℕ)
         × (seat.new.me.0 ≡ record seat.old.me.0 { seen = O.history result; ticket = Some t; served = true; current = true }) }
-    ensures sees { Sees O.pass_of O.legal seat.old.me.0 (O.history result) }
+    ensures sees { Sees O.pass_of seat.old.me.0.numbers seat.old.me.0.seen (O.history result) }
+    ensures is_legal { IsLegal O.legal seat.old.me.0 (O.history result) }
     ensures opening { (x : O.Opening) → seat.old.me.0.opening ≡ Some x → O.opening result ≡ x }
 {
     let ticket = draw(table, seat);
@@ -126,7 +127,8 @@ fn take<O: Object>(table: &TurnTable<O>, seat: &mut TurnSeat<O>) -> O
     ensures table { seat.new.table_id ≡ seat.old.table_id }
     ensures out { seat.new.me.1 ≡ (0, None) ∷ [] }
     ensures view { seat.new.me.0 ≡ record seat.old.me.0 { seen = O.history result; current = true } }
-    ensures sees { Sees O.pass_of O.legal seat.old.me.0 (O.history result) }
+    ensures sees { Sees O.pass_of seat.old.me.0.numbers seat.old.me.0.seen (O.history result) }
+    ensures is_legal { IsLegal O.legal seat.old.me.0 (O.history result) }
     ensures opening { (x : O.Opening) → seat.old.me.0.opening ≡ Some x → O.opening result ≡ x }
 {
     table.shared.load::<Take<O>>(seat, COUNT);

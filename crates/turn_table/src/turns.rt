@@ -6,9 +6,10 @@ ghost use Rattle.turn_table.specs.Passes.{AreAll, IsPassOf, IsNoteOf, newcomers}
 
 use crate::note::Note;
 use crate::object::Object;
-use crate::pass::{Pass, Passes};
+use crate::pass::Pass;
+use crate::passes::Passes;
 use crate::rule::TurnTable;
-use crate::{pass, seat, turn};
+use crate::{passes, seat, turn};
 use edges::Acted;
 use std::alloc::{AllocError, Global};
 use std::marker::Model;
@@ -22,14 +23,15 @@ pub struct Turns<O: Object> {
 }
 
 impl<O: Object> Model for Turns<O> {
-    ghost use Rattle.std.specs.Prelude.{◌≡◌, ◌≤◌};
+    ghost use Rattle.std.specs.Prelude.{◌≤◌};
     ghost use Rattle.turn_table.specs.Passes.{Origin, origin_of};
+    ghost use Rattle.turn_table.specs.Steps.{IsTurnTable};
 
     ghost Value = { Origin O.Opening };
 
     ghost view = { λ t. origin_of O.opening t.table.shared.table_id t.table.shared.key };
 
-    ghost invariant = { λ t. (t.table.shared.table_id.words ≡ 3) × (t.table.shared.table_id.slots ≡ 1) × (1 ≤ t.table.shared.key.passes) };
+    ghost invariant = { λ t. IsTurnTable t.table.shared.table_id × (1 ≤ t.table.shared.key.passes) };
 }
 
 impl<O: Object> Turns<O> {
@@ -43,7 +45,7 @@ impl<O: Object> Turns<O> {
     {
         let mut all = Vec::with_capacity(alloc, usize::from(passes))?;
         let (table, seat) = seat::start(alloc, object, passes)?;
-        pass::make_all(&table, seat, passes, &mut all);
+        passes::make_all(&table, seat, passes, &mut all);
         Ok((Turns { table }, all))
     }
 
@@ -54,7 +56,7 @@ impl<O: Object> Turns<O> {
         ensures passes { All (λ pass. Stays O.pass_of (O.legal self.opening) pass.number pass.seen (O.history result)) passes.items }
     {
         let table = self.table;
-        let seat = pass::take_back_all(&table, passes);
+        let seat = passes::take_back_all(&table, passes);
         seat::close(table, seat)
     }
 
