@@ -1,6 +1,7 @@
 pub mod Inverses
 pub mod JsonLemmas
 pub mod Lengths
+pub mod Lookups
 pub mod Sizes
 pub mod Order
 mod Worked

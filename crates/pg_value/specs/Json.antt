@@ -1,14 +1,13 @@
 -- The value of a JSON text, or the first fault that it has.
-use Rattle.std.specs.Prelude.{◌≡◌, ℕ, List, [], ◌∷◌, nat_lt, Option, Some, None, option_map, option_and_then, Result, Ok, Err, if◌then◌else◌, ⊤}
+use Rattle.std.specs.Prelude.{◌≡◌, ℕ, List, [], ◌∷◌, Option, Some, None, option_map, option_and_then, Result, Ok, Err, if◌then◌else◌, ⊤}
 use Rattle.std.specs.Str.{is_utf8}
 use Rattle.serde_json.specs.Data as json
 use Rattle.serde_json.specs.Data.{Data}
 use Rattle.serde_json.specs.Find.{as_i64}
 use Rattle.serde_json.specs.Read.{read}
 use Rattle.pg_value.specs.Datum.{Datum, null, truth, number, text, list, rec, items_of, entries_of}
-use Rattle.pg_value.specs.Depth.{depth_of}
+use Rattle.pg_value.specs.Limits.{is_too_deep, is_too_heavy}
 use Rattle.pg_value.specs.Value.{datum_of}
-use Rattle.pg_value.specs.Weight.{weight_of}
 use Rattle.pg_value.specs.declared.value.Value.{Value}
 use Rattle.pg_value.specs.declared.json.JsonFault.{JsonFault}
 use Rattle.pg_value.specs.declared.json.JsonFault.TheVariants as fault
@@ -37,7 +36,7 @@ abbrev mutual
 
 -- the datum, where it isn't too deep or too large
 abbrev pub within_limits : Datum → Result Datum JsonFault
-within_limits d = if nat_lt 32 (depth_of d) then Err fault.TooDeep else (if nat_lt 1048576 (weight_of d) then Err fault.TooLarge else Ok d)
+within_limits d = if is_too_deep d then Err fault.TooDeep else (if is_too_heavy d then Err fault.TooLarge else Ok d)
 
 abbrev pub limited : Option Datum → Result Datum JsonFault
 limited None = Err fault.Decimal

@@ -1,4 +1,4 @@
-ghost use Rattle.std.specs.Prelude.{◌≡◌, [], filter, not, ◌==◌, ◌-◌, ◌^◌, min, length, map, option_map, IfOk, OnOk, OnErr};
+ghost use Rattle.std.specs.Prelude.{◌≡◌, ◌≢◌, ℕ, List, [], Some, None, filter, not, ◌==◌, ◌-◌, ◌^◌, min, length, map, option_map, IfOk, OnOk, OnErr};
 ghost use Rattle.std.specs.Str.{bytes_eq};
 ghost use Rattle.pg_value.specs.Attrs.{AreInOrder, entry_at, with_entry, without_entry, place_of};
 ghost use Rattle.pg_value.specs.Datum.{rec, entries_of};
@@ -115,8 +115,11 @@ impl Attrs {
     }
 
     /// Puts the value under the key, in the place of what stood there.
+    #[tactic(auto, using(crate::proofs::Lookups::found))]
     pub fn insert(&mut self, key: Text, value: Value) -> Result<(), AllocError>
         ensures ok { OnOk result (self.new ≡ with_entry self.old key (datum_of value)) }
+        ensures found { OnOk result (entry_at key self.new ≡ Some (datum_of value)) }
+        ensures others { OnOk result ((other : List ℕ) → other ≢ key → entry_at other self.new ≡ entry_at other self.old) }
         ensures err { OnErr result (self.new ≡ self.old) }
     {
         put(&mut self.entries, key, value)
@@ -124,7 +127,9 @@ impl Attrs {
 
     /// Takes out what stands under the key.
     pub fn remove(&mut self, key: &str)
-        ensures { self.new ≡ without_entry self.old key.now }
+        ensures rest { self.new ≡ without_entry self.old key.now }
+        ensures gone { entry_at key.now self.new ≡ None }
+        ensures others { (other : List ℕ) → other ≢ key.now → entry_at other self.new ≡ entry_at other self.old }
     {
         take_out(&mut self.entries, key);
     }

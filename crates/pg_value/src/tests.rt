@@ -112,3 +112,17 @@ fn lists_and_records_are_made_of_a_vec(rt: HostRuntime) -> Result<(), Fail> {
     assert!(rt; text == text.copy()?);
     Ok(())
 }
+
+#[test]
+fn entries_are_put_in_order_and_taken_out(rt: HostRuntime) -> Result<(), Fail> {
+    let alloc = rt.alloc();
+    let mut entries = Attrs::empty(alloc);
+    for (key, number) in [("b", 1), ("c", 2), ("a", 3), ("b", 4)] {
+        entries.insert(Text::copy_of(alloc, key)?, Value::Int(number))?;
+    }
+    entries.remove("c");
+    entries.remove("d");
+    let record = Value::Rec(entries);
+    assert!(rt; record == from_json(alloc, b"{\"a\":3,\"b\":4}".as_slice())?);
+    Ok(())
+}

@@ -1,4 +1,4 @@
-use Rattle.std.proofs.Common.{◌≡◌, Ok, rules}
+use Rattle.std.proofs.Common.{Ok, rules}
 use Rattle.pg_value.specs.RunFault.{Answers}
 use Rattle.pg_value.specs.Value.{datum_of}
 use Rattle.el_coercion.specs.Text.{text_of}
