@@ -1,4 +1,5 @@
 use crate::{RunFault, Text, Value, to_bool, to_int, to_text};
+use pg_text::escape_xml;
 use pg_value::{Values, from_json};
 use std::alloc::{AllocError, Global};
 use std::test::Fail;
@@ -71,5 +72,17 @@ fn a_made_text_is_measured(rt: HostRuntime) -> Result<(), Fail> {
     assert_eq!(rt; longest.len(), 1_048_560);
     let longer = to_text(alloc, &long_list(alloc, 1_048_559)?);
     assert_eq!(rt; longer.err(), Some(RunFault::X(20)));
+    Ok(())
+}
+
+#[test]
+fn five_characters_are_escaped(rt: HostRuntime) -> Result<(), Fail> {
+    for (text, written) in [
+        ("<'\"&>", "&lt;&#039;&#034;&amp;&gt;"),
+        ("J\u{e4}m 2 \u{20ac}", "J\u{e4}m 2 \u{20ac}"),
+    ] {
+        let escaped = escape_xml(rt.alloc(), text)?;
+        assert_eq!(rt; escaped.as_str(), written);
+    }
     Ok(())
 }

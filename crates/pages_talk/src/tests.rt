@@ -19,6 +19,8 @@ const OTHER_IN: &[u8] =
 const OTHER_OUT: &[u8] =
     b"HTTP/1.1 200 OK\r\nContent-Type: text/plain;charset=UTF-8\r\nContent-Length: 8\r\n\r\ndraft 1\nHTTP/1.1 200 OK\r\nContent-Type: text/plain;charset=UTF-8\r\nContent-Length: 10\r\n\r\nversion 1\nHTTP/1.1 501 Not Implemented\r\nContent-Type: text/plain;charset=UTF-8\r\nContent-Length: 9\r\n\r\nNotBuilt\nHTTP/1.1 404 Not Found\r\nContent-Type: text/plain;charset=UTF-8\r\nContent-Length: 9\r\n\r\nNotFound\n";
 
+const PUBLISH: &[u8] = b"POST /_editor/publish HTTP/1.1\r\nHost: x\r\n\r\n";
+
 // The status of `play` over this input, which comes in pieces of that size, and what it wrote.
 fn played<N: Ledger>(
     alloc: Global,
@@ -222,48 +224,46 @@ fn repeated(
 
 #[test]
 fn a_draft_keeps_its_limits(rt: HostRuntime) -> Result<(), Fail> {
-    let small = put_of(rt.alloc(), 2, 0, b'x')?;
-    let large = put_of(rt.alloc(), 2, 2_097_152, b'x')?;
-    let publish = b"POST /_editor/publish HTTP/1.1\r\nHost: x\r\n\r\n".as_slice();
-    for (message, times, last, end) in [
-        (
-            b"".as_slice(),
-            0,
-            put_of(rt.alloc(), 1_024, 1, b'x')?,
-            "draft 1\n",
-        ),
-        (
-            b"".as_slice(),
-            0,
-            put_of(rt.alloc(), 1_025, 1, b'x')?,
-            "NotBuilt\n",
-        ),
-        (
-            b"".as_slice(),
-            0,
-            put_of(rt.alloc(), 2, 1, 0xff)?,
-            "NotBuilt\n",
-        ),
-        (small.as_slice(), 1_023, small.clone()?, "draft 1024\n"),
-        (small.as_slice(), 1_024, small.clone()?, "NotBuilt\n"),
-        (large.as_slice(), 8, small.clone()?, "draft 9\n"),
-        (
-            large.as_slice(),
-            8,
-            put_of(rt.alloc(), 2, 1, b'x')?,
-            "NotBuilt\n",
-        ),
-        (
-            large.as_slice(),
-            1,
-            publish.to_vec(rt.alloc())?,
-            "NotBuilt\n",
-        ),
+    for (times, size, last_size, end) in [
+        (1_023, 0, 0, "draft 1024\n"),
+        (1_024, 0, 0, "NotBuilt\n"),
+        (8, 2_097_152, 0, "draft 9\n"),
+        (8, 2_097_152, 1, "NotBuilt\n"),
     ] {
-        let input = repeated(rt.alloc(), message, times, &last)?;
+        let message = put_of(rt.alloc(), 2, size, b'x')?;
+        let last = put_of(rt.alloc(), 2, last_size, b'x')?;
+        let input = repeated(rt.alloc(), &message, times, &last)?;
         let (status, text) = played::<Brand>(rt.alloc(), Blank::new(1), &input, 65_536, &[], &[])?;
         assert_eq!(rt; status, 0);
-        assert!(rt; text.as_slice().ends_with(end.as_bytes()), "{end}");
+        assert!(rt; text.as_slice().ends_with(end.as_bytes()), "{times}");
+    }
+    Ok(())
+}
+
+#[test]
+fn a_file_that_is_put_keeps_its_limits(rt: HostRuntime) -> Result<(), Fail> {
+    for (path, size, byte, end) in [
+        (1_024, 1, b'x', "version 1\n"),
+        (1_025, 1, b'x', "version 1\n"),
+        (2, 1, 0xff, "version 1\n"),
+        (2, 1_048_576, b'x', "version 1\n"),
+        (2, 1_048_577, b'x', "NotBuilt\n"),
+    ] {
+        let message = put_of(rt.alloc(), path, size, byte)?;
+        let input = repeated(rt.alloc(), &message, 1, PUBLISH)?;
+        let (status, text) = played::<Brand>(rt.alloc(), Blank::new(1), &input, 65_536, &[], &[])?;
+        assert_eq!(rt; status, 0);
+        assert!(rt; text.as_slice().ends_with(end.as_bytes()), "{path} {size}");
+        let drafted = path == 1_024 || size > 1;
+        let begin = if drafted {
+            "HTTP/1.1 200"
+        } else {
+            "HTTP/1.1 501"
+        };
+        assert!(rt;
+            text.as_slice().starts_with(begin.as_bytes()),
+            "{path} {size}"
+        );
     }
     Ok(())
 }

@@ -5,4 +5,5 @@ pub mod Lookups
 pub mod Sizes
 pub mod Order
 mod Worked
+mod WorkedJson
 pub mod Places

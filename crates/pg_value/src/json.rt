@@ -15,7 +15,7 @@ use std::alloc::{AllocError, Global};
 pub enum JsonFault {
     /// The bytes are no JSON text in UTF-8.
     NotJson,
-    /// Some number isn't a whole number of 64 bits.
+    /// Some number isn't written as a whole number of 64 bits; `1e2` and `-0` aren't.
     Decimal,
     /// Lists and records stand more than 32 deep in one another.
     TooDeep,

@@ -78,7 +78,7 @@ impl<O: Object> Turns<O> {
         turn::act(rt, &self.table, &mut pass.seat, pass.number, op)
     }
 
-    /// How long the history is, all of which the pass has then seen. It takes no turn.
+    /// The length of a front of the history that holds all that the pass had seen, and that it has then seen. It takes no turn.
     pub fn latest(&self, pass: &mut Pass<O>) -> u64
         requires { IsPassOf self.now pass.old }
         ensures same { pass.new ≡ record pass.old { seen = pass.new.seen } }
