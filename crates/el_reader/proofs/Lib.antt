@@ -1,0 +1,15 @@
+pub mod Bytes
+pub mod Content
+pub mod Cuts
+pub mod FirstKind
+pub mod FirstToken
+pub mod Limits
+pub mod Marks
+pub mod Numerals
+pub mod OneExpression
+pub mod Passes
+pub mod ReadIsRun
+pub mod Rows
+pub mod RunIsRead
+pub mod Strings
+pub mod TokenBytes

@@ -1,0 +1,11 @@
+pub mod Answer
+pub mod Climb
+pub mod El
+pub mod Expression
+pub mod Operators
+pub mod Reads
+pub mod Scan
+pub mod Spelling
+pub mod Stack
+pub mod Tokens
+pub mod Tree

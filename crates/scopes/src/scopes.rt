@@ -1,0 +1,191 @@
+ghost use Rattle.std.specs.Prelude.{◌≡◌, ◌<◌, [], length, option_map, unwrap_or, IsNone, OnOk, OnErr, IfOk};
+ghost use Rattle.pg_value.specs.RunFault.{Answers};
+ghost use Rattle.pg_value.specs.Value.{datum_of};
+ghost use Rattle.scopes.specs.Scopes.{starting, entries_in, found_in, found, with_variable, without_variable, set_answer, record_answer, with_frame, without_frame, turned_to, with_session};
+
+use crate::attributes;
+use crate::scope::Scope;
+use pg_value::{Attrs, RunFault, Text, Value};
+use std::alloc::{AllocError, Global};
+use std::marker::Model;
+
+/// The variables of a page run: the frames of page scope, one of which is current, request scope, and the attributes of the
+/// session where the request has one. Contracts see a record of them.
+#[derive(Drop)]
+pub struct Scopes {
+    frames: Vec<Attrs>,
+    current: u32,
+    request: Attrs,
+    session: Option<Attrs>,
+}
+
+impl Model for Scopes {
+    ghost use Rattle.std.specs.Prelude.{◌<◌, ◌≤◌, ◌^◌, length};
+    ghost use Rattle.scopes.specs.Scopes.{ScopeState};
+
+    ghost Value = { ScopeState };
+
+    ghost use Rattle.scopes.specs.StateCode.{state_code};
+
+    ghost coded = { state_code };
+
+    ghost view = { λ s. record { frames = s.frames.items; current = s.current; request = s.request; session = s.session } };
+
+    ghost invariant = { λ s. (s.current < length s.frames.items) × (length s.frames.items ≤ 2 ^ 32) };
+}
+
+impl Scopes {
+    /// One empty frame, nothing in request scope, and this session.
+    pub fn new(alloc: Global, session: Option<Attrs>) -> Result<Self, AllocError>
+        ensures { IfOk result (λ scopes. scopes ≡ starting session) }
+    {
+        let mut frames = Vec::with_capacity(alloc, 1)?;
+        frames.push(Attrs::empty(alloc))?;
+        Ok(Scopes {
+            frames,
+            current: 0,
+            request: Attrs::empty(alloc),
+            session,
+        })
+    }
+
+    /// What stands under the name in page, request or session scope, in this order.
+    pub fn find(&self, name: &str) -> Option<&Value>
+        ensures { option_map (λ value. datum_of value.now) result ≡ found self.now name.now }
+    {
+        self.find_in(Scope::Page, name)
+            .or_else(|| self.find_in(Scope::Request, name))
+            .or_else(|| self.find_in(Scope::Session, name))
+    }
+
+    /// What stands under the name in this scope.
+    pub fn find_in(&self, scope: Scope, name: &str) -> Option<&Value>
+        ensures { option_map (λ value. datum_of value.now) result ≡ found_in self.now scope name.now }
+    {
+        self.entries(scope)?.get(name)
+    }
+
+    /// Puts the value under the name, in the place of what stood there. Fault 13 in session scope without a session, and 21
+    /// where the session's attributes would weigh over [`MAX_SESSION_WEIGHT`](crate::MAX_SESSION_WEIGHT).
+    pub fn set(&mut self, scope: Scope, name: &Text, value: Value) -> Result<(), RunFault>
+        ensures answer { Answers (set_answer self.old scope name.now (datum_of value)) result }
+        ensures ok { OnOk result (self.new ≡ with_variable self.old scope name.now (datum_of value)) }
+        ensures err { OnErr result (self.new ≡ self.old) }
+    {
+        match scope {
+            Scope::Page => {
+                let frame = &mut self.frames[self.current as usize];
+                frame.insert(name.copy()?, value)?;
+            }
+            Scope::Request => self.request.insert(name.copy()?, value)?,
+            Scope::Session => {
+                let Some(session) = &mut self.session else {
+                    return Err(RunFault::X(13));
+                };
+                attributes::keep(session, name, value)?;
+            }
+        }
+        Ok(())
+    }
+
+    /// Takes out what stands under the name in this scope.
+    pub fn remove(&mut self, scope: Scope, name: &str)
+        ensures { self.new ≡ without_variable self.old scope name.now }
+    {
+        match scope {
+            Scope::Page => {
+                let frame = &mut self.frames[self.current as usize];
+                frame.remove(name);
+            }
+            Scope::Request => self.request.remove(name),
+            Scope::Session => {
+                if let Some(session) = &mut self.session {
+                    session.remove(name);
+                }
+            }
+        }
+    }
+
+    /// The scope as a record, which is empty for an absent session. Fault 20 where it is too heavy or too deep.
+    pub fn as_rec(&self, scope: Scope) -> Result<Value, RunFault>
+        ensures { Answers (record_answer (unwrap_or (entries_in self.now scope) [])) result }
+    {
+        let Some(entries) = self.entries(scope) else {
+            return Ok(Value::Rec(Attrs::empty(*self.frames.allocator())));
+        };
+        if attributes::is_too_large(entries) {
+            return Err(RunFault::X(20));
+        }
+        Ok(Value::Rec(entries.copy()?))
+    }
+
+    /// Puts an empty frame behind the others, and makes it current. A frame whose number is over the greatest `u32` is
+    /// refused as for want of memory.
+    pub fn push_frame(&mut self) -> Result<(), AllocError>
+        ensures ok { OnOk result (self.new ≡ with_frame self.old) }
+        ensures err { OnErr result (self.new ≡ self.old) }
+    {
+        let Ok(number) = u32::try_from(self.frames.len()) else {
+            return Err(AllocError);
+        };
+        self.frames.push(Attrs::empty(*self.frames.allocator()))?;
+        self.current = number;
+        Ok(())
+    }
+
+    /// Drops the last frame, and makes the one before it current.
+    pub fn pop_frame(&mut self)
+        requires { 1 < length self.old.frames }
+        ensures { self.new ≡ without_frame self.old }
+    {
+        let last = self.frames.len() - 1;
+        self.frames.truncate(last);
+        self.current = (last - 1) as u32;
+    }
+
+    /// Makes the frame of this number current, counted from 0, and answers the number of the one that was.
+    pub fn turn_to(&mut self, frame: u32) -> u32
+        requires { frame < length self.old.frames }
+        ensures turned { self.new ≡ turned_to self.old frame }
+        ensures was { result ≡ self.old.current }
+        ensures there { result < length self.old.frames }
+    {
+        let was = self.current;
+        self.current = frame;
+        was
+    }
+
+    /// Starts a session without attributes.
+    pub fn start_session(&mut self)
+        requires { IsNone self.old.session }
+        ensures { self.new ≡ with_session self.old }
+    {
+        self.session = Some(Attrs::empty(*self.frames.allocator()));
+    }
+
+    /// The attributes of the session, without a copy: none where there is no session.
+    pub fn into_session(self) -> Attrs
+        ensures { result ≡ unwrap_or self.session [] }
+    {
+        let Scopes {
+            frames,
+            session,
+            ..
+        } = self;
+        match session {
+            Some(session) => session,
+            None => Attrs::empty(*frames.allocator()),
+        }
+    }
+
+    // The entries of a scope, or None for an absent session.
+    fn entries(&self, scope: Scope) -> Option<&Attrs>
+        ensures { option_map (λ entries. entries.now) result ≡ entries_in self.now scope }
+    {
+        match scope {
+            Scope::Page => Some(&self.frames[self.current as usize]),
+            Scope::Request => Some(&self.request),
+            Scope::Session => self.session.as_ref(),
+        }
+    }
+}
