@@ -21,12 +21,12 @@ pub fn to_text(alloc: Global, value: &Value) -> Result<Text, RunFault>
         Value::Null => Ok(Text::new(String::new(alloc))),
         Value::Text(text) => Ok(text.copy()?),
         Value::Bool(_) | Value::Int(_) => Ok(Text::new(inner_text(alloc, value)?)),
-        Value::List(_) | Value::Rec(_) => made(inner_text(alloc, value)?),
+        Value::List(_) | Value::Rec(_) => made_text(inner_text(alloc, value)?),
     }
 }
 
-// The text, where it isn't too large to be a value.
-fn made(text: String) -> Result<Text, RunFault>
+/// A text that was made of others: itself, or fault 20 where it weighs more than 1,048,576.
+pub fn made_text(text: String) -> Result<Text, RunFault>
     ensures { result ≡ spec.made (string_bytes text) }
 {
     if text.len() as u64 > MAX_WEIGHT - 16 {

@@ -2,8 +2,8 @@ ghost use Rattle.el_ops.specs.Joining.{joining_of};
 ghost use Rattle.pg_value.specs.RunFault.{Answers};
 ghost use Rattle.pg_value.specs.Value.{datum_of};
 
-use el_coercion::to_text;
-use pg_value::{MAX_WEIGHT, RunFault, Text, Value};
+use el_coercion::{made_text, to_text};
+use pg_value::{RunFault, Text, Value};
 use std::alloc::Global;
 
 /// The texts of both values, one after the other. Fault 20 is a text that weighs more than 1,048,576.
@@ -12,8 +12,5 @@ pub fn join(alloc: Global, a: &Value, b: &Value) -> Result<Text, RunFault>
 {
     let mut joined = to_text(alloc, a)?.into_string();
     joined.push_str(to_text(alloc, b)?.as_str())?;
-    if joined.len() as u64 > MAX_WEIGHT - 16 {
-        return Err(RunFault::X(20));
-    }
-    Ok(Text::new(joined))
+    made_text(joined)
 }
