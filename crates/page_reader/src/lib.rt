@@ -5,6 +5,7 @@ mod attribute;
 mod attribute_reader;
 mod escape;
 mod expression;
+mod fault;
 mod head;
 mod head_reader;
 mod mark;
@@ -30,6 +31,7 @@ mod value;
 mod value_fault;
 
 pub use attribute::{Attribute, Attributes, Part, Parts};
+pub use fault::{BAD_ATTRIBUTE, SCRIPTING, TOO_LARGE, UNCLOSED, WRONG_END};
 pub use node::{Closing, Element, Node, PageTree};
 pub use pg_text::{PageFault, Path, Place, Text};
 pub use reader::{MAX_PAGE_BYTES, one_page, read_page, read_under};

@@ -4,6 +4,7 @@ ghost use Rattle.page_reader.specs.ReadPage.{page_read};
 ghost use Rattle.page_reader.specs.Settings.{first_setting};
 ghost use Rattle.page_reader.specs.Trees.{page_of};
 
+use crate::fault::{TOO_LARGE, WRONG_END};
 use crate::node::PageTree;
 use crate::piece_fault::PieceFault;
 use crate::piece_reader::piece_at;
@@ -11,6 +12,7 @@ use crate::setting::{Setting, register};
 use crate::spot::Spot;
 use crate::stack::{Entry, Stack};
 use crate::stop::{break_stop, end_stop, fault_at};
+use crate::texts::before_last;
 use pg_text::Path;
 use std::alloc::{AllocError, Global};
 
@@ -62,19 +64,19 @@ fn read(alloc: Global, file: &Path, text: &str, setting: Setting) -> Result<Page
                 return stack.finish(alloc, file, rest, Some(stop));
             }
             Ok((piece, more)) => {
-                let (front, _) = rest.split_at(rest.len() - more.len());
+                let behind = spot.after_bytes(before_last(rest, more.len()));
                 register(&mut known, spot.byte, &piece)?;
                 match stack.enter(alloc, file, piece, spot, rest, more)? {
                     Entry::WrongEnd => {
-                        let stop = fault_at(file, 3, spot)?;
+                        let stop = fault_at(file, WRONG_END, spot)?;
                         return stack.finish(alloc, file, rest, Some(stop));
                     }
                     Entry::TooDeep(deep) => {
-                        let stop = fault_at(file, 20, deep)?;
+                        let stop = fault_at(file, TOO_LARGE, deep)?;
                         return stack.finish(alloc, file, more, Some(stop));
                     }
                     Entry::In => {
-                        spot = spot.after(front);
+                        spot = behind;
                         rest = more;
                     }
                 }
