@@ -4,35 +4,35 @@ ghost use Rattle.el_coercion.specs.Number.{number_of_text};
 ghost use Rattle.el_coercion.specs.Text as spec;
 ghost use Rattle.el_coercion.specs.Text.{inner_text, items_text, entries_text, separator_before, text_of};
 ghost use Rattle.pg_value.specs.Datum.{items_of, entries_of};
-ghost use Rattle.pg_value.specs.RunFault.{Answers};
+ghost use Rattle.pg_text.specs.Failure.{Answers};
 ghost use Rattle.pg_value.specs.Value.{datum_of, entry_of};
 
 use pg_text::decimal;
-use pg_value::{MAX_WEIGHT, RunFault, Text, Value};
+use pg_value::{Failure, MAX_WEIGHT, RunFault, Text, Value};
 use std::alloc::{AllocError, Global};
 
-/// The text of a value. Fault 20 is a list or record whose text weighs more than 1,048,576.
+/// The text of a value. X20 is a list or record whose text weighs more than `MAX_WEIGHT`.
 #[tactic(auto, using(crate::proofs::Printed::reads_back))]
-pub fn to_text(alloc: Global, value: &Value) -> Result<Text, RunFault>
+pub fn to_text(alloc: Global, value: &Value) -> Result<Text, Failure<RunFault>>
     ensures text { Answers (text_of (datum_of value.now)) result }
     ensures reads_back { (n : ℤ) → FitsSigned w64 n → value.now ≡ Value.Int n → IfOk result (λ text. number_of_text text ≡ Ok n) }
 {
     match value {
-        Value::Null => Ok(Text::new(String::new(alloc))),
+        Value::Null => Ok(Text::new(String::new(alloc))?),
         Value::Text(text) => Ok(text.copy()?),
-        Value::Bool(_) | Value::Int(_) => Ok(Text::new(inner_text(alloc, value)?)),
+        Value::Bool(_) | Value::Int(_) => Ok(Text::new(inner_text(alloc, value)?)?),
         Value::List(_) | Value::Rec(_) => made_text(inner_text(alloc, value)?),
     }
 }
 
-/// A text that was made of others: itself, or fault 20 where it weighs more than 1,048,576.
-pub fn made_text(text: String) -> Result<Text, RunFault>
-    ensures { result ≡ spec.made (string_bytes text) }
+/// A text that was made of others: itself, or X20 where it weighs more than `MAX_WEIGHT`.
+pub fn made_text(text: String) -> Result<Text, Failure<RunFault>>
+    ensures { Answers (spec.made (string_bytes text)) result }
 {
     if text.len() as u64 > MAX_WEIGHT - 16 {
-        return Err(RunFault::X(20));
+        return Err(Failure::Fault(RunFault::ValueTooLarge));
     }
-    Ok(Text::new(text))
+    Ok(Text::new(text)?)
 }
 
 fn inner_text(alloc: Global, value: &Value) -> Result<String, AllocError>

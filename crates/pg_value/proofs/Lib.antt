@@ -1,3 +1,5 @@
+pub mod Gathered
+pub mod Halving
 pub mod Inverses
 pub mod JsonLemmas
 pub mod Lengths
@@ -7,3 +9,4 @@ pub mod Order
 mod Worked
 mod WorkedJson
 pub mod Places
+pub mod PutBack

@@ -6,13 +6,14 @@ use Rattle.std.specs.Ordering.{nat_cmp, match_ordering, is_eq}
 use Rattle.std.specs.Str.{bytes_eq}
 use Rattle.std.proofs.lemmas.Map.Text.{is_eq-slice_cmp}
 use Rattle.std.proofs.lemmas.Slice.Eq.{bytes_eq-Decides}
+use Rattle.pg_text.proofs.Halving.{by_order}
 use Rattle.pg_value.specs.Attrs.{entry_at, with_entry, without_entry}
 use Rattle.pg_value.specs.Datum.{Datum}
 
 abbrev Entry : Type 0
 Entry = List ℕ × Datum
 
-equal_itself : (k : List ℕ) → bytes_eq k k ≡ true
+pub equal_itself : (k : List ℕ) → bytes_eq k k ≡ true
 equal_itself k = (bytes_eq-Decides k k).1 refl
 
 apart : (b : Bool) (k l : List ℕ) → b ≡ bytes_eq k l → k ≢ l → bytes_eq k l ≡ false
@@ -21,10 +22,6 @@ apart false k l is ne = sym is
 
 different : (k l : List ℕ) → k ≢ l → bytes_eq k l ≡ false
 different k l ne = apart (bytes_eq k l) k l refl ne
-
--- what the order of two keys says of their equality
-by_order : (o : Ordering) (k l : List ℕ) → slice_cmp nat_cmp k l ≡ o → bytes_eq k l ≡ is_eq o
-by_order o k l h = sym (is_eq-slice_cmp k l) ∙ ap is_eq h
 
 found_by : (o : Ordering) (k : List ℕ) (d : Datum) (e : Entry) (es : List Entry) → slice_cmp nat_cmp k e.0 ≡ o → entry_at k (with_entry es k d) ≡ Some d
     → entry_at k (match_ordering o ((k, d) ∷ e ∷ es) ((e.0, d) ∷ es) (e ∷ with_entry es k d)) ≡ Some d

@@ -4,8 +4,10 @@ pub mod DatumCode
 pub mod Depth
 pub mod Equality
 pub mod EqualityLaws
+pub mod Function
 pub mod Json
 pub mod Limits
+pub mod Measured
 pub mod RunFault
 pub mod Size
 pub mod SizeFalls

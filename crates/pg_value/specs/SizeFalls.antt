@@ -4,7 +4,7 @@ use Rattle.std.proofs.Common.{arith}
 use denote.Param.Weighed.{most}
 use Rattle.pg_value.specs.declared.value.Value.{Value}
 use Rattle.pg_value.specs.declared.value.Value.TheVariants as variant
-use Rattle.pg_value.specs.declared.attrs.Attrs.TheDeep.{deep-Value}
+use Rattle.pg_value.specs.declared.record.Record.TheDeep.{deep-Value}
 use Rattle.pg_value.specs.Value.{datum_of, entry_of}
 use Rattle.pg_value.specs.Size.{size_of, data_size, entries_size}
 

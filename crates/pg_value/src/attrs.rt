@@ -1,6 +1,9 @@
-ghost use Rattle.std.specs.Prelude.{◌≡◌, ◌≢◌, ℕ, List, [], Some, None, filter, not, ◌==◌, ◌-◌, ◌^◌, min, length, map, option_map, IfOk, OnOk, OnErr};
+ghost use Rattle.std.specs.Prelude.{◌≡◌, ◌≢◌, ℕ, List, [], Some, None, filter, reverse, not, ◌==◌, ◌-◌, ◌^◌, min, length, map, option_map, IfOk, OnOk, OnErr};
+ghost use Rattle.std.specs.Cmp.Lexicographic.{slice_cmp};
+ghost use Rattle.std.specs.List.Sorted.{IsStableBy};
+ghost use Rattle.std.specs.Ordering.{nat_cmp, is_lt};
 ghost use Rattle.std.specs.Str.{bytes_eq};
-ghost use Rattle.pg_value.specs.Attrs.{AreInOrder, entry_at, with_entry, without_entry, place_of};
+ghost use Rattle.pg_value.specs.Attrs.{AreInOrder, entry_at, with_entry, without_entry, place_of, of_entries, of_first_entries};
 ghost use Rattle.pg_value.specs.Datum.{rec, entries_of};
 ghost use Rattle.pg_value.specs.Depth.{depth_of};
 ghost use Rattle.pg_value.specs.Value.{datum_of, entry_of};
@@ -15,7 +18,6 @@ use std::marker::Model;
 
 /// The entries of a record: values under distinct keys, in rising byte order of the keys. Contracts see the list of each key's
 /// bytes with what stands under it.
-#[cycle(value)]
 #[derive(Drop)]
 pub struct Attrs {
     entries: Vec<(Text, Value)>,
@@ -31,18 +33,11 @@ impl Model for Attrs {
     ghost coded = { entries_code };
 
     ghost use Rattle.pg_value.specs.Attrs.{AreInOrder};
-    ghost use Rattle.pg_value.specs.Size.{entries_size};
     ghost use Rattle.pg_value.specs.Value.{entry_of};
 
     ghost view = { λ a. map entry_of a.entries.items };
 
     ghost invariant = { λ a. AreInOrder (map entry_of a.entries.items) };
-
-    ghost size = { entries_size };
-
-    ghost use Rattle.pg_value.specs.SizeFalls.{entries_below};
-
-    ghost size_decreases = { λ a h. entries_below a.entries.items };
 }
 
 impl Attrs {
@@ -63,55 +58,48 @@ impl Attrs {
         Attrs { entries }
     }
 
-    /// Equal entries.
-    #[cycle(copy)]
+    /// The entries of these keys, in order. Of equal keys the last stands.
+    pub fn from_entries(entries: Vec<(Text, Value)>) -> Result<Self, AllocError>
+        ensures { IfOk result (λ made. made ≡ of_entries (map entry_of entries.items)) }
+    {
+        Ok(Attrs::new(gathered(sorted(entries)?)?))
+    }
+
+    /// The entries of these keys, in order. Of equal keys the first stands.
+    pub fn from_first_entries(entries: Vec<(Text, Value)>) -> Result<Self, AllocError>
+        ensures { IfOk result (λ made. made ≡ of_first_entries (map entry_of entries.items)) }
+    {
+        Attrs::from_entries(reversed(entries))
+    }
+
+    /// Equal entries, which share the keys and the values.
     pub fn copy(&self) -> Result<Self, AllocError>
         ensures { IfOk result (λ copy. copy ≡ self.now) }
     {
-        let mut entries = Vec::with_capacity(*self.entries.allocator(), self.entries.len())?;
-        for (key, value) in &self.entries {
-            entries.push((key.copy()?, value.copy()?))?;
-        }
-        Ok(Attrs { entries })
+        Ok(Attrs {
+            entries: copied(*self.entries.allocator(), &self.entries)?,
+        })
     }
 
     /// The weight of the record.
-    #[cycle(weight)]
     pub fn weight(&self) -> u64
         ensures { result ≡ min (weight_of (rec (entries_of self.now))) (2 ^ 64 - 1) }
     {
-        let mut weight: u64 = 16;
-        for (key, value) in &self.entries {
-            weight = weight
-                .saturating_add(16)
-                .saturating_add(key.len() as u64)
-                .saturating_add(measures::weight(value));
-        }
-        weight
+        measures::weight_of_entries(&self.entries)
     }
 
     /// The depth of the record.
-    #[cycle(depth)]
     pub fn depth(&self) -> u32
         ensures { result ≡ min (depth_of (rec (entries_of self.now))) (2 ^ 32 - 1) }
     {
-        let mut deepest: u32 = 0;
-        for (_key, value) in &self.entries {
-            deepest = deepest.max(measures::depth(value));
-        }
-        deepest.saturating_add(1)
+        measures::depth_of_entries(&self.entries)
     }
 
     /// What stands under the key.
     pub fn get(&self, key: &str) -> Option<&Value>
         ensures { option_map (λ value. datum_of value.now) result ≡ entry_at key.now self.now }
     {
-        for (name, value) in &self.entries {
-            if name.as_str() == key {
-                return Some(value);
-            }
-        }
-        None
+        find(&self.entries, key)
     }
 
     /// Puts the value under the key, in the place of what stood there.
@@ -132,6 +120,16 @@ impl Attrs {
         ensures others { (other : List ℕ) → other ≢ key.now → entry_at other self.new ≡ entry_at other self.old }
     {
         take_out(&mut self.entries, key);
+    }
+
+    /// A law: a value that is put again where it stands, or that is taken out and put back, gives the same entries.
+    #[tactic(auto, using(crate::proofs::PutBack::put_again, crate::proofs::PutBack::put_back))]
+    pub fn put_back(entries: &Attrs, key: &str, value: &Value)
+        requires { entry_at key.now entries.now ≡ Some (datum_of value.now) }
+        ensures again { with_entry entries.now key.now (datum_of value.now) ≡ entries.now }
+        ensures back { with_entry (without_entry entries.now key.now) key.now (datum_of value.now) ≡ entries.now }
+    {
+        let _ = &entries.entries;
     }
 
     pub fn as_slice(&self) -> &[(Text, Value)]
@@ -162,7 +160,46 @@ impl Attrs {
     }
 }
 
-fn put(entries: &mut Vec<(Text, Value)>, key: Text, value: Value) -> Result<(), AllocError>
+// Equal entries.
+pub fn copied(alloc: Global, entries: &[(Text, Value)]) -> Result<Vec<(Text, Value)>, AllocError>
+    ensures { IfOk result (λ copy. copy.items ≡ entries.now) }
+{
+    let mut copy = Vec::with_capacity(alloc, entries.len())?;
+    for (key, value) in entries {
+        copy.push((key.copy()?, value.copy()?))?;
+    }
+    Ok(copy)
+}
+
+fn reversed(mut entries: Vec<(Text, Value)>) -> Vec<(Text, Value)>
+    ensures { result.items ≡ reverse entries.items }
+{
+    entries.reverse();
+    entries
+}
+
+// The entries by rising keys, where those of one key stay in their order.
+fn sorted(mut entries: Vec<(Text, Value)>) -> Result<Vec<(Text, Value)>, AllocError>
+    ensures { IfOk result (λ sorted. IsStableBy (λ a b. is_lt (slice_cmp nat_cmp a.0 b.0)) entries.items sorted.items) }
+{
+    entries.sort_by(|a, b| order(a, b.0.as_str()))?;
+    Ok(entries)
+}
+
+// The entries, put in one after the other: without a move where they come by rising keys.
+fn gathered(entries: Vec<(Text, Value)>) -> Result<Vec<(Text, Value)>, AllocError>
+    ensures value { IfOk result (λ made. map entry_of made.items ≡ of_entries (map entry_of entries.items)) }
+    ensures order { IfOk result (λ made. AreInOrder (map entry_of made.items)) }
+{
+    let mut made = Vec::with_capacity(*entries.allocator(), entries.len())?;
+    for (key, value) in entries {
+        put(&mut made, key, value)?;
+    }
+    Ok(made)
+}
+
+pub fn put(entries: &mut Vec<(Text, Value)>, key: Text, value: Value) -> Result<(), AllocError>
+    requires { AreInOrder (map entry_of entries.old.items) }
     ensures ok { OnOk result (map entry_of entries.new.items ≡ with_entry (map entry_of entries.old.items) key (datum_of value)) }
     ensures err { OnErr result (entries.new.items ≡ entries.old.items) }
 {
@@ -175,16 +212,28 @@ fn put(entries: &mut Vec<(Text, Value)>, key: Text, value: Value) -> Result<(), 
 
 // Where the key stands, or where it would.
 fn place(entries: &[(Text, Value)], key: &str) -> Result<usize, usize>
+    requires { AreInOrder (map entry_of entries.now) }
     ensures { result ≡ place_of key.now entries.now }
 {
-    for (i, (name, _value)) in entries.iter().enumerate() {
-        match key.cmp(&name.as_str()) {
-            Ordering::Less => return Err(i),
-            Ordering::Equal => return Ok(i),
-            Ordering::Greater => {}
-        }
+    entries.binary_search_by(|entry| order(entry, key))
+}
+
+// How the key of the entry stands to this one.
+fn order(entry: &(Text, Value), key: &str) -> Ordering
+    ensures { result ≡ slice_cmp nat_cmp entry.now.0 key.now }
+{
+    entry.0.as_str().cmp(&key)
+}
+
+// What stands under the key.
+pub fn find<'a>(entries: &'a [(Text, Value)], key: &str) -> Option<&'a Value>
+    requires { AreInOrder (map entry_of entries.now) }
+    ensures { option_map (λ value. datum_of value.now) result ≡ entry_at key.now (map entry_of entries.now) }
+{
+    match place(entries, key) {
+        Ok(at) => Some(&entries[at].1),
+        Err(_) => None,
     }
-    Err(entries.len())
 }
 
 fn take_out(entries: &mut Vec<(Text, Value)>, key: &str)

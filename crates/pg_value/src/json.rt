@@ -1,12 +1,15 @@
 ghost use Rattle.std.specs.Prelude.{◌≡◌, IfOk, IfErr, Some, None};
-ghost use Rattle.pg_value.specs.Json.{Answers, Converts, ConvertsTo, Refuses, json_value, json_data, whole, whole_items, whole_members};
+ghost use Rattle.pg_value.specs.Json.{Converts, ConvertsTo, Refuses, json_value, json_data, whole, whole_items, whole_members};
+ghost use Rattle.pg_value.specs.Value.{datum_of};
+ghost use Rattle.pg_text.specs.Failure.{AnswersAs};
 ghost use Rattle.serde_json.specs.View.{view, items_view, members_view};
 
 use crate::attrs::Attrs;
 use crate::measures::{self, MAX_DEPTH, MAX_WEIGHT};
+use crate::record::Record;
 use crate::value::Value;
 use crate::values::Values;
-use pg_text::Text;
+use pg_text::{Failure, Text};
 use serde_json::Map;
 use std::alloc::{AllocError, Global};
 
@@ -17,41 +20,29 @@ pub enum JsonFault {
     NotJson,
     /// Some number isn't written as a whole number of 64 bits; `1e2` and `-0` aren't.
     Decimal,
-    /// Lists and records stand more than 32 deep in one another.
+    /// Lists and records stand more than `MAX_DEPTH` deep in one another.
     TooDeep,
-    /// The value weighs more than 1,048,576.
+    /// The value weighs more than `MAX_WEIGHT`.
     TooLarge,
-    NoMemory,
-}
-
-impl From<AllocError> for JsonFault {
-    ghost use Rattle.std.specs.Prelude.{◌≡◌};
-    ghost use Rattle.pg_value.specs.declared.json.JsonFault.TheVariants.{NoMemory};
-
-    ghost from_gives = { λ _ fault. fault ≡ NoMemory };
-
-    fn from(_: AllocError) -> Self {
-        JsonFault::NoMemory
-    }
 }
 
 /// The value of a JSON text. Of equal keys of an object the last stands.
-pub fn from_json(alloc: Global, bytes: &[u8]) -> Result<Value, JsonFault>
-    ensures { Answers (json_value bytes.now) result }
+pub fn from_json(alloc: Global, bytes: &[u8]) -> Result<Value, Failure<JsonFault>>
+    ensures { AnswersAs datum_of (json_value bytes.now) result }
 {
     let json = read(alloc, bytes)?;
     let value = converted(alloc, &json)?;
     if measures::depth(&value) > MAX_DEPTH {
-        return Err(JsonFault::TooDeep);
+        return Err(Failure::Fault(JsonFault::TooDeep));
     }
     if measures::weight(&value) > MAX_WEIGHT {
-        return Err(JsonFault::TooLarge);
+        return Err(Failure::Fault(JsonFault::TooLarge));
     }
     Ok(value)
 }
 
 // What the bytes are as JSON.
-fn read(alloc: Global, bytes: &[u8]) -> Result<serde_json::Value, JsonFault>
+fn read(alloc: Global, bytes: &[u8]) -> Result<serde_json::Value, Failure<JsonFault>>
     ensures ok { IfOk result (λ json. json_data bytes.now ≡ Some (view json)) }
     ensures err { IfErr result (λ fault. Refuses (json_data bytes.now) fault) }
 {
@@ -59,9 +50,9 @@ fn read(alloc: Global, bytes: &[u8]) -> Result<serde_json::Value, JsonFault>
         Ok(json) => Ok(json),
         Err(error) => {
             if error.is_memory() {
-                Err(JsonFault::NoMemory)
+                Err(Failure::NoMemory)
             } else {
-                Err(JsonFault::NotJson)
+                Err(Failure::Fault(JsonFault::NotJson))
             }
         }
     }
@@ -69,7 +60,7 @@ fn read(alloc: Global, bytes: &[u8]) -> Result<serde_json::Value, JsonFault>
 
 // The value of JSON data whose numbers are whole.
 #[cycle(converted)]
-fn converted(alloc: Global, json: &serde_json::Value) -> Result<Value, JsonFault>
+fn converted(alloc: Global, json: &serde_json::Value) -> Result<Value, Failure<JsonFault>>
     ensures { Converts (whole (view json.now)) result }
 {
     match json {
@@ -77,16 +68,21 @@ fn converted(alloc: Global, json: &serde_json::Value) -> Result<Value, JsonFault
         serde_json::Value::Bool(truth) => Ok(Value::Bool(*truth)),
         serde_json::Value::Number(number) => match number.as_i64() {
             Some(whole) => Ok(Value::Int(whole)),
-            None => Err(JsonFault::Decimal),
+            None => Err(Failure::Fault(JsonFault::Decimal)),
         },
         serde_json::Value::String(text) => Ok(Value::Text(Text::copy_of(alloc, text)?)),
         serde_json::Value::Array(items) => Ok(Value::List(converted_items(alloc, items)?)),
-        serde_json::Value::Object(members) => Ok(Value::Rec(converted_members(alloc, members)?)),
+        serde_json::Value::Object(members) => Ok(Value::Rec(Record::new(converted_members(
+            alloc, members,
+        )?)?)),
     }
 }
 
 #[cycle(converted)]
-fn converted_items(alloc: Global, items: &Vec<serde_json::Value>) -> Result<Values, JsonFault>
+fn converted_items(
+    alloc: Global,
+    items: &Vec<serde_json::Value>,
+) -> Result<Values, Failure<JsonFault>>
     ensures { ConvertsTo (whole_items (items_view items.now.items)) result }
 {
     let mut values = Vec::with_capacity(alloc, items.len())?;
@@ -95,14 +91,14 @@ fn converted_items(alloc: Global, items: &Vec<serde_json::Value>) -> Result<Valu
             .push(converted(alloc, item)?)
             .map_err(AllocError::from)?;
     }
-    Ok(Values::new(values))
+    Ok(Values::new(values)?)
 }
 
 #[cycle(converted)]
 fn converted_members(
     alloc: Global,
     members: &Map<String, serde_json::Value>,
-) -> Result<Attrs, JsonFault>
+) -> Result<Attrs, Failure<JsonFault>>
     ensures { ConvertsTo (whole_members (members_view members.now.entries)) result }
 {
     let mut entries = Vec::with_capacity(alloc, members.len())?;

@@ -1,7 +1,7 @@
 ghost use Rattle.std.specs.Prelude.{◌≡◌, IfOk};
 
-use crate::attrs::Attrs;
 use crate::equality;
+use crate::record::Record;
 use crate::values::Values;
 use pg_text::Text;
 use std::alloc::AllocError;
@@ -16,7 +16,7 @@ pub enum Value {
     Text(Text),
     List(Values),
     /// A record: values under distinct keys.
-    Rec(Attrs),
+    Rec(Record),
 }
 
 impl PartialEq for Value {
@@ -45,8 +45,7 @@ impl Eq for Value {
 }
 
 impl Value {
-    /// An equal value.
-    #[cycle(copy)]
+    /// An equal value, which shares the content.
     pub fn copy(&self) -> Result<Self, AllocError>
         ensures { IfOk result (λ copy. copy ≡ self.now) }
     {

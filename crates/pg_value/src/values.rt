@@ -6,85 +6,85 @@ ghost use Rattle.pg_value.specs.Weight.{weight_of};
 
 use crate::measures;
 use crate::value::Value;
-use std::alloc::AllocError;
+use std::alloc::{AllocError, Global};
 use std::marker::Model;
+use std::sync::Arc;
 
-/// The items of a list, in order. Contracts see the list of what they are.
+/// The items of a list, in order, shared by its copies, and beside them what the list weighs and how deep it is. Contracts see
+/// the list of what the items are.
 #[cycle(value)]
 #[derive(Drop)]
 pub struct Values {
-    items: Vec<Value>,
+    items: Arc<Vec<Value>>,
+    weight: u64,
+    depth: u32,
 }
 
 impl Model for Values {
     ghost use Rattle.std.specs.Prelude.{List, map};
-    ghost use Rattle.pg_value.specs.Datum.{Datum};
+    ghost use Rattle.pg_value.specs.Datum.{Datum, list, items_of};
     ghost use Rattle.pg_value.specs.DatumCode.{data_code};
 
     ghost Value = { List Datum };
 
     ghost coded = { data_code };
 
+    ghost use Rattle.pg_value.specs.Measured.{IsMeasured};
     ghost use Rattle.pg_value.specs.Size.{data_size};
     ghost use Rattle.pg_value.specs.Value.{datum_of};
 
-    ghost view = { λ v. map datum_of v.items.items };
+    ghost view = { λ v. map datum_of v.items.value.items };
+
+    ghost invariant = { λ v. IsMeasured (list (items_of (map datum_of v.items.value.items))) v.weight v.depth };
 
     ghost size = { data_size };
 
     ghost use Rattle.pg_value.specs.SizeFalls.{items_below};
 
-    ghost size_decreases = { λ v h. items_below v.items.items };
+    ghost size_decreases = { λ v h. items_below v.items.value.items };
 }
 
 impl Values {
     /// These items, without a copy.
-    pub fn new(items: Vec<Value>) -> Self
-        ensures { result ≡ map datum_of items.items }
+    pub fn new(items: Vec<Value>) -> Result<Self, AllocError>
+        ensures { IfOk result (λ made. made ≡ map datum_of items.items) }
     {
-        Values { items }
+        Ok(Values {
+            weight: measures::weight_of_items(&items),
+            depth: measures::depth_of_items(&items),
+            items: Arc::new(*items.allocator(), items)?,
+        })
     }
 
-    /// Equal items.
-    #[cycle(copy)]
+    /// Equal items, which are shared.
     pub fn copy(&self) -> Result<Self, AllocError>
         ensures { IfOk result (λ copy. copy ≡ self.now) }
     {
-        let mut items = Vec::with_capacity(*self.items.allocator(), self.items.len())?;
-        for item in &self.items {
-            items.push(item.copy()?)?;
-        }
-        Ok(Values { items })
+        Ok(Values {
+            items: Arc::try_clone(&self.items)?,
+            weight: self.weight,
+            depth: self.depth,
+        })
     }
 
-    /// The weight of the list.
-    #[cycle(weight)]
+    /// The weight of the list, which is kept.
     pub fn weight(&self) -> u64
         ensures { result ≡ min (weight_of (list (items_of self.now))) (2 ^ 64 - 1) }
     {
-        let mut weight: u64 = 16;
-        for item in &self.items {
-            weight = weight.saturating_add(measures::weight(item));
-        }
-        weight
+        self.weight
     }
 
-    /// The depth of the list.
-    #[cycle(depth)]
+    /// The depth of the list, which is kept.
     pub fn depth(&self) -> u32
         ensures { result ≡ min (depth_of (list (items_of self.now))) (2 ^ 32 - 1) }
     {
-        let mut deepest: u32 = 0;
-        for item in &self.items {
-            deepest = deepest.max(measures::depth(item));
-        }
-        deepest.saturating_add(1)
+        self.depth
     }
 
     pub fn as_slice(&self) -> &[Value]
         ensures { map datum_of result.now ≡ self.now }
     {
-        &self.items
+        self.items.as_slice()
     }
 
     pub fn len(&self) -> usize
@@ -99,10 +99,24 @@ impl Values {
         self.items.is_empty()
     }
 
-    /// The items, without a copy.
-    pub fn into_vec(self) -> Vec<Value>
-        ensures { map datum_of result.items ≡ self }
+    /// The items, whose list is copied only where other values share it.
+    pub fn into_vec(self) -> Result<Vec<Value>, AllocError>
+        ensures { IfOk result (λ items. map datum_of items.items ≡ self) }
     {
-        self.items
+        match Arc::try_unwrap(self.items) {
+            Ok(items) => Ok(items),
+            Err(shared) => copied(*shared.allocator(), shared.as_slice()),
+        }
     }
+}
+
+// Equal items.
+fn copied(alloc: Global, items: &[Value]) -> Result<Vec<Value>, AllocError>
+    ensures { IfOk result (λ copy. copy.items ≡ items.now) }
+{
+    let mut copy = Vec::with_capacity(alloc, items.len())?;
+    for item in items {
+        copy.push(item.copy()?)?;
+    }
+    Ok(copy)
 }

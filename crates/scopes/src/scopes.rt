@@ -1,11 +1,11 @@
 ghost use Rattle.std.specs.Prelude.{◌≡◌, ◌<◌, [], length, option_map, unwrap_or, IsNone, OnOk, OnErr, IfOk};
-ghost use Rattle.pg_value.specs.RunFault.{Answers};
+ghost use Rattle.pg_text.specs.Failure.{Answers};
 ghost use Rattle.pg_value.specs.Value.{datum_of};
 ghost use Rattle.scopes.specs.Scopes.{starting, entries_in, found_in, found, with_variable, without_variable, set_answer, record_answer, with_frame, without_frame, turned_to, with_session};
 
 use crate::attributes;
-use crate::scope::Scope;
-use pg_value::{Attrs, RunFault, Text, Value};
+use crate::held_scope::HeldScope;
+use pg_value::{Attrs, Failure, Record, RunFault, Text, Value};
 use std::alloc::{AllocError, Global};
 use std::marker::Model;
 
@@ -53,34 +53,39 @@ impl Scopes {
     pub fn find(&self, name: &str) -> Option<&Value>
         ensures { option_map (λ value. datum_of value.now) result ≡ found self.now name.now }
     {
-        self.find_in(Scope::Page, name)
-            .or_else(|| self.find_in(Scope::Request, name))
-            .or_else(|| self.find_in(Scope::Session, name))
+        self.find_in(HeldScope::Page, name)
+            .or_else(|| self.find_in(HeldScope::Request, name))
+            .or_else(|| self.find_in(HeldScope::Session, name))
     }
 
     /// What stands under the name in this scope.
-    pub fn find_in(&self, scope: Scope, name: &str) -> Option<&Value>
+    pub fn find_in(&self, scope: HeldScope, name: &str) -> Option<&Value>
         ensures { option_map (λ value. datum_of value.now) result ≡ found_in self.now scope name.now }
     {
         self.entries(scope)?.get(name)
     }
 
-    /// Puts the value under the name, in the place of what stood there. Fault 13 in session scope without a session, and 21
+    /// Puts the value under the name, in the place of what stood there. X13 in session scope without a session, and X21
     /// where the session's attributes would weigh over [`MAX_SESSION_WEIGHT`](crate::MAX_SESSION_WEIGHT).
-    pub fn set(&mut self, scope: Scope, name: &Text, value: Value) -> Result<(), RunFault>
+    pub fn set(
+        &mut self,
+        scope: HeldScope,
+        name: &Text,
+        value: Value,
+    ) -> Result<(), Failure<RunFault>>
         ensures answer { Answers (set_answer self.old scope name.now (datum_of value)) result }
         ensures ok { OnOk result (self.new ≡ with_variable self.old scope name.now (datum_of value)) }
         ensures err { OnErr result (self.new ≡ self.old) }
     {
         match scope {
-            Scope::Page => {
+            HeldScope::Page => {
                 let frame = &mut self.frames[self.current as usize];
                 frame.insert(name.copy()?, value)?;
             }
-            Scope::Request => self.request.insert(name.copy()?, value)?,
-            Scope::Session => {
+            HeldScope::Request => self.request.insert(name.copy()?, value)?,
+            HeldScope::Session => {
                 let Some(session) = &mut self.session else {
-                    return Err(RunFault::X(13));
+                    return Err(Failure::Fault(RunFault::NoSession));
                 };
                 attributes::keep(session, name, value)?;
             }
@@ -89,16 +94,16 @@ impl Scopes {
     }
 
     /// Takes out what stands under the name in this scope.
-    pub fn remove(&mut self, scope: Scope, name: &str)
+    pub fn remove(&mut self, scope: HeldScope, name: &str)
         ensures { self.new ≡ without_variable self.old scope name.now }
     {
         match scope {
-            Scope::Page => {
+            HeldScope::Page => {
                 let frame = &mut self.frames[self.current as usize];
                 frame.remove(name);
             }
-            Scope::Request => self.request.remove(name),
-            Scope::Session => {
+            HeldScope::Request => self.request.remove(name),
+            HeldScope::Session => {
                 if let Some(session) = &mut self.session {
                     session.remove(name);
                 }
@@ -106,17 +111,24 @@ impl Scopes {
         }
     }
 
-    /// The scope as a record, which is empty for an absent session. Fault 20 where it is too heavy or too deep.
-    pub fn as_rec(&self, scope: Scope) -> Result<Value, RunFault>
+    /// The scope as a record, which is empty for an absent session. X20 where it is too heavy or too deep.
+    pub fn as_rec(&self, scope: HeldScope) -> Result<Value, Failure<RunFault>>
         ensures { Answers (record_answer (unwrap_or (entries_in self.now scope) [])) result }
     {
         let Some(entries) = self.entries(scope) else {
-            return Ok(Value::Rec(Attrs::empty(*self.frames.allocator())));
+            return Ok(Value::Rec(Record::new(Attrs::empty(*self.frames.allocator()))?));
         };
         if attributes::is_too_large(entries) {
-            return Err(RunFault::X(20));
+            return Err(Failure::Fault(RunFault::ValueTooLarge));
         }
-        Ok(Value::Rec(entries.copy()?))
+        Ok(Value::Rec(Record::new(entries.copy()?)?))
+    }
+
+    /// The number of frames.
+    pub fn frames(&self) -> u64
+        ensures { result ≡ length self.now.frames }
+    {
+        self.frames.len() as u64
     }
 
     /// Puts an empty frame behind the others, and makes it current. A frame whose number is over the greatest `u32` is
@@ -179,13 +191,13 @@ impl Scopes {
     }
 
     // The entries of a scope, or None for an absent session.
-    fn entries(&self, scope: Scope) -> Option<&Attrs>
+    fn entries(&self, scope: HeldScope) -> Option<&Attrs>
         ensures { option_map (λ entries. entries.now) result ≡ entries_in self.now scope }
     {
         match scope {
-            Scope::Page => Some(&self.frames[self.current as usize]),
-            Scope::Request => Some(&self.request),
-            Scope::Session => self.session.as_ref(),
+            HeldScope::Page => Some(&self.frames[self.current as usize]),
+            HeldScope::Request => Some(&self.request),
+            HeldScope::Session => self.session.as_ref(),
         }
     }
 }

@@ -1,11 +1,11 @@
 use Rattle.std.proofs.Common.{Ok, rules}
-use Rattle.pg_value.specs.RunFault.{Answers}
+use Rattle.pg_text.specs.Failure.{Answers}
 use Rattle.pg_value.specs.Value.{datum_of}
 use Rattle.el_coercion.specs.Text.{text_of}
 use Rattle.el_coercion.proofs.Printed.{reads_back}
 use Rattle.el_coercion.proofs.text.to_text.Goals as goal
 
-pub returns-in_ok-inner_text-in-Bool-clause-reads_back : goal.returns-in_ok-inner_text-in-Bool-clause-reads_back
-returns-in_ok-inner_text-in-Bool-clause-reads_back c =
-    let answers : Answers (text_of (datum_of c.args.value.now)) (Ok c.new-in-Bool.result) = search rules in
-    reads_back c.args.value.now (Ok c.new-in-Bool.result) answers
+pub returns-in_ok-new-in-Bool-clause-reads_back : goal.returns-in_ok-new-in-Bool-clause-reads_back
+returns-in_ok-new-in-Bool-clause-reads_back c =
+    let answers : Answers (text_of (datum_of c.args.value.now)) (Ok c.in_ok-new-in-Bool.field-0) = search rules in
+    reads_back c.args.value.now (Ok c.in_ok-new-in-Bool.field-0) answers

@@ -1,0 +1,7 @@
+//! Tests of the words of texts, paths and faults.
+#![tactic(auto)]
+
+#[cfg(test)]
+mod paths;
+#[cfg(test)]
+mod texts;

@@ -1,0 +1,12 @@
+use Rattle.std.proofs.Common.{◌≡◌, ◌+◌, ◌-◌, ◌^◌, ◌≤◌, min, map, drop}
+use Rattle.pg_value.specs.Datum.{entries_of}
+use Rattle.pg_value.specs.Value.{entry_of}
+use Rattle.pg_value.specs.Weight.{entries_weight}
+use Rattle.pg_value.proofs.measures.weight_of_entries.Given as goal
+
+abbrev pub invariant-loop-key : goal.invariant-loop-key
+invariant-loop-key l = record {
+  fits : l.sum ≤ 2 ^ 64 - 1;
+  sum : min (l.sum + entries_weight (entries_of (map entry_of (drop l.key-index l.entries)))) (2 ^ 64 - 1)
+      ≡ min (16 + entries_weight (entries_of (map entry_of l.entries))) (2 ^ 64 - 1);
+}
