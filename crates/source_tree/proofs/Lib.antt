@@ -1,7 +1,5 @@
 mod EditLemmas
-mod ListLemmas
-mod OrderLemmas
+pub mod OrderLemmas
 mod PathLemmas
-mod PlaceLemmas
 pub mod LimitLemmas
-mod LawLemmas
+pub mod LawLemmas

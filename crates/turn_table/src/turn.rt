@@ -1,7 +1,7 @@
 ghost use Rattle.std.specs.Prelude.{◌≡◌, ℕ, ◌^◌, ◌%◌, [], ◌∷◌, ◌++◌, true, false, Some, None};
-ghost use Rattle.turn_table.specs.Acted.{MatchActed, IsDid};
-ghost use Rattle.turn_table.specs.Calls.{Acts, Stays};
-ghost use Rattle.turn_table.specs.History.{IsFront, own};
+ghost use Rattle.edges.specs.Acted.{MatchActed, IsDid};
+ghost use Rattle.edges.specs.Calls.{Acts, Stays};
+ghost use Rattle.edges.specs.History.{IsFront, own};
 ghost use Rattle.turn_table.specs.Steps.{IsSeatOf, MayTake, MayEnter, MayHandOn, Sees};
 ghost use Rattle.turn_table.specs.View.{IsIdle, IsLegal, resting};
 
@@ -10,6 +10,7 @@ use crate::rule::{COUNT, SERVING, TICKET, TurnSeat, TurnTable, VALUE};
 use crate::steps::{Await, Draw, Enter, HandOn, Take};
 use edges::Acted;
 use std::sync::Wait;
+use std::thread;
 
 // One operation in its turn. The turn is handed on whatever the operation comes to.
 pub fn act<O: Object, R: Wait>(
@@ -103,7 +104,8 @@ fn draw<O: Object>(table: &TurnTable<O>, seat: &mut TurnSeat<O>) -> u64
     table.shared.fetch_add::<Draw<O>>(seat, TICKET, 1)
 }
 
-// Looks at the ticket that is served until it is this one.
+// Looks at the ticket that is served until it is this one. Between two looks another thread may run, so that the thread
+// whose turn it is isn't kept from it where there are more threads than processors.
 fn await_turn<O: Object, R: Wait>(rt: &R, table: &TurnTable<O>, seat: &mut TurnSeat<O>, ticket: u64)
     requires table { IsSeatOf table.now.shared.table_id seat.old.table_id }
     requires ticket { (t : ℕ) × (ticket ≡ t % 2 ^ 64) × (seat.old.me.0.ticket ≡ Some t) }
@@ -116,6 +118,7 @@ fn await_turn<O: Object, R: Wait>(rt: &R, table: &TurnTable<O>, seat: &mut TurnS
         if table.shared.load::<Await<O>>(seat, SERVING) == ticket {
             return;
         }
+        thread::yield_now();
     }
     unreachable!()
 }

@@ -1,7 +1,7 @@
 ghost use Rattle.std.specs.Prelude.{◌≡◌, ℕ, ◌≤◌, List, length, All, IfOk};
-ghost use Rattle.turn_table.specs.Acted.{MatchActed, IsDid};
-ghost use Rattle.turn_table.specs.Calls.{Acts, Stays};
-ghost use Rattle.turn_table.specs.History.{IsFront, own};
+ghost use Rattle.edges.specs.Acted.{MatchActed, IsDid};
+ghost use Rattle.edges.specs.Calls.{Acts, Stays};
+ghost use Rattle.edges.specs.History.{IsFront, own};
 ghost use Rattle.turn_table.specs.Passes.{AreAll, IsPassOf, IsNoteOf, newcomers};
 
 use crate::note::Note;
@@ -42,6 +42,7 @@ impl<O: Object> Turns<O> {
         requires few { passes ≤ 64 }
         ensures turns { IfOk result (λ made. (made.0.passes ≡ passes) × (made.0.opening ≡ O.opening object)) }
         ensures passes { IfOk result (λ made. made.1.items ≡ newcomers made.0 (O.history object)) }
+        ensures from { IfOk result (λ made. All (IsPassOf made.0) made.1.items) }
     {
         let mut all = Vec::with_capacity(alloc, usize::from(passes))?;
         let (table, seat) = seat::start(alloc, object, passes)?;

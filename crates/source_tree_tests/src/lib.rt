@@ -1,0 +1,5 @@
+//! Tests of trees and of the edits that make them.
+#![tactic(auto)]
+
+#[cfg(test)]
+mod tests;

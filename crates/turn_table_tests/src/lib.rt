@@ -1,0 +1,5 @@
+//! Tests of turns, alone and in threads.
+#![tactic(auto)]
+
+#[cfg(test)]
+mod tests;
