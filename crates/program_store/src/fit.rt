@@ -1,0 +1,42 @@
+ghost use Rattle.std.specs.Prelude.{◌≡◌};
+ghost use Rattle.site_words.specs.Trees.{agrees, meets, opt_eq, stamp_of};
+
+use pg_text::Names;
+use site_words::{Compiled, Need};
+use source_tree::Tree;
+
+/// Whether the needs of a value stand so in the tree.
+pub fn fits<P: Compiled>(made: &P, tree: &Tree) -> bool
+    ensures { result ≡ agrees (P.needed made.now) tree.now }
+{
+    agree(made.stamps().as_slice(), tree)
+}
+
+fn agree(needs: &[Need], tree: &Tree) -> bool
+    ensures { result ≡ agrees needs.now tree.now }
+{
+    for need in needs {
+        if !stands(need, tree) {
+            return false;
+        }
+    }
+    true
+}
+
+// Whether the name stands so in the tree.
+fn stands(need: &Need, tree: &Tree) -> bool
+    ensures { result ≡ opt_eq (stamp_of need.now.name tree.now) need.now.stamp }
+{
+    match (tree.get(&need.name), need.stamp) {
+        (Some(file), Some(stamp)) => file.stamp == stamp,
+        (None, None) => true,
+        _ => false,
+    }
+}
+
+// Whether a need has one of the names.
+pub(crate) fn meets(needs: &[Need], names: &Names) -> bool
+    ensures { result ≡ meets needs.now names.now }
+{
+    needs.iter().any(|need| names.contains(&need.name))
+}

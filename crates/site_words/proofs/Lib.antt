@@ -1,0 +1,15 @@
+pub mod Items
+pub mod Lasting
+pub mod Trees
+pub mod OneHistory
+pub mod StoreLaw
+pub mod Legal
+pub mod Promise
+pub mod Numbers
+pub mod Good
+pub mod Sound
+pub mod Gifts
+pub mod Charge
+pub mod Apart
+pub mod Counts
+pub mod RunTree

@@ -1,0 +1,44 @@
+//! The laws of legal histories, each a clause of a function without a body of its own.
+ghost use Rattle.site_words.specs.Laws.{BeginsLatest, DoneIsLegal, FitsMay, MayFits, MayLasts, NeedsStand, NeverBusyAlone, NeverOlder, NextIsSound, OrderStays, OwnDecides, PromisesAreKept, RequestsHaveTheirTrees, RollsOver, SessionsAreApart, SessionsAreGood, StampsNameFiles, StampsNameTexts, SureLasts, TreeIsSound, UnchangedStands, VersionCounts};
+
+/// What a pass may do is decided by its own entries and by what is published, and lasts until it acts.
+pub fn passes()
+    ensures decides { OwnDecides }
+    ensures may_lasts { MayLasts }
+    ensures sure_lasts { SureLasts }
+    ensures may_fits { MayFits }
+    ensures fits_may { FitsMay }
+    ensures done { DoneIsLegal }
+{}
+
+/// Versions count the publishings, and a stamp names the one version that put a text.
+pub fn versions()
+    ensures counts { VersionCounts }
+    ensures latest { BeginsLatest }
+    ensures older { NeverOlder }
+    ensures requests { RequestsHaveTheirTrees }
+    ensures texts { StampsNameTexts }
+    ensures files { StampsNameFiles }
+    ensures limits { TreeIsSound }
+    ensures order { OrderStays }
+{}
+
+/// What no edit changes stands as before, and so does what needs only such names.
+pub fn changes()
+    ensures names { UnchangedStands }
+    ensures needs { NeedsStand }
+{}
+
+/// A request can always end, and a session is held by one request at most.
+pub fn requests()
+    ensures promises { PromisesAreKept }
+    ensures sessions { SessionsAreGood }
+    ensures apart { SessionsAreApart }
+    ensures alone { NeverBusyAlone }
+{}
+
+/// Histories go on from a Roll as one.
+pub fn rollover()
+    ensures one { RollsOver }
+    ensures sound { NextIsSound }
+{}

@@ -1,0 +1,114 @@
+ghost use Rattle.std.specs.Prelude.{◌≡◌, ◌+◌, ◌-◌, ◌^◌, ◌≤◌, nat_lt, min, length};
+ghost use Rattle.site_words.specs.Weights.{capped, text_weight, edit_weight, edits_weight, names_weight, step_weight, answer_weight, op_weight, reply_weight, weight_with};
+
+use crate::words::{AppReply, AppStep, Entry, Op, Reply};
+use pg_text::Names;
+use source_tree::{Edit, Edits};
+
+fn text_weight(bytes: usize) -> u64
+    ensures { result ≡ capped (16 + bytes) }
+{
+    (bytes as u64).saturating_add(16)
+}
+
+fn edit_weight(edit: &Edit) -> u64
+    ensures { result ≡ capped (edit_weight edit.now) }
+{
+    match edit {
+        Edit::Put(path, text) => {
+            text_weight(path.as_bytes().len()).saturating_add(text_weight(text.len()))
+        }
+        Edit::Delete(path) => text_weight(path.as_bytes().len()),
+    }
+}
+
+fn edits_weight(edits: &Edits) -> u64
+    ensures { result ≡ capped (edits_weight edits.now) }
+{
+    let mut weight: u64 = 0;
+    for edit in edits.as_slice() {
+        weight = weight.saturating_add(edit_weight(edit));
+    }
+    weight
+}
+
+fn names_weight(names: &Names) -> u64
+    ensures { result ≡ capped (names_weight names.now) }
+{
+    let mut weight: u64 = 0;
+    for name in names.as_slice() {
+        weight = weight.saturating_add(text_weight(name.as_bytes().len()));
+    }
+    weight
+}
+
+fn step_weight(step: &AppStep) -> u64
+    ensures { result ≡ capped (step_weight step.now) }
+{
+    match step {
+        AppStep::Get(name) => text_weight(name.len()),
+        AppStep::Set(name, value) => {
+            text_weight(name.len()).saturating_add(pg_value::weight(value))
+        }
+        AppStep::Remove(name) => text_weight(name.len()),
+        AppStep::Ensure(name, value) => {
+            text_weight(name.len()).saturating_add(pg_value::weight(value))
+        }
+        AppStep::All => 0,
+    }
+}
+
+/// The weight of an operation, which stops at the greatest `u64`.
+pub fn op_weight(op: &Op) -> u64
+    ensures { result ≡ capped (op_weight op.now) }
+{
+    match op {
+        Op::Publish { base: _, edits } => edits_weight(edits).saturating_add(64),
+        Op::Begin { cookie, moment: _ } => text_weight(cookie.len()).saturating_add(64),
+        Op::App { request: _, step } => step_weight(step).saturating_add(64),
+        Op::Fresh { .. } => 64,
+        Op::Fetch { request: _, path } => text_weight(path.as_bytes().len()).saturating_add(64),
+        Op::Offer { request: _, path } => text_weight(path.as_bytes().len()).saturating_add(64),
+        Op::End { request: _, attrs } => attrs.weight().saturating_add(64),
+        Op::Abandon { .. } => 64,
+        Op::Snapshot { cookie } => text_weight(cookie.len()).saturating_add(64),
+        Op::Roll => 0,
+    }
+}
+
+fn answer_weight(answer: &AppReply) -> u64
+    ensures { result ≡ capped (answer_weight answer.now) }
+{
+    match answer {
+        AppReply::Value(value) => pg_value::weight(value),
+        AppReply::Done => 0,
+        AppReply::Created => 0,
+        AppReply::Large { .. } => 0,
+    }
+}
+
+/// The weight of a reply, which stops at the greatest `u64`.
+pub fn reply_weight(reply: &Reply) -> u64
+    ensures { result ≡ capped (reply_weight reply.now) }
+{
+    match reply {
+        Reply::Published { version: _, dirty } => names_weight(dirty),
+        Reply::App(answer) => answer_weight(answer),
+        _ => 0,
+    }
+}
+
+/// The weight of an entry, which stops at the greatest `u64`.
+pub fn entry_weight(entry: &Entry) -> u64
+    ensures { result ≡ capped (weight_with entry.now.op entry.now.reply) }
+{
+    op_weight(&entry.op).saturating_add(reply_weight(&entry.reply))
+}
+
+/// Whether a claim is over what a limit leaves beside what is taken.
+pub fn is_over(limit: u64, taken: u64, claim: u64) -> bool
+    requires { taken ≤ limit }
+    ensures { result ≡ nat_lt limit (taken + claim) }
+{
+    limit - taken < claim
+}

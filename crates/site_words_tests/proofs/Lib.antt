@@ -1,0 +1,2 @@
+pub mod AtLimitsCases
+pub mod WorkedCases

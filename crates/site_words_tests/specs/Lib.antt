@@ -1,0 +1,3 @@
+pub mod AtLimits
+pub mod Run
+pub mod Worked
