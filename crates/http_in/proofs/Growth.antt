@@ -2,7 +2,10 @@
 use Rattle.std.proofs.Common.{◌≤◌, ◌+◌, ℕ, List, [], ◌∷◌, ◌++◌, length, take, drop, refl, sym, ap, subst, ◌∙◌, arith, length-append}
 use Rattle.std.proofs.lemmas.List.{take-append-le, drop-append-le, length-drop}
 use Rattle.http_in.specs.declared.request.Request.{Request}
-use Rattle.http_in.specs.Head.{IsGoodHead, request_of}
+use Rattle.http_in.specs.declared.fault.HttpFault.{HttpFault}
+use Rattle.http_in.specs.Fields.{fields_of}
+use Rattle.http_in.specs.Head.{IsGoodHead, IsBadHead}
+use Rattle.http_in.specs.Request.{request_of}
 use Rattle.http_in.specs.HeadEnd.{head_len}
 use Rattle.http_in.specs.Requests.{StandsFirst, HasNoHead, HasBadHead, Front}
 use Rattle.http_in.proofs.HeadEnds.{front_grows, front_full, head_fits}
@@ -21,7 +24,7 @@ stands_grows bytes more request rest stands =
       ends = front_grows bytes more stands.len stands.ends;
       is_good = subst (λ front. IsGoodHead front stands.head stands.size) (sym front) stands.is_good;
       whole = omega (arith, length-append bytes more, stands.whole);
-      request_is = stands.request_is ∙ ap (request_of stands.head) (sym body);
+      request_is = stands.request_is ∙ ap (request_of stands.head.method stands.head.target (fields_of stands.head)) (sym body);
       rest_is = ap (λ after. after ++ more) stands.rest_is ∙ sym (drop-append-le (stands.len + stands.size) bytes more stands.whole);
     }
 
@@ -45,11 +48,11 @@ no_head_grows bytes more has = record {
 }
 
 -- a bad head is one too where more bytes follow
-pub bad_head_grows : (bytes more : List ℕ) → HasBadHead bytes → HasBadHead (bytes ++ more)
-bad_head_grows bytes more has =
+pub bad_head_grows : (bytes more : List ℕ) (fault : HttpFault) → HasBadHead bytes fault → HasBadHead (bytes ++ more) fault
+bad_head_grows bytes more fault has =
     let front = take-append-le has.len bytes more (head_fits bytes has.len has.ends) in
     record {
       len = has.len;
       ends = front_grows bytes more has.len has.ends;
-      bad = λ head size is. has.bad head size (subst (λ front. IsGoodHead front head size) front is);
+      bad = subst (λ front. IsBadHead front fault) (sym front) has.bad;
     }

@@ -10,7 +10,7 @@ use Rattle.std.proofs.lemmas.Slice.Eq.{bytes_eq-Decides}
 use Rattle.http_in.specs.HeadEnd.{empty_line, skip_pairs, through_empty_line, head_len, front_of}
 
 -- what is mapped to a value was a value
-mapped : (f : ℕ → ℕ) (o : Option ℕ) (n : ℕ) → option_map f o ≡ Some n → (m : ℕ) × (o ≡ Some m) × (f m ≡ n)
+pub mapped : (f : ℕ → ℕ) (o : Option ℕ) (n : ℕ) → option_map f o ≡ Some n → (m : ℕ) × (o ≡ Some m) × (f m ≡ n)
 mapped f None n e = absurd (cc)
 mapped f (Some m) n e = (m, refl, cc)
 
@@ -21,7 +21,7 @@ empty_line_fits bytes at =
     omega (arith, length-take 4 bytes, ap length same)
 
 -- bytes with an empty line in them are at least four
-found_fits : (bytes : List ℕ) (n : ℕ) → through_empty_line bytes ≡ Some n → 4 ≤ length bytes
+pub found_fits : (bytes : List ℕ) (n : ℕ) → through_empty_line bytes ≡ Some n → 4 ≤ length bytes
 found_fits [] n found = absurd (cc)
 found_fits (b ∷ bytes) n found = go (λ m e. found_fits bytes m e) (starts_with nat_eq (b ∷ bytes) empty_line) refl found
   where
@@ -51,7 +51,7 @@ found_grows (b ∷ bytes) more n found = go (λ m e. found_grows bytes more m e)
         rw (same ∙ is, further m.0 m.1) (ap Some m.2)
 
 -- more bytes behind don't change what is skipped, where two bytes stand after it
-skip_grows : (bytes more : List ℕ) → 2 ≤ length (skip_pairs bytes) → skip_pairs (bytes ++ more) ≡ skip_pairs bytes ++ more
+pub skip_grows : (bytes more : List ℕ) → 2 ≤ length (skip_pairs bytes) → skip_pairs (bytes ++ more) ≡ skip_pairs bytes ++ more
 skip_grows [] more long = absurd (omega arith)
 skip_grows (b ∷ []) more long = absurd (omega arith)
 skip_grows (b ∷ c ∷ bytes) more long = go (λ rest. skip_grows bytes more rest) ((nat_eq b 13) && (nat_eq c 10)) long
@@ -108,7 +108,7 @@ found_ends (b ∷ bytes) n found = go (λ m e. found_ends bytes m e) (starts_wit
         omega (arith, further m.0 m.1, m.2)
 
 -- what stands after the pairs is no longer than all
-skipped_fits : (bytes : List ℕ) → length (skip_pairs bytes) ≤ length bytes
+pub skipped_fits : (bytes : List ℕ) → length (skip_pairs bytes) ≤ length bytes
 skipped_fits [] = omega arith
 skipped_fits (b ∷ []) = omega arith
 skipped_fits (b ∷ c ∷ bytes) = go (skipped_fits bytes) ((nat_eq b 13) && (nat_eq c 10))

@@ -1,9 +1,14 @@
 pub mod Answered
+pub mod Cookies
 pub mod FieldLemmas
+pub mod FoundHeads
 pub mod GoodHeads
 pub mod Growth
 pub mod HeadEnds
 pub mod Moving
+pub mod Near
 pub mod OneCut
+pub mod Places
+pub mod Scans
 pub mod Sizes
 pub mod Tokens

@@ -1,91 +1,112 @@
 -- Bytes are cut into requests in one way.
-use Rattle.std.proofs.Common.{◌≡◌, ◌≢◌, ◌+◌, inl, inr, ℕ, List, [], ◌∷◌, take, drop, Some, refl, sym, ap, subst, ◌∙◌, arith}
+use Rattle.std.proofs.Common.{◌≡◌, ◌≢◌, ◌≤◌, ◌<◌, ◌+◌, ◌⊎◌, true, false, cond, inl, inr, ℕ, List, [], ◌∷◌, length, take, drop, Option, Some, None, refl, sym, ap, subst, ◌∙◌, arith}
+use Rattle.std.specs.Prelude.{nat_eq, nat_le}
+use Rattle.std.proofs.lemmas.Bool.Decides.{nat_tests}
 use Rattle.httparse.specs.Grammar.{RequestHead}
-use Rattle.std.specs.Prelude.{codes}
-use Rattle.httparse.proofs.GrammarLemmas.{request_unique}
+use Rattle.http_in.specs.declared.fault.HttpFault.{HttpFault}
 use Rattle.http_in.specs.declared.fault.HttpFault.TheVariants as http
 use Rattle.http_in.specs.declared.request.Request.{Request}
-use Rattle.http_in.specs.Fields.{values_of, GivesSize}
-use Rattle.http_in.specs.Head.{IsGoodHead, fields_of, request_of}
-use Rattle.http_in.specs.HeadEnd.{head_len, front_of}
+use Rattle.http_in.specs.Fields.{fields_of}
+use Rattle.http_in.specs.Head.{IsGoodHead, IsBadHead}
+use Rattle.http_in.specs.HeadEnd.{head_len, front_of, skip_pairs}
 use Rattle.http_in.specs.Law.{HasOneCut}
-use Rattle.http_in.proofs.Sizes.{one_size, some_same}
+use Rattle.http_in.specs.Request.{request_of}
 use Rattle.http_in.specs.Requests.{StandsFirst, StopsAt, Stop, Ended, Full, Faulted, Front, EndsInBody, HasBadHead}
+use Rattle.http_in.proofs.GoodHeads.{one_head, one_size, good_not_bad, one_fault}
 
--- the name of the fields that give the size
-abbrev content_length : List ℕ
-content_length = codes "content-length"
-
--- bytes are one good head, of one size
-one_head : (bytes : List ℕ) (h k : RequestHead) (n m : ℕ) → IsGoodHead bytes h n → IsGoodHead bytes k m → (h ≡ k) × (n ≡ m)
-one_head bytes h k n m is also =
-    let same : h ≡ k = (request_unique bytes h k [] [] is.reads also.reads).0 in
-    (same, one_size (values_of content_length (fields_of k)) n m (subst (λ head. GivesSize (values_of content_length (fields_of head)) n) same is.body) also.body)
+-- two answers with one value
+some_same : (n m : ℕ) → ◌≡◌ {A = Option ℕ} (Some n) (Some m) → n ≡ m
+some_same n m e = cc
 
 -- the head and the size are those of the bytes
 one_start : (bytes : List ℕ) (len len' : ℕ) (h k : RequestHead) (n m : ℕ) → head_len (front_of bytes) ≡ Some len → head_len (front_of bytes) ≡ Some len'
     → IsGoodHead (take len bytes) h n → IsGoodHead (take len' bytes) k m → (len ≡ len') × (h ≡ k) × (n ≡ m)
 one_start bytes len len' h k n m ends ends' is also =
     let same = some_same len len' (sym ends ∙ ends') in
-    let both = one_head (take len bytes) h k n m is (subst (λ l. IsGoodHead (take l bytes) k m) (sym same) also) in
-    (same, both.0, both.1)
+    let good : IsGoodHead (take len bytes) k m = subst (λ l. IsGoodHead (take l bytes) k m) (sym same) also in
+    (same, one_head (take len bytes) h k is.is_head good.is_head, one_size (take len bytes) h k n m is good)
+
+-- the request that a head and so many bytes behind it make
+abbrev request_at : List ℕ → ℕ → RequestHead → ℕ → Request
+request_at bytes len head size = request_of head.method head.target (fields_of head) (take size (drop len bytes))
 
 -- one request stands first, and one rest comes after it
-pub one_first : (bytes : List ℕ) (request other rest after : _) → StandsFirst bytes request rest → StandsFirst bytes other after → (request ≡ other) × (rest ≡ after)
+pub one_first : (bytes : List ℕ) (request other : Request) (rest after : List ℕ) → StandsFirst bytes request rest → StandsFirst bytes other after → (request ≡ other) × (rest ≡ after)
 one_first bytes request other rest after a b =
     let same = one_start bytes a.len b.len a.head b.head a.size b.size a.ends b.ends a.is_good b.is_good in (
-      a.request_is ∙ ap (λ h. request_of h (take a.size (drop a.len bytes))) same.1 ∙ ap (λ n. request_of b.head (take n (drop a.len bytes))) same.2 ∙ ap (λ l. request_of b.head (take b.size (drop l bytes))) same.0 ∙ sym b.request_is,
+      a.request_is ∙ ap (λ h. request_at bytes a.len h a.size) same.1 ∙ ap (λ n. request_at bytes a.len b.head n) same.2 ∙ ap (λ l. request_at bytes l b.head b.size) same.0 ∙ sym b.request_is,
       a.rest_is ∙ ap (λ n. drop n bytes) (let e : a.len + a.size ≡ b.len + b.size = omega (arith, same.0, same.2) in e) ∙ sym b.rest_is,
     )
 
--- where a request stands, nothing stops
-pub first_goes_on : (bytes : List ℕ) (request : Request) (rest : List ℕ) (stop : Stop) → StandsFirst bytes request rest → StopsAt stop bytes → stop ≢ Full → ⊥
-first_goes_on bytes request rest Ended stands stops not_full = let a = stands.ends in let b = stops.ends in cc
-first_goes_on bytes request rest Full stands stops not_full = not_full refl
-first_goes_on bytes request rest (Faulted http.HeadTooLarge) stands stops not_full = let a = stands.ends in let b = stops.ends in cc
-first_goes_on bytes request rest (Faulted http.BadHead) stands stops not_full =
-    stops.bad stands.head stands.size (subst (λ l. IsGoodHead (take l bytes) stands.head stands.size) (some_same stands.len stops.len (sym stands.ends ∙ stops.ends)) stands.is_good)
-first_goes_on bytes request rest (Faulted http.CutOff) stands (inl in_head) not_full = let a = stands.ends in let b = in_head.ends in cc
-first_goes_on bytes request rest (Faulted http.CutOff) stands (inr in_body) not_full =
-    let same = one_start bytes stands.len in_body.len stands.head in_body.head stands.size in_body.size stands.ends in_body.ends stands.is_good in_body.is_good in
-    absurd (omega (arith, same.0, same.2, stands.whole, in_body.short))
-first_goes_on bytes request rest (Faulted http.ReadFault) stands stops not_full = stops
-first_goes_on bytes request rest (Faulted http.NoMemory) stands stops not_full = stops
+-- what stops where no head ends
+abbrev bare_stop : List ℕ → Stop
+bare_stop bytes = cond (nat_le 16384 (length bytes)) (Faulted http.HeadTooLarge) (cond (nat_eq (length (skip_pairs bytes)) 0) Ended (Faulted http.CutOff))
 
--- bytes that end inside a body have no bad head
-body_not_bad : (bytes : List ℕ) → EndsInBody bytes → HasBadHead bytes → ⊥
-body_not_bad bytes body bad = bad.bad body.head body.size (subst (λ l. IsGoodHead (take l bytes) body.head body.size) (some_same body.len bad.len (sym body.ends ∙ bad.ends)) body.is_good)
+is_long : (n : ℕ) → 16384 ≤ n → nat_le 16384 n ≡ true
+is_long n long = grind (arith, nat_tests)
+
+is_short : (n : ℕ) → n < 16384 → nat_le 16384 n ≡ false
+is_short n short = grind (arith, nat_tests)
+
+is_empty : (bytes : List ℕ) → bytes ≡ [] → nat_eq (length bytes) 0 ≡ true
+is_empty bytes empty = rw empty refl
+
+is_begun : (bytes : List ℕ) → bytes ≢ [] → nat_eq (length bytes) 0 ≡ false
+is_begun [] begun = absurd (begun refl)
+is_begun (b ∷ bytes) begun = grind (arith, nat_tests)
+
+-- how the requests of the bytes stop: no head ends, a head is bad, or a body is short
+abbrev Stops : List ℕ → Stop → Type 0
+Stops bytes stop =
+    ((head_len (front_of bytes) ≡ None) × (stop ≡ bare_stop bytes))
+    ⊎ (((fault : HttpFault) × HasBadHead bytes fault × (stop ≡ Faulted fault)) ⊎ (EndsInBody bytes × (stop ≡ Faulted http.CutOff)))
+
+stops : (bytes : List ℕ) (stop : Stop) → StopsAt stop bytes → stop ≢ Full → Stops bytes stop
+stops bytes Ended a f = inl (a.ends, rw (is_short (length bytes) a.short, is_empty (skip_pairs bytes) a.skipped) refl)
+stops bytes Full a f = absurd (f refl)
+stops bytes (Faulted http.HeadTooLarge) a f = inl (a.ends, rw (is_long (length bytes) a.long) refl)
+stops bytes (Faulted http.CutOff) (inl a) f = inl (a.ends, rw (is_short (length bytes) a.short, is_begun (skip_pairs bytes) a.begun) refl)
+stops bytes (Faulted http.CutOff) (inr a) f = inr (inr (a, refl))
+stops bytes (Faulted http.ReadFault) a f = absurd a
+stops bytes (Faulted fault) a f = inr (inl (fault, a, refl))
+
+no_end : (bytes : List ℕ) (len : ℕ) → head_len (front_of bytes) ≡ None → head_len (front_of bytes) ≡ Some len → ⊥
+no_end bytes len none some = let e = sym none ∙ some in cc
+
+-- where a head is good, it isn't bad
+good_there : (bytes : List ℕ) (len : ℕ) (head : RequestHead) (size : ℕ) (fault : HttpFault) → head_len (front_of bytes) ≡ Some len → IsGoodHead (take len bytes) head size
+    → HasBadHead bytes fault → ⊥
+good_there bytes len head size fault ends good bad =
+    good_not_bad (take bad.len bytes) head size fault (subst (λ l. IsGoodHead (take l bytes) head size) (some_same len bad.len (sym ends ∙ bad.ends)) good) bad.bad
+
+one_of : (bytes : List ℕ) (stop other : Stop) → Stops bytes stop → Stops bytes other → stop ≡ other
+one_of bytes stop other (inl a) (inl b) = a.1 ∙ sym b.1
+one_of bytes stop other (inl a) (inr (inl b)) = absurd (no_end bytes b.1.len a.0 b.1.ends)
+one_of bytes stop other (inl a) (inr (inr b)) = absurd (no_end bytes b.0.len a.0 b.0.ends)
+one_of bytes stop other (inr (inl a)) (inl b) = absurd (no_end bytes a.1.len b.0 a.1.ends)
+one_of bytes stop other (inr (inl a)) (inr (inl b)) =
+    let same = some_same a.1.len b.1.len (sym a.1.ends ∙ b.1.ends) in
+    let fault : a.0 ≡ b.0 = one_fault (take a.1.len bytes) a.0 b.0 a.1.bad (subst (λ l. IsBadHead (take l bytes) b.0) (sym same) b.1.bad) in
+    a.2 ∙ ap Faulted fault ∙ sym b.2
+one_of bytes stop other (inr (inl a)) (inr (inr b)) = absurd (good_there bytes b.0.len b.0.head b.0.size a.0 b.0.ends b.0.is_good a.1)
+one_of bytes stop other (inr (inr a)) (inl b) = absurd (no_end bytes a.0.len b.0 a.0.ends)
+one_of bytes stop other (inr (inr a)) (inr (inl b)) = absurd (good_there bytes a.0.len a.0.head a.0.size b.0 a.0.ends a.0.is_good b.1)
+one_of bytes stop other (inr (inr a)) (inr (inr b)) = a.1 ∙ sym b.1
 
 -- two stops at the same bytes are one
 pub one_stop : (bytes : List ℕ) (stop other : Stop) → StopsAt stop bytes → StopsAt other bytes → stop ≢ Full → other ≢ Full → stop ≡ other
-one_stop bytes Full other a b f g = absurd (f refl)
-one_stop bytes (Faulted http.ReadFault) other a b f g = absurd a
-one_stop bytes (Faulted http.NoMemory) other a b f g = absurd a
-one_stop bytes stop Full a b f g = absurd (g refl)
-one_stop bytes stop (Faulted http.ReadFault) a b f g = absurd b
-one_stop bytes stop (Faulted http.NoMemory) a b f g = absurd b
-one_stop bytes Ended Ended a b f g = refl
-one_stop bytes Ended (Faulted http.HeadTooLarge) a b f g = absurd (omega (arith, a.short, b.long))
-one_stop bytes Ended (Faulted http.BadHead) a b f g = absurd (let x = a.ends in let y = b.ends in cc)
-one_stop bytes Ended (Faulted http.CutOff) a (inl b) f g = absurd (b.begun a.skipped)
-one_stop bytes Ended (Faulted http.CutOff) a (inr b) f g = absurd (let x = a.ends in let y = b.ends in cc)
-one_stop bytes (Faulted http.HeadTooLarge) Ended a b f g = absurd (omega (arith, b.short, a.long))
-one_stop bytes (Faulted http.HeadTooLarge) (Faulted http.HeadTooLarge) a b f g = refl
-one_stop bytes (Faulted http.HeadTooLarge) (Faulted http.BadHead) a b f g = absurd (let x = a.ends in let y = b.ends in cc)
-one_stop bytes (Faulted http.HeadTooLarge) (Faulted http.CutOff) a (inl b) f g = absurd (omega (arith, a.long, b.short))
-one_stop bytes (Faulted http.HeadTooLarge) (Faulted http.CutOff) a (inr b) f g = absurd (let x = a.ends in let y = b.ends in cc)
-one_stop bytes (Faulted http.BadHead) Ended a b f g = absurd (let x = a.ends in let y = b.ends in cc)
-one_stop bytes (Faulted http.BadHead) (Faulted http.HeadTooLarge) a b f g = absurd (let x = a.ends in let y = b.ends in cc)
-one_stop bytes (Faulted http.BadHead) (Faulted http.BadHead) a b f g = refl
-one_stop bytes (Faulted http.BadHead) (Faulted http.CutOff) a (inl b) f g = absurd (let x = a.ends in let y = b.ends in cc)
-one_stop bytes (Faulted http.BadHead) (Faulted http.CutOff) a (inr b) f g = absurd (body_not_bad bytes b a)
-one_stop bytes (Faulted http.CutOff) Ended (inl a) b f g = absurd (a.begun b.skipped)
-one_stop bytes (Faulted http.CutOff) Ended (inr a) b f g = absurd (let x = a.ends in let y = b.ends in cc)
-one_stop bytes (Faulted http.CutOff) (Faulted http.HeadTooLarge) (inl a) b f g = absurd (omega (arith, b.long, a.short))
-one_stop bytes (Faulted http.CutOff) (Faulted http.HeadTooLarge) (inr a) b f g = absurd (let x = a.ends in let y = b.ends in cc)
-one_stop bytes (Faulted http.CutOff) (Faulted http.BadHead) (inl a) b f g = absurd (let x = a.ends in let y = b.ends in cc)
-one_stop bytes (Faulted http.CutOff) (Faulted http.BadHead) (inr a) b f g = absurd (body_not_bad bytes a b)
-one_stop bytes (Faulted http.CutOff) (Faulted http.CutOff) a b f g = refl
+one_stop bytes stop other a b f g = one_of bytes stop other (stops bytes stop a f) (stops bytes other b g)
+
+-- where a request stands, nothing stops
+pub first_goes_on : (bytes : List ℕ) (request : Request) (rest : List ℕ) (stop : Stop) → StandsFirst bytes request rest → StopsAt stop bytes → stop ≢ Full → ⊥
+first_goes_on bytes request rest stop stands at not_full = go (stops bytes stop at not_full)
+  where
+    go : Stops bytes stop → ⊥
+    go (inl a) = no_end bytes stands.len a.0 stands.ends
+    go (inr (inl a)) = good_there bytes stands.len stands.head stands.size a.0 stands.ends stands.is_good a.1
+    go (inr (inr a)) =
+        let same = one_start bytes stands.len a.0.len stands.head a.0.head stands.size a.0.size stands.ends a.0.ends stands.is_good a.0.is_good in
+        absurd (omega (arith, same.0, same.2, stands.whole, a.0.short))
 
 -- two cuts are the same from the first request on
 one_front : (bytes : List ℕ) (requests others : List Request) (stop other : Stop) (rest after : List ℕ)

@@ -1,80 +1,40 @@
 -- The size on which the values of Content-Length agree, found from value to value.
-use Rattle.std.proofs.Common.{◌≡◌, ◌≢◌, ℕ, List, [], ◌∷◌, All, Option, Some, None, refl, sym, ap, ◌∙◌}
+use Rattle.std.proofs.Common.{◌≡◌, ◌≢◌, ℕ, true, false, List, [], ◌∷◌, Option, Some, None, refl, sym, ap, arith}
+use Rattle.std.specs.Prelude.{nat_eq}
 use Rattle.std.specs.Option.{unwrap_or}
-use Rattle.std.proofs.lemmas.List.Elements.{All-head, All-tail, All-cons, All-nil}
+use Rattle.std.proofs.lemmas.Bool.Decides.{nat_tests}
 use Rattle.pg_text.specs.Numbers.{whole_number}
-use Rattle.http_in.specs.Fields.{GivesSize}
+use Rattle.http_in.specs.Length.{agreed, size_of}
 
--- the values agree on a size, which was found already where one was
-abbrev pub Agrees : Option ℕ → List (List ℕ) → ℕ → Type 0
-Agrees None values size = GivesSize values size
-Agrees (Some found) values size = (found ≡ size) × All (λ value. whole_number value ≡ Some size) values
+-- the size, where one was found already, or none
+abbrev pub size_from : Option ℕ → List (List ℕ) → Option ℕ
+size_from None values = size_of values
+size_from (Some found) values = agreed (Some found) values
 
--- all values agree on a size exactly where those that are left agree on it, after what was found
-pub record IsSoFar (all : List (List ℕ)) (found : Option ℕ) (left : List (List ℕ)) : Type 0 where
-  pub sure : (size : ℕ) → Agrees found left size → GivesSize all size
-  pub only : (size : ℕ) → GivesSize all size → Agrees found left size
+-- a value that writes no number leaves no size
+pub no_number : (found : Option ℕ) (value : List ℕ) (left : List (List ℕ)) → None ≡ whole_number value → size_from found (value ∷ left) ≡ None
+no_number None value left none = ap (λ number. agreed number left) (sym none)
+no_number (Some found) value left none = rw (sym none) refl
 
--- before the first value
-pub nothing_found : (all : List (List ℕ)) → IsSoFar all None all
-nothing_found all = record { sure = λ size agrees. agrees; only = λ size gives. gives }
+differs : (n m : ℕ) → n ≢ m → nat_eq n m ≡ false
+differs n m other = grind (arith, nat_tests)
 
--- two answers with one value
-pub some_same : (n m : ℕ) → ◌≡◌ {A = Option ℕ} (Some n) (Some m) → n ≡ m
-some_same n m e = cc
-
--- values give one size
-pub one_size : (values : List (List ℕ)) (n m : ℕ) → GivesSize values n → GivesSize values m → n ≡ m
-one_size [] n m gives also = gives.none refl ∙ sym (also.none refl)
-one_size (value ∷ values) n m gives also =
-    let first : whole_number value ≡ Some n = All-head (λ v. whole_number v ≡ Some n) value values gives.each in
-    let other : whole_number value ≡ Some m = All-head (λ v. whole_number v ≡ Some m) value values also.each in
-    some_same n m (sym first ∙ other)
-
-first_writes : (found : Option ℕ) (value : List ℕ) (left : List (List ℕ)) (size : ℕ) → Agrees found (value ∷ left) size → whole_number value ≡ Some size
-first_writes None value left size agrees = All-head (λ v. whole_number v ≡ Some size) value left agrees.each
-first_writes (Some found) value left size agrees = All-head (λ v. whole_number v ≡ Some size) value left agrees.1
-
-others_write : (found : Option ℕ) (value : List ℕ) (left : List (List ℕ)) (size : ℕ) → Agrees found (value ∷ left) size → All (λ v. whole_number v ≡ Some size) left
-others_write None value left size agrees = All-tail (λ v. whole_number v ≡ Some size) value left agrees.each
-others_write (Some found) value left size agrees = All-tail (λ v. whole_number v ≡ Some size) value left agrees.1
-
--- a value that is no number leaves no size
-pub no_number : (all : List (List ℕ)) (found : Option ℕ) (value : List ℕ) (left : List (List ℕ)) (size : ℕ) → IsSoFar all found (value ∷ left)
-    → None ≡ whole_number value → GivesSize all size → ⊥
-no_number all found value left size so_far none gives =
-    let is : whole_number value ≡ Some size = first_writes found value left size (so_far.only size gives) in
-    cc
+same : (n m : ℕ) → n ≡ m → nat_eq n m ≡ true
+same n m equal = grind (arith, nat_tests)
 
 -- a value with another number than was found leaves no size
-pub other_number : (all : List (List ℕ)) (found : Option ℕ) (value : List ℕ) (left : List (List ℕ)) (number size : ℕ) → IsSoFar all found (value ∷ left)
-    → Some number ≡ whole_number value → unwrap_or found number ≢ number → GivesSize all size → ⊥
-other_number all None value left number size so_far writes differs gives = differs refl
-other_number all (Some found) value left number size so_far writes differs gives =
-    let agrees = so_far.only size gives in
-    let same : number ≡ size = some_same number size (writes ∙ first_writes (Some found) value left size agrees) in
-    differs (agrees.0 ∙ sym same)
+pub other_number : (found : Option ℕ) (value : List ℕ) (left : List (List ℕ)) (number : ℕ) → Some number ≡ whole_number value → unwrap_or found number ≢ number
+    → size_from found (value ∷ left) ≡ None
+other_number None value left number writes_it other = absurd (other refl)
+other_number (Some found) value left number writes_it other = rw (sym writes_it, differs number found (λ e. other (sym e))) refl
 
-agrees_before : (found : Option ℕ) (value : List ℕ) (left : List (List ℕ)) (number size : ℕ) → Some number ≡ whole_number value → unwrap_or found number ≡ number
-    → Agrees (Some number) left size → Agrees found (value ∷ left) size
-agrees_before None value left number size writes same agrees = record {
-  each = All-cons (λ v. whole_number v ≡ Some size) value left (sym writes ∙ ap Some agrees.0) agrees.1;
-  none = λ empty. absurd (cc);
-}
-agrees_before (Some found) value left number size writes same agrees =
-    (same ∙ agrees.0, All-cons (λ v. whole_number v ≡ Some size) value left (sym writes ∙ ap Some agrees.0) agrees.1)
-
--- a value with the number that was found, or the first one
-pub number_found : (all : List (List ℕ)) (found : Option ℕ) (value : List ℕ) (left : List (List ℕ)) (number : ℕ) → IsSoFar all found (value ∷ left)
-    → Some number ≡ whole_number value → unwrap_or found number ≡ number → IsSoFar all (Some number) left
-number_found all found value left number so_far writes same = record {
-  sure = λ size agrees. so_far.sure size (agrees_before found value left number size writes same agrees);
-  only = λ size gives.
-      let agrees = so_far.only size gives in
-      (some_same number size (writes ∙ first_writes found value left size agrees), others_write found value left size agrees);
-}
+-- after a value with the number that was found, or after the first one
+pub number_found : (found : Option ℕ) (value : List ℕ) (left : List (List ℕ)) (number : ℕ) → Some number ≡ whole_number value → unwrap_or found number ≡ number
+    → size_from found (value ∷ left) ≡ size_from (Some number) left
+number_found None value left number writes_it equal = ap (λ n. agreed n left) (sym writes_it)
+number_found (Some found) value left number writes_it equal = rw (sym writes_it, same number found (sym equal)) (ap (λ n. agreed (Some n) left) equal)
 
 -- after the last value the size is what was found, or 0
-pub size_found : (all : List (List ℕ)) (found : Option ℕ) → IsSoFar all found [] → GivesSize all (unwrap_or found 0)
-size_found all None so_far = so_far.sure 0 (record { each = All-nil (λ v. whole_number v ≡ Some 0); none = λ empty. refl })
-size_found all (Some found) so_far = so_far.sure found (refl, All-nil (λ v. whole_number v ≡ Some found))
+pub size_found : (found : Option ℕ) → size_from found [] ≡ Some (unwrap_or found 0)
+size_found None = refl
+size_found (Some found) = refl

@@ -1,10 +1,10 @@
--- The faults of reading.
-use Rattle.http_in.specs.declared.rest.Lack.{Lack}
-use Rattle.http_in.specs.declared.rest.Lack.TheVariants as lack
-use Rattle.http_in.specs.declared.fault.HttpFault.{HttpFault}
-use Rattle.http_in.specs.declared.fault.HttpFault.TheVariants as fault
+-- Answers that may be a fault or want of memory.
+use Rattle.std.specs.Prelude.{Result, Ok, Err, ⊤}
+use Rattle.pg_text.specs.declared.failure.Failure.{Failure}
+use Rattle.pg_text.specs.declared.failure.Failure.TheVariants as failure
 
--- the fault of a request whose bytes were lacking
-abbrev pub fault_of : Lack → HttpFault
-fault_of lack.ReadFault = fault.ReadFault
-fault_of lack.NoMemory = fault.NoMemory
+-- where the answer is a fault, the fault has P
+abbrev pub IfFault : {A : Type 0} {E : Type 0} → Result A (Failure E) → (E → Type 0) → Type 0
+IfFault (Err (failure.Fault fault)) P = P fault
+IfFault (Err failure.NoMemory) P = ⊤
+IfFault (Ok x) P = ⊤

@@ -1,7 +1,15 @@
+pub mod Cookie
 pub mod Faults
 pub mod Fields
 pub mod Head
 pub mod HeadEnd
 pub mod Law
+pub mod Length
+pub mod Params
+pub mod Parts
 pub mod Reading
+pub mod Request
 pub mod Requests
+pub mod Scan
+pub mod Stopping
+pub mod Target

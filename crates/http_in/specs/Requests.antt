@@ -2,9 +2,11 @@
 use Rattle.std.specs.Prelude.{◌≡◌, ◌≢◌, ◌<◌, ◌≤◌, ◌+◌, ◌⊎◌, ℕ, List, [], ◌∷◌, length, take, drop, Some, None, ⊤}
 use Rattle.httparse.specs.Grammar.{RequestHead}
 use Rattle.http_in.specs.declared.fault.HttpFault.{HttpFault}
-use Rattle.http_in.specs.declared.fault.HttpFault.TheVariants as fault
+use Rattle.http_in.specs.declared.fault.HttpFault.TheVariants as http
 use Rattle.http_in.specs.declared.request.Request.{Request}
-use Rattle.http_in.specs.Head.{IsGoodHead, IsNoGoodHead, request_of}
+use Rattle.http_in.specs.Fields.{fields_of}
+use Rattle.http_in.specs.Head.{IsGoodHead, IsBadHead}
+use Rattle.http_in.specs.Request.{request_of}
 use Rattle.http_in.specs.HeadEnd.{head_len, skip_pairs, front_of}
 
 -- the request stands whole at the front of the bytes, and rest comes after it
@@ -15,7 +17,7 @@ pub record StandsFirst (bytes : List ℕ) (request : Request) (rest : List ℕ) 
   pub ends : head_len (front_of bytes) ≡ Some len
   pub is_good : IsGoodHead (take len bytes) head size
   pub whole : len + size ≤ length bytes
-  pub request_is : request ≡ request_of head (take size (drop len bytes))
+  pub request_is : request ≡ request_of head.method head.target (fields_of head) (take size (drop len bytes))
   pub rest_is : rest ≡ drop (len + size) bytes
 
 -- the bytes end between requests: there are only CR LF pairs, and too few for a fault
@@ -44,11 +46,11 @@ pub record HasNoHead (bytes : List ℕ) : Type 0 where
   pub ends : head_len (front_of bytes) ≡ None
   pub long : 16384 ≤ length bytes
 
--- a head ends in time, and isn't a good one
-pub record HasBadHead (bytes : List ℕ) : Type 0 where
+-- a head ends in time, and has this fault
+pub record HasBadHead (bytes : List ℕ) (fault : HttpFault) : Type 0 where
   pub len : ℕ
   pub ends : head_len (front_of bytes) ≡ Some len
-  pub bad : IsNoGoodHead (take len bytes)
+  pub bad : IsBadHead (take len bytes) fault
 
 -- the bytes end inside a request
 abbrev pub IsCutOff : List ℕ → Type 0
@@ -60,11 +62,10 @@ IsUnfinished bytes = IsEnd bytes ⊎ IsCutOff bytes
 
 -- the fault stands at the front of the bytes; an input that was cut off has no bytes behind them
 abbrev pub HasFault : HttpFault → List ℕ → Type 0
-HasFault fault.HeadTooLarge bytes = HasNoHead bytes
-HasFault fault.BadHead bytes = HasBadHead bytes
-HasFault fault.CutOff bytes = IsCutOff bytes
-HasFault fault.ReadFault bytes = ⊥
-HasFault fault.NoMemory bytes = ⊥
+HasFault http.HeadTooLarge bytes = HasNoHead bytes
+HasFault http.CutOff bytes = IsCutOff bytes
+HasFault http.ReadFault bytes = ⊥
+HasFault fault bytes = HasBadHead bytes fault
 
 -- these requests stand at the front of the bytes, one after the other, and rest comes after them
 abbrev pub Front : List ℕ → List Request → List ℕ → Type 0

@@ -1,5 +1,3 @@
-use crate::rest::Lack;
-use std::alloc::AllocError;
 use thiserror::Error;
 
 /// Why a request could not be read. After a fault the connection has no further requests.
@@ -7,37 +5,18 @@ use thiserror::Error;
 pub enum HttpFault {
     #[error("16,384 bytes hold no end of the head")]
     HeadTooLarge,
-    #[error("the head isn't one that is read")]
+    #[error("the head isn't a request head of HTTP/1 for one host and a path")]
     BadHead,
+    #[error("the version is HTTP/1.0")]
+    WrongVersion,
+    #[error("the body comes with a transfer coding")]
+    ChunkedRequest,
+    #[error("the lengths of the body are no numbers, or differ")]
+    BadLength,
+    #[error("the body has more than 2,097,152 bytes")]
+    BodyTooLarge,
     #[error("the input ended inside a request")]
     CutOff,
     #[error("the source failed")]
     ReadFault,
-    #[error("out of memory")]
-    NoMemory,
-}
-
-impl From<AllocError> for HttpFault {
-    ghost use Rattle.std.specs.Prelude.{◌≡◌};
-    ghost use Rattle.http_in.specs.declared.fault.HttpFault.TheVariants.{NoMemory};
-
-    ghost from_gives = { λ _ fault. fault ≡ NoMemory };
-
-    fn from(_: AllocError) -> Self {
-        HttpFault::NoMemory
-    }
-}
-
-impl From<Lack> for HttpFault {
-    ghost use Rattle.std.specs.Prelude.{◌≡◌};
-    ghost use Rattle.http_in.specs.Faults.{fault_of};
-
-    ghost from_gives = { λ lack fault. fault ≡ fault_of lack };
-
-    fn from(lack: Lack) -> Self {
-        match lack {
-            Lack::ReadFault => HttpFault::ReadFault,
-            Lack::NoMemory => HttpFault::NoMemory,
-        }
-    }
 }

@@ -1,92 +1,79 @@
-ghost use Rattle.std.specs.Prelude.{◌≡◌, IfSome, IfNone, length, map, All, codes};
-ghost use Rattle.std.specs.Str.{str_eq_ignore_ascii_case};
-ghost use Rattle.httparse.specs.Grammar.{trim_ows, skip_ows};
+ghost use Rattle.std.specs.Prelude.{◌≡◌, ◌==◌, length, map, All, IfOk};
+ghost use Rattle.httparse.specs.Grammar.{IsToken};
 ghost use Rattle.httparse.specs.Spans.{header_bytes, IsHeaderWithin};
-ghost use Rattle.http_in.specs.Fields.{values_of, GivesSize, GivesNoSize, asks_to_close, has_close};
+ghost use Rattle.http_in.specs.Fields.{field_of};
 
+use crate::text::text_of;
 use httparse::spans::HeaderSpan;
-use pg_text::whole_number;
+use pg_text::{Bytes, Text};
+use std::alloc::{AllocError, Global};
+use std::marker::Model;
 
-const CONTENT_LENGTH: &[u8] = b"content-length";
-
-const CONNECTION: &[u8] = b"connection";
-
-const CLOSE: &[u8] = b"close";
-
-// How many of the fields have this name.
-pub fn count_of(head: &[u8], fields: &[HeaderSpan], name: &[u8]) -> usize
-    requires { All (IsHeaderWithin (length head.now)) fields.now }
-    ensures { result ≡ length (values_of name.now (map (header_bytes head.now) fields.now)) }
-{
-    fields
-        .iter()
-        .filter(|field| is_named(field.name.of(head), name))
-        .count()
+/// A field of a head.
+#[derive(Drop)]
+pub struct Field {
+    /// The name in lower case.
+    pub name: Text,
+    /// The value, without spaces and tabs at its ends. It may have bytes that are no text.
+    pub value: Bytes,
 }
 
-// The size of the body, where the fields agree on one.
-pub fn body_size(head: &[u8], fields: &[HeaderSpan]) -> Option<u64>
-    requires { All (IsHeaderWithin (length head.now)) fields.now }
-    ensures some { IfSome result (GivesSize (values_of (codes "content-length") (map (header_bytes head.now) fields.now))) }
-    ensures none { IfNone result (GivesNoSize (values_of (codes "content-length") (map (header_bytes head.now) fields.now))) }
-{
-    let mut found: Option<u64> = None;
-    for field in fields {
-        if is_named(field.name.of(head), CONTENT_LENGTH) {
-            let size = whole_number(field.value.of(head))?;
-            if found.unwrap_or(size) != size {
-                return None;
-            }
-            found = Some(size);
-        }
+/// The fields of a head in the order sent. Contracts see the list of them.
+#[derive(Drop)]
+pub struct Fields {
+    items: Vec<Field>,
+}
+
+impl Model for Fields {
+    ghost use Rattle.std.specs.Prelude.{List};
+    ghost use Rattle.http_in.specs.declared.fields.Field.{Field};
+
+    ghost Value = { List Field };
+
+    ghost view = { λ f. f.items.items };
+}
+
+impl Fields {
+    pub fn as_slice(&self) -> &[Field]
+        ensures { result.now ≡ self.now }
+    {
+        &self.items
     }
-    Some(found.unwrap_or(0))
-}
 
-// Whether a Connection field asks to close the connection after this request.
-pub fn asks_to_close(head: &[u8], fields: &[HeaderSpan]) -> bool
-    requires { All (IsHeaderWithin (length head.now)) fields.now }
-    ensures { result ≡ asks_to_close (map (header_bytes head.now) fields.now) }
-{
-    fields.iter().any(|field| is_named(field.name.of(head), CONNECTION)
-        && has_close(field.value.of(head)))
-}
-
-// Whether the names are equal but for their case.
-fn is_named(name: &[u8], wanted: &[u8]) -> bool
-    ensures { result ≡ str_eq_ignore_ascii_case name.now wanted.now }
-{
-    name.eq_ignore_ascii_case(wanted)
-}
-
-// Whether an item of the value is `close`.
-fn has_close(value: &[u8]) -> bool
-    ensures { result ≡ has_close value.now }
-{
-    value
-        .split(|b| *b == b',')
-        .any(|item| is_named(trim(item), CLOSE))
-}
-
-// The bytes without spaces and tabs at both ends.
-#[tactic(auto, unfolding(httparse::specs::Grammar::trim_ows))]
-fn trim(bytes: &[u8]) -> &[u8]
-    ensures { result.now ≡ trim_ows bytes.now }
-{
-    let mut rest = trim_start(bytes);
-    while let [before @ .., b' ' | b'\t'] = rest {
-        rest = before;
+    pub fn len(&self) -> usize
+        ensures { result ≡ length self.now }
+    {
+        self.items.len()
     }
-    rest
+
+    pub fn is_empty(&self) -> bool
+        ensures { result ≡ (length self.now == 0) }
+    {
+        self.items.is_empty()
+    }
 }
 
-// The bytes without spaces and tabs at their start.
-fn trim_start(bytes: &[u8]) -> &[u8]
-    ensures { result.now ≡ skip_ows bytes.now }
+// The fields at these spans.
+pub fn fields_at(alloc: Global, head: &[u8], spans: &[HeaderSpan]) -> Result<Fields, AllocError>
+    requires within { All (IsHeaderWithin (length head.now)) spans.now }
+    requires names { All (λ field. IsToken field.0) (map (header_bytes head.now) spans.now) }
+    ensures { IfOk result (λ fields. fields ≡ map field_of (map (header_bytes head.now) spans.now)) }
 {
-    let mut rest = bytes;
-    while let [b' ' | b'\t', after @ ..] = rest {
-        rest = after;
+    let mut items = Vec::with_capacity(alloc, spans.len())?;
+    for span in spans {
+        items.push(read_field(alloc, span.name.of(head), span.value.of(head))?)?;
     }
-    rest
+    Ok(Fields { items })
+}
+
+// The field of this name and value.
+fn read_field(alloc: Global, name: &[u8], value: &[u8]) -> Result<Field, AllocError>
+    requires { IsToken name.now }
+    ensures { IfOk result (λ field. field ≡ field_of (name.now, value.now)) }
+{
+    let name = text_of(name);
+    Ok(Field {
+        name: Text::new(name.to_ascii_lowercase(alloc)?)?,
+        value: Bytes::copy_of(alloc, value)?,
+    })
 }

@@ -1,5 +1,5 @@
 ghost use Rattle.std.specs.Prelude.{◌≡◌, ◌≤◌, length, IfSome};
-ghost use Rattle.http_in.specs.HeadEnd.{head_len, skip_pairs, through_empty_line, front_of};
+ghost use Rattle.http_in.specs.HeadEnd.{skip_pairs, through_empty_line, front_of};
 
 /// The most bytes that a head may have, with the pairs before its first line.
 pub const HEAD_LIMIT: usize = 16_384;
@@ -12,15 +12,6 @@ pub fn front_of(bytes: &[u8]) -> &[u8]
     ensures within { (length result.now ≤ 16384) × (length result.now ≤ length bytes.now) }
 {
     &bytes[..HEAD_LIMIT.min(bytes.len())]
-}
-
-// The length of the head at the front, with the pairs before its first line.
-pub fn head_len(bytes: &[u8]) -> Option<usize>
-    ensures value { result ≡ head_len bytes.now }
-    ensures within { IfSome result (λ len. len ≤ length bytes.now) }
-{
-    let rest = skip_pairs(bytes);
-    Some(through_empty_line(rest)? + (bytes.len() - rest.len()))
 }
 
 // The bytes after the CR LF pairs at the front.
@@ -36,7 +27,7 @@ pub fn skip_pairs(bytes: &[u8]) -> &[u8]
 }
 
 // The length of the shortest front that ends with an empty line.
-fn through_empty_line(bytes: &[u8]) -> Option<usize>
+pub fn through_empty_line(bytes: &[u8]) -> Option<usize>
     ensures value { result ≡ through_empty_line bytes.now }
     ensures within { IfSome result (λ len. len ≤ length bytes.now) }
 {

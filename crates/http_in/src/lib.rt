@@ -4,19 +4,26 @@
 //! first CR LF CR LF after them, and its body has the size that the head names.
 #![tactic(auto)]
 
+mod cookie;
 mod fault;
 mod fields;
 mod head;
 mod head_end;
 mod law;
+mod lookups;
+mod params;
 mod read;
 mod request;
 mod rest;
-#[cfg(test)]
-mod tests;
+mod scan;
+mod target;
+mod text;
+mod trim;
 
 pub use fault::HttpFault;
+pub use fields::{Field, Fields};
 pub use law::one_cut;
+pub use params::{Param, Params};
 pub use read::read_request;
 pub use request::Request;
 pub use rest::Rest;

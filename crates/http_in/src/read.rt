@@ -1,27 +1,36 @@
-ghost use Rattle.std.specs.Prelude.{◌≡◌, ◌^◌, ◌+◌, ◌<◌, ◌≤◌, None, Some, length, take, drop, IfOk, IfSome, IfNone, OnOk, IsErrOf};
+ghost use Rattle.std.specs.Prelude.{◌≡◌, ◌≢◌, ◌^◌, max, ◌+◌, ◌<◌, ◌≤◌, Some, length, take, drop, IfOk, IfSome, IfNone, OnOk, OnErr};
 ghost use Rattle.std.specs.Io.KnownBytes.{IsAtEnd};
 ghost use Rattle.edges.specs.Faults.{Rose};
+ghost use Rattle.http_in.specs.Faults.{IfFault};
 ghost use Rattle.http_in.specs.HeadEnd.{head_len, front_of};
-ghost use Rattle.http_in.specs.Reading.{Moves, Reads};
-ghost use Rattle.http_in.specs.Requests.{IsEnd, EndsInHead, HasNoHead};
+ghost use Rattle.http_in.specs.Reading.{Moves, Reads, ReadsOn};
+ghost use Rattle.http_in.specs.Request.{request_of};
+ghost use Rattle.http_in.specs.Requests.{IsEnd};
+ghost use Rattle.http_in.specs.Stopping.{StopsHead, StopsBody};
 
 use crate::head::{Head, parse_head};
-use crate::head_end::{HEAD_LIMIT, front_of, head_len, skip_pairs};
+use crate::head_end::{HEAD_LIMIT, front_of, skip_pairs};
+use crate::scan::Scan;
 use crate::{HttpFault, Request, Rest};
 use edges::Source;
-use pg_text::Bytes;
+use pg_text::{Bytes, Failure};
 use std::alloc::{AllocError, Global};
 
-/// Reads the next request, in whatever pieces the source gives its bytes. None means that the input ended between requests.
-/// After that, and after a fault but want of memory, `rest` holds all that was read and is no request.
+/// Reads the next request, in whatever pieces the source gives its bytes, and takes it out of `rest`. None means that the
+/// input ended between requests. After None, a fault or want of memory all that was read stands in `rest`; after want of
+/// memory the same request may be asked for again.
 pub fn read_request<S: Source>(
     alloc: Global,
     source: &mut S,
     rest: &mut Rest,
-) -> Result<Option<Request>, HttpFault>
+) -> Result<Option<Request>, Failure<HttpFault>>
     ensures answer { Reads (S.left source.old) (S.left source.new) rest.old rest.new result }
+    ensures ahead { length rest.old < 4096 → ReadsOn rest.new result }
+    ensures cookie { IfOk result (λ found. IfSome found (λ request. length request.cookie ≤ 48)) }
+
     ensures later { S.faults source.old ≤ S.faults source.new }
-    ensures read { IsErrOf result HttpFault.ReadFault → Rose (S.faults source.old) (S.faults source.new) }
+    ensures read { IfFault result (λ fault. fault ≡ HttpFault.ReadFault → Rose (S.faults source.old) (S.faults source.new)) }
+    ensures unfailing { S.unfailing source.old → IfFault result (λ fault. fault ≢ HttpFault.ReadFault) × S.unfailing source.new }
 {
     let Some(len) = read_head(source, rest)? else {
         return Ok(None);
@@ -32,26 +41,29 @@ pub fn read_request<S: Source>(
 }
 
 // Reads until a whole head stands at the front, and answers its length. None means that the input ended before it began.
-fn read_head<S: Source>(source: &mut S, rest: &mut Rest) -> Result<Option<usize>, HttpFault>
+fn read_head<S: Source>(
+    source: &mut S,
+    rest: &mut Rest,
+) -> Result<Option<usize>, Failure<HttpFault>>
     ensures found { IfOk result (λ found. IfSome found (λ len. head_len (front_of rest.new) ≡ Some len)) }
     ensures within { IfOk result (λ found. IfSome found (λ len. (len ≤ 16384) × (len ≤ length rest.new))) }
     ensures ended { IfOk result (λ found. IfNone found (IsEnd rest.new × IsAtEnd (S.left source.new))) }
+    ensures stopped { IfFault result (StopsHead (S.left source.new) rest.new) }
+    ensures ahead { length rest.old < 4096 → IfOk result (λ found. IfSome found (λ len. length rest.new < len + 4096)) }
+    ensures too_large { length rest.old < 4096 → IfFault result (λ fault. fault ≡ HttpFault.HeadTooLarge → length rest.new < 16384 + 4096) }
 
-    ensures too_large { IsErrOf result HttpFault.HeadTooLarge → HasNoHead rest.new }
-    ensures cut_off { IsErrOf result HttpFault.CutOff → EndsInHead rest.new × IsAtEnd (S.left source.new) }
-    ensures not_bad { IsErrOf result HttpFault.BadHead → ⊥ }
-
-    ensures bytes { (IsErrOf result HttpFault.NoMemory → ⊥) → Moves (S.left source.old) (S.left source.new) rest.old rest.new }
-    ensures unfinished { IsErrOf result HttpFault.ReadFault → (head_len (front_of rest.new) ≡ None) × (length rest.new < 16384) }
+    ensures bytes { Moves (S.left source.old) (S.left source.new) rest.old rest.new }
     ensures later { S.faults source.old ≤ S.faults source.new }
-    ensures read { IsErrOf result HttpFault.ReadFault → Rose (S.faults source.old) (S.faults source.new) }
+    ensures read { IfFault result (λ fault. fault ≡ HttpFault.ReadFault → Rose (S.faults source.old) (S.faults source.new)) }
+    ensures unfailing { S.unfailing source.old → IfFault result (λ fault. fault ≢ HttpFault.ReadFault) × S.unfailing source.new }
 {
+    let mut scan = Scan::Pairs(0);
     'fill: loop {
-        if let Some(len) = head_len(front_of(rest.as_slice())) {
+        if let Some(len) = scan.head_len(front_of(rest.as_slice())) {
             return Ok(Some(len));
         }
         if rest.len() >= HEAD_LIMIT {
-            return Err(HttpFault::HeadTooLarge);
+            return Err(Failure::Fault(HttpFault::HeadTooLarge));
         }
         if !rest.fill(source)? {
             break;
@@ -60,31 +72,34 @@ fn read_head<S: Source>(source: &mut S, rest: &mut Rest) -> Result<Option<usize>
     if skip_pairs(rest.as_slice()).is_empty() {
         Ok(None)
     } else {
-        Err(HttpFault::CutOff)
+        Err(Failure::Fault(HttpFault::CutOff))
     }
 }
 
 // Reads until so many bytes stand there.
-fn read_body<S: Source>(source: &mut S, rest: &mut Rest, need: usize) -> Result<(), HttpFault>
+fn read_body<S: Source>(
+    source: &mut S,
+    rest: &mut Rest,
+    need: usize,
+) -> Result<(), Failure<HttpFault>>
     ensures whole { OnOk result (need ≤ length rest.new) }
-    ensures cut_off { IsErrOf result HttpFault.CutOff → (length rest.new < need) × IsAtEnd (S.left source.new) }
-    ensures only_cut_off { IsErrOf result HttpFault.HeadTooLarge → ⊥ }
-    ensures not_bad { IsErrOf result HttpFault.BadHead → ⊥ }
+    ensures stopped { IfFault result (StopsBody need (S.left source.new) rest.new) }
+    ensures ahead { length rest.new ≤ max (length rest.old) (need + 4095) }
 
-    ensures bytes { (IsErrOf result HttpFault.NoMemory → ⊥) → Moves (S.left source.old) (S.left source.new) rest.old rest.new }
-    ensures unfinished { IsErrOf result HttpFault.ReadFault → length rest.new < need }
+    ensures bytes { Moves (S.left source.old) (S.left source.new) rest.old rest.new }
     ensures later { S.faults source.old ≤ S.faults source.new }
-    ensures read { IsErrOf result HttpFault.ReadFault → Rose (S.faults source.old) (S.faults source.new) }
+    ensures read { IfFault result (λ fault. fault ≡ HttpFault.ReadFault → Rose (S.faults source.old) (S.faults source.new)) }
+    ensures unfailing { S.unfailing source.old → IfFault result (λ fault. fault ≢ HttpFault.ReadFault) × S.unfailing source.new }
 {
     'fill: while rest.len() < need {
         if !rest.fill(source)? {
-            return Err(HttpFault::CutOff);
+            return Err(Failure::Fault(HttpFault::CutOff));
         }
     }
     Ok(())
 }
 
-// The request at the front, which is taken away.
+// The request at the front, which is taken away. Where memory is wanting nothing is.
 fn take_request(
     alloc: Global,
     rest: &mut Rest,
@@ -93,16 +108,14 @@ fn take_request(
 ) -> Result<Request, AllocError>
     requires whole { len + head.size ≤ length rest.old }
     requires fits { len + head.size < 2 ^ 64 }
-    ensures request { IfOk result (λ request. request ≡ record { method = head.method; target = head.target; body = take head.size (drop len rest.old); close = head.close }) }
+    ensures request { IfOk result (λ request. request ≡ request_of head.method head.target head.fields (take head.size (drop len rest.old))) }
+    ensures cookie { IfOk result (λ request. length request.cookie ≤ 48) }
     ensures after { OnOk result (rest.new ≡ drop (len + head.size) rest.old) }
+    ensures stays { OnErr result (rest.new ≡ rest.old) }
 {
     let end = len + head.size;
     let body = Bytes::copy_of(alloc, &rest.as_slice()[len..end])?;
+    let request = Request::of(alloc, head.method, head.target, head.fields, body)?;
     rest.drop_front(end);
-    Ok(Request {
-        method: head.method,
-        target: head.target,
-        body,
-        close: head.close,
-    })
+    Ok(request)
 }

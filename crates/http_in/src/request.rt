@@ -1,13 +1,77 @@
-use pg_text::{Bytes, Text};
+ghost use Rattle.std.specs.Prelude.{◌≡◌, ◌≤◌, IfOk, length};
+ghost use Rattle.http_in.specs.Request.{request_of};
 
-/// A request as it was sent.
+use crate::cookie::session_of;
+use crate::lookups::asks_to_close;
+use crate::params::params_of;
+use crate::target::{path_of, query_of};
+use crate::{Fields, Params};
+use pg_text::{Bytes, Path, Text};
+use std::alloc::{AllocError, Global};
+
+/// A request. All that it says is told by its method, target, fields and body.
 #[derive(Drop)]
 pub struct Request {
     /// The method, such as `GET`. Its case counts.
     pub method: Text,
-    /// The target, which begins with `/`: a path and maybe a query, neither of them decoded.
+    /// The target as it was sent: a path, which begins with `/`, and maybe a query, neither of them decoded.
     pub target: Text,
+    /// The path, decoded. None where it isn't UTF-8, or stands for no path of a site.
+    pub path: Option<Path>,
+    /// The query as it was sent, where there is a `?`.
+    pub query: Option<Text>,
+    pub fields: Fields,
+    /// The parameters of the query and then of a form that was posted, decoded.
+    pub params: Params,
+    /// The id of the session that the client names, or the empty text.
+    pub cookie: Text,
     pub body: Bytes,
     /// Whether the connection is to be closed after the answer.
     pub close: bool,
+}
+
+impl Request {
+    /// The same request with another target, which its path, query and parameters follow. Where memory is wanting the
+    /// request is dropped.
+    pub fn retarget(self, alloc: Global, target: Text) -> Result<Self, AllocError>
+        ensures request { IfOk result (λ request. request ≡ request_of self.method target self.fields self.body) }
+        ensures cookie { IfOk result (λ request. length request.cookie ≤ 48) }
+    {
+        Request::of(alloc, self.method, target, self.fields, self.body)
+    }
+
+    // The request of these parts.
+    #[tactic(auto, unfolding(crate::specs::Request::request_of))]
+    pub(crate) fn of(
+        alloc: Global,
+        method: Text,
+        target: Text,
+        fields: Fields,
+        body: Bytes,
+    ) -> Result<Self, AllocError>
+        ensures request { IfOk result (λ request. request ≡ request_of method target fields body) }
+        ensures cookie { IfOk result (λ request. length request.cookie ≤ 48) }
+    {
+        let query = match query_of(target.as_str()) {
+            Some(query) => Some(Text::copy_of(alloc, query)?),
+            None => None,
+        };
+        Ok(Request {
+            path: path_of(alloc, target.as_str())?,
+            query,
+            params: params_of(
+                alloc,
+                method.as_str(),
+                target.as_str(),
+                fields.as_slice(),
+                body.as_slice(),
+            )?,
+            cookie: session_of(alloc, fields.as_slice())?,
+            close: asks_to_close(fields.as_slice()),
+            method,
+            target,
+            fields,
+            body,
+        })
+    }
 }

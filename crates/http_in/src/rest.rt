@@ -1,39 +1,16 @@
-ghost use Rattle.std.specs.Prelude.{◌≡◌, ◌+◌, ◌==◌, ◌≤◌, ◌<◌, [], length, drop, OnOk, IfOk, IsErrOf, IsTrue, false};
+ghost use Rattle.std.specs.Prelude.{◌≡◌, ◌+◌, ◌==◌, ◌≤◌, ◌<◌, [], length, drop, IfOk, IsTrue, false};
 ghost use Rattle.std.specs.Io.KnownBytes.{IsAtEnd};
 ghost use Rattle.edges.specs.Faults.{Rose};
+ghost use Rattle.http_in.specs.Faults.{IfFault};
 
-use edges::{Failed, Source};
-use std::alloc::{AllocError, Global};
+use crate::HttpFault;
+use edges::Source;
+use pg_text::Failure;
+use std::alloc::Global;
 use std::marker::Model;
 
-// Why no more bytes came.
-#[derive(Clone, Copy, Debug, PartialEq, Eq)]
-pub enum Lack {
-    ReadFault,
-    NoMemory,
-}
-
-impl From<AllocError> for Lack {
-    ghost use Rattle.std.specs.Prelude.{◌≡◌};
-    ghost use Rattle.http_in.specs.declared.rest.Lack.TheVariants.{NoMemory};
-
-    ghost from_gives = { λ _ lack. lack ≡ NoMemory };
-
-    fn from(_: AllocError) -> Self {
-        Lack::NoMemory
-    }
-}
-
-impl From<Failed> for Lack {
-    ghost use Rattle.std.specs.Prelude.{◌≡◌};
-    ghost use Rattle.http_in.specs.declared.rest.Lack.TheVariants.{ReadFault};
-
-    ghost from_gives = { λ _ lack. lack ≡ ReadFault };
-
-    fn from(_: Failed) -> Self {
-        Lack::ReadFault
-    }
-}
+// The most bytes of one call of the source.
+const PIECE: usize = 4_096;
 
 /// The bytes that were read from a source and not used yet. Contracts see the list of them.
 #[derive(Drop)]
@@ -89,17 +66,22 @@ impl Rest {
         self.bytes.truncate(left);
     }
 
-    // Reads the next piece. The answer says whether any came: if none did, the input has ended.
-    pub(crate) fn fill<S: Source>(&mut self, source: &mut S) -> Result<bool, Lack>
+    // Reads the next piece. The answer says whether any came: if none did, the input has ended. Where memory is wanting
+    // nothing was read.
+    pub(crate) fn fill<S: Source>(&mut self, source: &mut S) -> Result<bool, Failure<HttpFault>>
         ensures more { IfOk result (λ came. IsTrue came → length self.old < length self.new) }
         ensures ended { IfOk result (λ came. came ≡ false → (self.new ≡ self.old) × IsAtEnd (S.left source.new)) }
-        ensures bytes { (IsErrOf result Lack.NoMemory → ⊥) → Moves (S.left source.old) (S.left source.new) self.old self.new }
-        ensures failed { IsErrOf result Lack.ReadFault → self.new ≡ self.old }
+        ensures bytes { Moves (S.left source.old) (S.left source.new) self.old self.new }
+        ensures failed { IfFault result (λ fault. (fault ≡ HttpFault.ReadFault) × (self.new ≡ self.old) × Rose (S.faults source.old) (S.faults source.new)) }
+        ensures little { length self.new ≤ length self.old + 4096 }
         ensures later { S.faults source.old ≤ S.faults source.new }
-        ensures read { IsErrOf result Lack.ReadFault → Rose (S.faults source.old) (S.faults source.new) }
+        ensures unfailing { S.unfailing source.old → IfFault result (λ _. ⊥) × S.unfailing source.new }
     {
-        let mut piece = [0; 4096];
-        let count = source.read(&mut piece)?;
+        let mut piece = [0; PIECE];
+        self.bytes.reserve(PIECE)?;
+        let Ok(count) = source.read(&mut piece) else {
+            return Err(Failure::Fault(HttpFault::ReadFault));
+        };
         self.bytes.extend_from_slice(&piece[..count])?;
         Ok(count > 0)
     }

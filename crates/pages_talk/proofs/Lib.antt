@@ -1,5 +1,5 @@
 pub mod DraftLemmas
 pub mod FirstPageLemmas
-pub mod LawLemmas
-pub mod TalkLemmas
+pub mod HistoryLemmas
+pub mod ServingLemmas
 pub mod TargetLemmas

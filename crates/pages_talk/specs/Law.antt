@@ -1,7 +1,9 @@
 -- What holds of every conversation.
-use Rattle.std.specs.Prelude.{◌≡◌, ◌+◌, ℕ, List, [], ◌∷◌, ◌++◌, length, ⊤}
+use Rattle.std.specs.Prelude.{◌≡◌, ◌+◌, ℕ, List, [], ◌∷◌, ◌++◌, length, map, ⊤}
 use Rattle.http_in.specs.declared.request.Request.{Request}
 use Rattle.http_in.specs.Requests.{Stop, Cut}
+use Rattle.conversation.specs.Exchange.{Exchange, request_in}
+use Rattle.conversation.specs.Conversation.{EndsAt, Walked, texts}
 use Rattle.source_tree.specs.declared.edit.Edit.{Edit}
 use Rattle.source_tree.specs.declared.file.File.{File}
 use Rattle.source_tree.specs.Edits.{after_edits, file_at}
@@ -10,8 +12,8 @@ use Rattle.pages_talk.specs.declared.answer.Answer.{Answer}
 use Rattle.pages_talk.specs.declared.answer.Answer.TheVariants.{Published}
 use Rattle.pages_talk.specs.declared.message.Message.TheVariants.{Get}
 use Rattle.pages_talk.specs.Message.{message}
-use Rattle.pages_talk.specs.Site.{Site, page_answer, turn}
-use Rattle.pages_talk.specs.Talk.{after, after_all, EndsAt}
+use Rattle.pages_talk.specs.Effect.{Site, page_answer, effect}
+use Rattle.pages_talk.specs.Serving.{IsReply, after, after_all, replies}
 
 -- the edits that an answer tells to be published: those of the draft, or none
 abbrev pub published_by : Answer → List Edit → List (List Edit)
@@ -21,7 +23,7 @@ published_by answer draft = []
 -- the publishings of these requests, in order, each with the edits of its draft
 abbrev pub publishings : Site → List Request → List (List Edit)
 publishings site [] = []
-publishings site (request ∷ requests) = published_by (turn site (message request)).answer site.draft ++ publishings (after site request) requests
+publishings site (request ∷ requests) = published_by (effect site (message request)).answer site.draft ++ publishings (after site request) requests
 
 -- the files that a history of publishings makes, each the next version, whose number its files are stamped with
 abbrev pub files_after : List File → ℕ → List (List Edit) → List File
@@ -40,13 +42,22 @@ pub record HasHistory (start : Site) (requests : List Request) : Type 0 where
   pub files : (after_all start requests).files ≡ files_after start.files start.version (publishings start requests)
   pub version : (after_all start requests).version ≡ start.version + length (publishings start requests)
   -- a page that is asked for then is served from the files that the history made last
-  pub fresh : (path query : List ℕ) → (turn (after_all start requests) (Get path query)).answer ≡ page_answer (file_at path (files_after start.files start.version (publishings start requests))) query
+  pub fresh : (path query : List ℕ) → (effect (after_all start requests) (Get path query)).answer ≡ page_answer (file_at path (files_after start.files start.version (publishings start requests))) query
 
+-- whatever is asked of whatever site, it has one history
 abbrev pub HasOneHistory : Type 0
 HasOneHistory = (start : Site) (requests : List Request) → HasHistory start requests
 
--- the bytes have one conversation: two walks over them, each to its end, are the same
+-- the exchanges that lead from one site to another are what their requests are answered, and the other site is what these leave
+abbrev pub AreByRequests : Type 0
+AreByRequests =
+    (number : ℕ) (start now : Site) (exchanges : List Exchange) → Walked IsReply number start exchanges now
+    → (texts exchanges ≡ replies start number (map request_in exchanges)) × (now ≡ after_all start (map request_in exchanges))
+
+-- the bytes have one conversation: two over them that begin with the same site, each to its end, are the same
 abbrev pub HasOneConversation : Type 0
 HasOneConversation =
-    (bytes : List ℕ) (requests others : List Request) (stop other : Stop) → Cut bytes requests stop → EndsAt stop 0 requests
-    → Cut bytes others other → EndsAt other 0 others → (requests ≡ others) × (stop ≡ other)
+    (bytes : List ℕ) (start now left : Site) (exchanges others : List Exchange) (stop other : Stop)
+    → Cut bytes (map request_in exchanges) stop → EndsAt stop 0 exchanges → Walked IsReply 0 start exchanges now
+    → Cut bytes (map request_in others) other → EndsAt other 0 others → Walked IsReply 0 start others left
+    → (exchanges ≡ others) × (stop ≡ other) × (now ≡ left)

@@ -1,9 +1,8 @@
 pub mod Draft
+pub mod Effect
 pub mod FirstPage
 pub mod Law
 pub mod Message
 pub mod Play
-pub mod Refusal
-pub mod Site
-pub mod Talk
+pub mod Serving
 pub mod Wire

@@ -1,16 +1,18 @@
 -- What a request asks for.
-use Rattle.std.specs.Prelude.{ℕ, Bool, false, ◌&&◌, ◌||◌, not, List, drop, ◌==◌, Option, None, Result, Ok, Err, codes, nat_eq, if◌then◌else◌}
+use Rattle.std.specs.Prelude.{ℕ, Bool, false, ◌&&◌, ◌||◌, not, List, drop, ◌==◌, None, Result, Ok, Err, codes, nat_eq, if◌then◌else◌}
 use Rattle.std.specs.List.{before_first, after_first, ends_with, list_any, starts_with}
 use Rattle.std.specs.Str.{bytes_eq, is_utf8}
 use Rattle.pg_text.specs.declared.resolution.BadPath.{BadPath}
 use Rattle.pg_text.specs.Path.{resolved, segments}
 use Rattle.http_in.specs.declared.request.Request.{Request}
 use Rattle.pages_talk.specs.declared.message.Message.{Message}
-use Rattle.pages_talk.specs.declared.message.Message.TheVariants.{Put, Publish, Get, Missing, Other}
+use Rattle.pages_talk.specs.declared.message.Message.TheVariants.{Put, Publish, Get, Missing, OtherMethod, Other}
 
+-- the byte `?`
 abbrev pub is_question : ℕ → Bool
 is_question b = b == 63
 
+-- the byte `%`
 abbrev pub is_percent : ℕ → Bool
 is_percent b = b == 37
 
@@ -34,10 +36,18 @@ is_put request = bytes_eq request.method (codes "PUT") && is_file_target request
 unfoldable pub is_publish : Request → Bool
 is_publish request = bytes_eq request.method (codes "POST") && bytes_eq request.target (codes "/_editor/publish")
 
+-- the request is one to the editor, by its target as sent
+unfoldable pub is_editors : Request → Bool
+is_editors request = starts_with nat_eq request.target (codes "/_editor/")
+
+-- a page takes the method
+unfoldable pub is_page_method : List ℕ → Bool
+is_page_method method = bytes_eq method (codes "GET") || bytes_eq method (codes "HEAD") || bytes_eq method (codes "POST")
+
 -- the request asks for a page: by GET, a path without escapes that ends in .jsp, and no target of an editor
 unfoldable pub is_page_get : Request → Bool
 is_page_get request =
-    bytes_eq request.method (codes "GET") && (not (starts_with nat_eq request.target (codes "/_editor/"))
+    bytes_eq request.method (codes "GET") && (not (is_editors request)
     && (ends_with nat_eq (path_part request.target) (codes ".jsp") && not (list_any is_percent (path_part request.target))))
 
 -- the text stands for itself as a path: it is taken, and has no segment `.` or `..`
@@ -57,10 +67,14 @@ abbrev pub page_message : Result (List ℕ) BadPath → List ℕ → Message
 page_message (Err reason) query = Missing
 page_message (Ok path) query = if starts_with nat_eq path (codes "/WEB-INF/") then Missing else Get path query
 
+-- what else is asked for: a page or a file by a method that none takes, or what isn't built
+abbrev pub other_message : Request → Message
+other_message request = if is_editors request || is_page_method request.method then Other else OtherMethod
+
 -- the message of a request
 abbrev pub message : Request → Message
 message request =
     if is_put request then (if is_put_path (drop 14 request.target) && is_utf8 request.body then Put (drop 14 request.target) request.body else Other)
     else (if is_publish request then Publish
     else (if is_page_get request then page_message (resolved (segments None (path_part request.target))) (query_part request.target)
-    else Other))
+    else other_message request))

@@ -1,8 +1,8 @@
 -- The command `play`, and its status.
 use Rattle.std.specs.Prelude.{ℕ, Bool, false, List, [], ◌∷◌, codes}
 use Rattle.std.specs.Str.{bytes_eq}
-use Rattle.pages_talk.specs.declared.connection.Ended.{Ended}
-use Rattle.pages_talk.specs.declared.connection.Ended.TheVariants.{Done, Refused, ReadFault, WriteFault, NoMemory}
+use Rattle.conversation.specs.declared.ended.Ended.{Ended}
+use Rattle.conversation.specs.declared.ended.Ended.TheVariants.{Done, Refused, ReadFault, WriteFault, NoMemory}
 
 -- the words are `play` alone
 abbrev pub is_play : List (List ℕ) → Bool

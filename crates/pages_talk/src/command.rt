@@ -1,10 +1,10 @@
-ghost use Rattle.std.specs.Prelude.{◌≡◌, List, [], true, false, map, string_bytes};
-ghost use Rattle.source_tree.specs.declared.file.File.{File};
+ghost use Rattle.std.specs.Prelude.{◌≡◌, [], true, false, map, string_bytes};
 ghost use Rattle.edges.specs.Faults.{Rose};
-ghost use Rattle.pages_talk.specs.declared.connection.Ended.{Ended as Outcome};
+ghost use Rattle.conversation.specs.declared.ended.Ended.{Ended as Outcome};
+ghost use Rattle.conversation.specs.Conversation.{Tells};
+ghost use Rattle.pages_talk.specs.Effect.{Site, site_of};
 ghost use Rattle.pages_talk.specs.Play.{is_play, exit_status};
-ghost use Rattle.pages_talk.specs.Site.{site_of};
-ghost use Rattle.pages_talk.specs.Talk.{Tells};
+ghost use Rattle.pages_talk.specs.Serving.{IsReply, IsApology};
 
 use crate::{Ended, Role, talk};
 use edges::{Ledger, Sink, Source, Steps};
@@ -20,7 +20,7 @@ pub fn play<S: Source, K: Sink, L: Ledger>(
     steps: &mut Steps<L>,
 ) -> u8
     ensures talk { is_play (map string_bytes words.now) ≡ true → (ended : Outcome) × (result ≡ exit_status ended)
-        × ((files : List File) × Tells (site_of [] [] 0) (S.left source.old) (S.left source.new) files (K.taken sink.old) (K.taken sink.new) ended) }
+        × ((site : Site) × Tells IsReply IsApology (site_of [] [] 0) site (S.left source.old) (S.left source.new) (K.faults sink.old) (K.faults sink.new) (K.taken sink.old) (K.taken sink.new) ended) }
     ensures words { is_play (map string_bytes words.now) ≡ false → result ≡ 1 }
     ensures only_words { result ≡ 1 → is_play (map string_bytes words.now) ≡ false }
     ensures silent { result ≡ 1 → K.taken sink.new ≡ K.taken sink.old }

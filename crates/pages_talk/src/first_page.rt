@@ -103,8 +103,8 @@ fn parameters_of(alloc: Global, query: &[u8]) -> Result<Vec<Parameter>, AllocErr
     for pair in parse(alloc, query) {
         let (name, value) = pair?;
         parameters.push(Parameter {
-            name: Text::new(name.into_owned(alloc)?),
-            value: Text::new(value.into_owned(alloc)?),
+            name: Text::new(name.into_owned(alloc)?)?,
+            value: Text::new(value.into_owned(alloc)?)?,
         })?;
     }
     Ok(parameters)
@@ -232,70 +232,4 @@ fn appended(mut body: Vec<u8>, text: &str) -> Result<Option<Vec<u8>>, AllocError
     }
     body.extend_from_slice(text.as_bytes())?;
     Ok(Some(body))
-}
-
-#[cfg(test)]
-mod tests {
-    use super::first_page_body;
-    use std::test::Fail;
-
-    #[test]
-    fn a_first_page_answers_its_text_with_the_values_of_parameters(
-        rt: HostRuntime,
-    ) -> Result<(), Fail> {
-        for (text, query, wanted) in [
-            ("Hi ${param.n}!", "n=Bo", Some("Hi Bo!")),
-            ("Hi ${param.n}!", "", Some("Hi !")),
-            ("${param.n}${param.n}", "n=1&n=2", Some("11")),
-            ("${param.a}", "n=1&a=x%41+y%26z&b=2", Some("xA y&z")),
-            ("${param.a}", "b=1&&a", Some("")),
-            ("$1 $$ $${param.n}$", "n={", Some("$1 $$ ${$")),
-            (
-                "a:b <b> </c:if> < c:if <1:2 {} } # {",
-                "",
-                Some("a:b <b> </c:if> < c:if <1:2 {} } # {"),
-            ),
-            ("", "n=1", Some("")),
-            ("${1}", "", None),
-            ("#{x}", "", None),
-            ("a\\b", "", None),
-            ("<c:if", "", None),
-            ("<b><Ab:", "", None),
-            ("<% x", "", None),
-            ("<%", "", None),
-            ("${", "", None),
-            ("${param.}", "", None),
-            ("${param.n", "", None),
-            ("${param.n ${param.n}", "", None),
-            ("${param.n1}", "", None),
-            ("${ param.n}", "", None),
-            ("${Param.n}", "", None),
-        ] {
-            let mut page = String::from_str(rt.alloc(), "<%@ page session=\"false\" %>")?;
-            page.push_str(text)?;
-            match first_page_body(rt.alloc(), page.as_str(), query)? {
-                Some(body) => assert_eq!(rt;
-                    Some(body.as_slice()),
-                    wanted.map(|text| text.as_bytes()),
-                    "{text}"
-                ),
-                None => assert!(rt; wanted.is_none(), "{text}"),
-            }
-        }
-        Ok(())
-    }
-
-    #[test]
-    fn another_text_is_no_first_page(rt: HostRuntime) -> Result<(), Fail> {
-        for text in [
-            "",
-            "Hi",
-            "<%@ page session=\"true\" %>Hi",
-            " <%@ page session=\"false\" %>Hi",
-        ] {
-            let body = first_page_body(rt.alloc(), text, "")?;
-            assert!(rt; body.is_none(), "{text}");
-        }
-        Ok(())
-    }
 }

@@ -1,4 +1,4 @@
-ghost use Rattle.pages_talk.specs.Law.{HasOneHistory, HasOneConversation};
+ghost use Rattle.pages_talk.specs.Law.{AreByRequests, HasOneConversation, HasOneHistory};
 
 /// What a connection publishes is one legal history, each publishing once and in order; a page is served from what the
 /// history made last. This call does nothing: its contract is the law.
@@ -6,8 +6,14 @@ pub fn one_history()
     ensures { HasOneHistory }
 {}
 
-/// The bytes of a connection have one conversation: their requests, and where these stop. This call does nothing: its
+/// What is answered, and the site that is left, follow from the requests one after the other. This call does nothing: its
 /// contract is the law.
+pub fn by_requests()
+    ensures { AreByRequests }
+{}
+
+/// The bytes of a connection have one conversation: their requests with their responses, where these stop, and the site
+/// that they leave. This call does nothing: its contract is the law.
 pub fn one_conversation()
     ensures { HasOneConversation }
 {}

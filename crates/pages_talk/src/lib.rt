@@ -1,20 +1,18 @@
-//! One connection: requests are read, answered and written one after the other.
+//! One connection over the files of a site: what its requests ask for, and what they are answered.
 #![tactic(auto)]
 
 mod answer;
 mod command;
 mod connection;
+mod desk;
 mod draft;
+mod effect;
 mod first_page;
 mod law;
 mod message;
-mod send;
-mod serve;
-mod wire;
+mod writing;
 
 pub use command::play;
-pub use connection::{Ended, Role, talk};
-pub use law::{one_conversation, one_history};
-
-#[cfg(test)]
-mod tests;
+pub use connection::{Role, talk};
+pub use conversation::Ended;
+pub use law::{by_requests, one_conversation, one_history};

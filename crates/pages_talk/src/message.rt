@@ -4,10 +4,10 @@ ghost use Rattle.std.specs.List.{list_any};
 ghost use Rattle.std.specs.Result.{result_ok};
 ghost use Rattle.std.specs.Str.{is_utf8};
 ghost use Rattle.pg_text.specs.Path.{resolved, segments};
-ghost use Rattle.pages_talk.specs.Message.{is_file_target, is_own_path, is_page_get, is_percent, is_publish, is_put, is_put_path, is_question, message, page_message, path_part, query_part};
+ghost use Rattle.pages_talk.specs.Message.{is_editors, is_file_target, is_own_path, is_page_get, is_page_method, is_percent, is_publish, is_put, is_put_path, is_question, message, other_message, page_message, path_part, query_part};
 
 use http_in::Request;
-use pg_text::{BadPath, Path, Text, resolve};
+use pg_text::{Failure, Path, Text, resolve};
 use source_tree::FileText;
 use std::alloc::{AllocError, Global};
 
@@ -30,6 +30,8 @@ pub(crate) enum Message {
     Get(Path, Text),
     /// Asks for a page whose path is refused or hidden.
     Missing,
+    /// Asks for a page or a file by a method that none takes.
+    OtherMethod,
     /// Asks for what isn't built.
     Other,
 }
@@ -52,7 +54,34 @@ pub(crate) fn read_message(alloc: Global, request: &Request) -> Result<Message, 
         let (path, query) = split_target(request.target.as_str());
         return page_message(alloc, path, query);
     }
-    Ok(Message::Other)
+    Ok(other_message(request))
+}
+
+// The message of a request that is none of those that are built.
+fn other_message(request: &Request) -> Message
+    ensures { result ≡ other_message request.now }
+{
+    if is_editors(request) || is_page_method(request.method.as_bytes()) {
+        Message::Other
+    } else {
+        Message::OtherMethod
+    }
+}
+
+// Whether the request is one to the editor.
+#[tactic(auto, unfolding(crate::specs::Message::is_editors))]
+fn is_editors(request: &Request) -> bool
+    ensures { result ≡ is_editors request.now }
+{
+    request.target.as_bytes().starts_with(EDITOR)
+}
+
+// Whether a page takes the method.
+#[tactic(auto, unfolding(crate::specs::Message::is_page_method))]
+fn is_page_method(method: &[u8]) -> bool
+    ensures { result ≡ is_page_method method.now }
+{
+    method == b"GET".as_slice() || method == b"HEAD".as_slice() || method == b"POST".as_slice()
 }
 
 // Whether the message puts a file.
@@ -71,14 +100,14 @@ fn is_publish(request: &Request) -> bool
     request.method.as_bytes() == b"POST".as_slice() && request.target.as_bytes() == PUBLISH
 }
 
-// Whether the message asks for a page.
+/// Whether the message asks for a page.
 #[tactic(auto, unfolding(crate::specs::Message::is_page_get))]
-fn is_page_get(request: &Request) -> bool
+pub(crate) fn is_page_get(request: &Request) -> bool
     ensures { result ≡ is_page_get request.now }
 {
     let (path, _query) = split_target(request.target.as_str());
     request.method.as_bytes() == b"GET".as_slice()
-        && !request.target.as_bytes().starts_with(EDITOR)
+        && !is_editors(request)
         && path.as_bytes().ends_with(b".jsp")
         && !has_percent(path)
 }
@@ -158,8 +187,8 @@ fn resolved_path(alloc: Global, text: &str) -> Result<Option<Path>, AllocError>
 {
     match resolve(alloc, None, text) {
         Ok(path) => Ok(Some(path)),
-        Err(BadPath::NoMemory) => Err(AllocError),
-        Err(_) => Ok(None),
+        Err(Failure::NoMemory) => Err(AllocError),
+        Err(Failure::Fault(_)) => Ok(None),
     }
 }
 

@@ -1,12 +1,14 @@
-use Rattle.std.proofs.Common.{◌≤◌, ◌-◌, length}
+use Rattle.std.proofs.Common.{◌≤◌, ◌-◌, ◌+◌, max, length}
 use Rattle.http_in.specs.Reading.{Moves}
 use Rattle.http_in.proofs.read.read_body.Given as goal
 
--- nothing is lost, and the count of faults has not fallen
+-- nothing is lost, little was read on, and the source has not changed its ways
 abbrev pub invariant-fill : goal.invariant-fill
 invariant-fill g l = record {
   moved : Moves (g.S.Source.left l.fn.source) (g.S.Source.left l.source) l.fn.rest l.rest;
+  little : length l.rest ≤ max (length l.fn.rest) (l.need + 4095);
   later : g.S.Source.faults l.fn.source ≤ g.S.Source.faults l.source;
+  unfailing : g.S.Source.unfailing l.fn.source → g.S.Source.unfailing l.source;
 }
 
 abbrev pub decreases-fill : goal.decreases-fill

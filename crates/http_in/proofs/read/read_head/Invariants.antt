@@ -1,12 +1,18 @@
-use Rattle.std.proofs.Common.{◌≤◌, ◌-◌, length}
+use Rattle.std.proofs.Common.{◌≤◌, ◌<◌, ◌-◌, length}
+use Rattle.http_in.specs.HeadEnd.{front_of}
 use Rattle.http_in.specs.Reading.{Moves}
+use Rattle.http_in.specs.Scan.{HasLooked}
+use Rattle.http_in.proofs.Near.{IsNear}
 use Rattle.http_in.proofs.read.read_head.Given as goal
 
--- nothing is lost, and the count of faults has not fallen
+-- nothing is lost or looked through twice, little was read on, and the source has not changed its ways
 abbrev pub invariant-fill : goal.invariant-fill
 invariant-fill g l = record {
   moved : Moves (g.S.Source.left l.fn.source) (g.S.Source.left l.source) l.fn.rest l.rest;
+  looked : HasLooked l.scan (front_of l.rest);
+  near : length l.fn.rest < 4096 → IsNear l.rest;
   later : g.S.Source.faults l.fn.source ≤ g.S.Source.faults l.source;
+  unfailing : g.S.Source.unfailing l.fn.source → g.S.Source.unfailing l.source;
 }
 
 abbrev pub decreases-fill : goal.decreases-fill

@@ -1,4 +1,4 @@
-use Rattle.pages_talk.proofs.LawLemmas.{one_conversation}
+use Rattle.pages_talk.proofs.ServingLemmas.{one_conversation}
 use Rattle.pages_talk.proofs.law.one_conversation.Goals as goal
 
 pub returns : goal.returns

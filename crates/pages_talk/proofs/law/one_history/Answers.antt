@@ -1,4 +1,4 @@
-use Rattle.pages_talk.proofs.LawLemmas.{one_history}
+use Rattle.pages_talk.proofs.HistoryLemmas.{one_history}
 use Rattle.pages_talk.proofs.law.one_history.Goals as goal
 
 pub returns : goal.returns

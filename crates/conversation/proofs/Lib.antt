@@ -1,0 +1,4 @@
+pub mod Functions
+pub mod OneConversation
+pub mod Told
+pub mod WalkLemmas

@@ -1,0 +1,5 @@
+pub mod Conversation
+pub mod Exchange
+pub mod Functions
+pub mod Refusal
+pub mod Served

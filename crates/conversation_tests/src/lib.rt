@@ -1,0 +1,10 @@
+//! Tests of conversations: a desk that writes in several parts, and whatever may come in the middle.
+#![tactic(auto)]
+
+#[cfg(test)]
+mod order;
+mod parts;
+#[cfg(test)]
+mod tests;
+
+pub use parts::Parts;

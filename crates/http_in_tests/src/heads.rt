@@ -1,0 +1,193 @@
+use crate::telling::{told, told_both_ways};
+use http_in::one_cut;
+use std::test::Fail;
+
+#[test]
+fn requests_stand_one_after_the_other(rt: HostRuntime) -> Result<(), Fail> {
+    for (bytes, wanted) in [
+        (b"".as_slice(), "end"),
+        (b"\r\n\r\n", "end"),
+        (b"\r", "CutOff"),
+        (b"\n", "CutOff"),
+        (b"\r\nG", "CutOff"),
+        (b"GET /a HTTP/1.1\r\nHost: h\r\n\r", "CutOff"),
+        (
+            b"\r\n\r\nGET / HTTP/1.1\r\nHost: h\r\n\r\n\r\n",
+            "GET / \nend",
+        ),
+        (
+            b"PUT /a HTTP/1.1\r\nHost: h\r\nContent-Length: 2\r\n\r\nhiGET /b?c=d HTTP/1.1\r\nhOsT: h\r\n\r\n",
+            "PUT /a hi\nGET /b?c=d \nend",
+        ),
+        (
+            b"PUT /a HTTP/1.1\r\nHost: h\r\nContent-Length: 2\r\n\r\nh",
+            "CutOff",
+        ),
+        (
+            b"GET / HTTP/1.1\r\nHost: h\r\n\r\nGET / HTTP/1.0\r\nHost: h\r\n\r\n",
+            "GET / \nWrongVersion",
+        ),
+        // An empty line that LF alone ends is the head's end for the grammar, and not for the cut.
+        (b"GET / HTTP/1.1\r\nHost: h\n\nX: y\r\n\r\n", "BadHead"),
+        (b"GET / HTTP/1.1\nHost: h\n\n", "CutOff"),
+        (b"GET / HTTP/1.1\r\nHost: h\nX: y\r\n\r\n", "GET / \nend"),
+        (b"GET / HTTP/1.1\r\nHost: h\n\r\n\r\n", "BadHead"),
+        (b"\nGET / HTTP/1.1\r\nHost: h\r\n\r\n", "GET / \nend"),
+        (b"\r\n\nGET / HTTP/1.1\r\nHost: h\r\n\r\n", "GET / \nend"),
+        (b"\n\r\n\r\nGET / HTTP/1.1\r\nHost: h\r\n\r\n", "BadHead"),
+        (b"GET / HTTP/1.1\r\nHost: h\r\nX:\r\n\r\n", "GET / \nend"),
+        (b"GET / HTTP/1.1\r\nHost: h\r\nX y\r\n\r\n", "BadHead"),
+        (
+            b"GET / HTTP/1.1\r\nHost: h\r\nX: y\r\n z\r\n\r\n",
+            "BadHead",
+        ),
+        (b"GET  / HTTP/1.1\r\nHost: h\r\n\r\n", "BadHead"),
+        (b"GET /\xff HTTP/1.1\r\nHost: h\r\n\r\n", "BadHead"),
+        (
+            b"GET /\xc3\xa4 HTTP/1.1\r\nHost: h\r\n\r\n",
+            "GET /\u{e4} \nend",
+        ),
+        (b"G\xc3\xa4T / HTTP/1.1\r\nHost: h\r\n\r\n", "BadHead"),
+    ] {
+        for piece in [1, 65_536] {
+            let told = told(rt.alloc(), bytes, piece, Vec::new(rt.alloc()))?;
+            assert_eq!(rt; told.as_str(), wanted, "{bytes:?}");
+        }
+    }
+    one_cut();
+    Ok(())
+}
+
+#[test]
+fn a_head_has_its_first_fault(rt: HostRuntime) -> Result<(), Fail> {
+    for (line, fields, wanted) in [
+        ("/ HTTP/1.1", "hOST:\t h ", "GET / \nend"),
+        ("/ HTTP/1.1", "X: y", "BadHead"),
+        ("/ HTTP/1.1", "Host: h\r\nhost: h", "BadHead"),
+        ("* HTTP/1.1", "Host: h", "BadHead"),
+        ("http://h/ HTTP/1.1", "Host: h", "BadHead"),
+        ("?a HTTP/1.1", "Host: h", "BadHead"),
+        ("/ HTTP/1.2", "Host: h", "BadHead"),
+        ("/ HTTP/2.0", "Host: h", "BadHead"),
+        // HTTP/1.0 comes before all that is wrong in its head.
+        (
+            "* HTTP/1.0",
+            "X: y\r\nTransfer-Encoding: chunked",
+            "WrongVersion",
+        ),
+        ("/ HTTP/1.1", "Transfer-Encoding: chunked", "BadHead"),
+        (
+            "/ HTTP/1.1",
+            "Host: h\r\nTransfer-Encoding: chunked",
+            "ChunkedRequest",
+        ),
+        (
+            "/ HTTP/1.1",
+            "Host: h\r\nContent-Length: x\r\ntransfer-ENCODING:",
+            "ChunkedRequest",
+        ),
+        ("/ HTTP/1.1", "Host: h\r\nContent-Length: 0", "GET / \nend"),
+        ("/ HTTP/1.1", "Host: h\r\nContent-Length: 1", "CutOff"),
+        (
+            "/ HTTP/1.1",
+            "Host: h\r\nContent-Length: 000000000000000000",
+            "GET / \nend",
+        ),
+        (
+            "/ HTTP/1.1",
+            "Host: h\r\nContent-Length: 0000000000000000000",
+            "BadLength",
+        ),
+        (
+            "/ HTTP/1.1",
+            "Host: h\r\nContent-Length: 999999999999999999",
+            "BodyTooLarge",
+        ),
+        (
+            "/ HTTP/1.1",
+            "Host: h\r\ncontent-length:\t0 \r\nContent-Length: 00",
+            "GET / \nend",
+        ),
+        (
+            "/ HTTP/1.1",
+            "Host: h\r\nContent-Length: 1\r\nContent-Length: 01",
+            "CutOff",
+        ),
+        (
+            "/ HTTP/1.1",
+            "Host: h\r\nContent-Length: 1\r\nContent-Length: 2",
+            "BadLength",
+        ),
+        (
+            "/ HTTP/1.1",
+            "Host: h\r\nContent-Length: 0\r\nContent-Length:",
+            "BadLength",
+        ),
+        ("/ HTTP/1.1", "Host: h\r\nContent-Length: 0, 0", "BadLength"),
+        ("/ HTTP/1.1", "Host: h\r\nContent-Length: +0", "BadLength"),
+        ("/ HTTP/1.1", "Host: h\r\nContent-Length: 2097152", "CutOff"),
+        (
+            "/ HTTP/1.1",
+            "Host: h\r\nContent-Length: 2097153",
+            "BodyTooLarge",
+        ),
+        (
+            "/ HTTP/1.1",
+            "Host: h\r\nconnection: keep-alive ,\tCLOSE\t,",
+            "GET /  close\nend",
+        ),
+        (
+            "/ HTTP/1.1",
+            "Host: h\r\nConnection: x\r\nConnection: Close",
+            "GET /  close\nend",
+        ),
+        (
+            "/ HTTP/1.1",
+            "Host: h\r\nConnection: closed, clos e",
+            "GET / \nend",
+        ),
+        ("/ HTTP/1.1", "Host: h\r\nX: close", "GET / \nend"),
+    ] {
+        let text = format!(in rt.alloc(); "GET {line}\r\n{fields}\r\n\r\n")?;
+        let told = told_both_ways(rt.alloc(), text.as_bytes())?;
+        assert_eq!(rt; told.as_str(), wanted, "{line} {fields}");
+    }
+    Ok(())
+}
+
+#[test]
+fn a_head_has_its_limits(rt: HostRuntime) -> Result<(), Fail> {
+    for (fields, wanted) in [(63, "GET / \nend"), (64, "BadHead")] {
+        let further = "X: y\r\n".repeat(rt.alloc(), fields)?;
+        let text = format!(in rt.alloc(); "GET / HTTP/1.1\r\nHost: h\r\n{further}\r\n")?;
+        for piece in [1, 65_536] {
+            let told = told(rt.alloc(), text.as_bytes(), piece, Vec::new(rt.alloc()))?;
+            assert_eq!(rt; told.as_str(), wanted, "{fields} fields beside Host");
+        }
+    }
+    // The lines around the value of X take 32 bytes.
+    for (pairs, value, wanted) in [
+        (0, 16_352, "GET / \nend"),
+        (0, 16_353, "HeadTooLarge"),
+        (1, 16_350, "GET / \nend"),
+        (1, 16_351, "HeadTooLarge"),
+    ] {
+        let before = "\r\n".repeat(rt.alloc(), pairs)?;
+        let long = "y".repeat(rt.alloc(), value)?;
+        let text = format!(in rt.alloc();
+            "{before}GET / HTTP/1.1\r\nHost: h\r\nX: {long}\r\n\r\n"
+        )?;
+        for piece in [1, 65_536] {
+            let told = told(rt.alloc(), text.as_bytes(), piece, Vec::new(rt.alloc()))?;
+            assert_eq!(rt; told.as_str(), wanted, "{pairs} pairs, {value} bytes");
+        }
+    }
+    for (pairs, wanted) in [(8_191, "end"), (8_192, "HeadTooLarge")] {
+        let text = "\r\n".repeat(rt.alloc(), pairs)?;
+        for piece in [1, 65_536] {
+            let told = told(rt.alloc(), text.as_bytes(), piece, Vec::new(rt.alloc()))?;
+            assert_eq!(rt; told.as_str(), wanted, "{pairs} pairs");
+        }
+    }
+    Ok(())
+}

@@ -1,0 +1,4 @@
+pub mod Head
+pub mod Response
+pub mod Sent
+pub mod Status

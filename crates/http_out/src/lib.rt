@@ -1,0 +1,22 @@
+//! The bytes of responses of HTTP/1.1.
+//!
+//! A response is written whole, with its length in its head, or in chunks while it is made. Each call writes to a sink that
+//! may have failed already in this response: then it writes nothing more, and its clause still says what text was to come.
+#![tactic(auto)]
+
+mod chunk;
+mod head;
+mod law;
+mod no_memory;
+mod sending;
+mod status;
+mod text;
+mod whole;
+
+pub use chunk::{write_chunk, write_end};
+pub use head::Head;
+pub use law::parts_join;
+pub use no_memory::write_no_memory;
+pub use sending::write;
+pub use status::Status;
+pub use whole::{write_head, write_plain, write_whole};

@@ -1,0 +1,5 @@
+//! Tests of the bytes of responses.
+#![tactic(auto)]
+
+#[cfg(test)]
+mod tests;

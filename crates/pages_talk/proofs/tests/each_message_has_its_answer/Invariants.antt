@@ -1,4 +1,0 @@
-use Rattle.pages_talk.proofs.tests.each_message_has_its_answer.Given as goal
-
-abbrev pub ghosts-played : goal.ghosts-played
-ghosts-played g a = record { name = a.blank.name; parts = a.blank.parts }

@@ -1,0 +1,49 @@
+ghost use Rattle.std.specs.Prelude.{◌≡◌, ◌<◌, ◌≤◌};
+
+use edges::{MemSink, MemSource, Steps, Unseen};
+use pages_talk::play;
+use std::alloc::{AllocError, Global};
+use std::sync::ledger::{Blank, Ledger};
+
+/// The status of `play` over this input, which comes in pieces of that size, and what it wrote.
+pub fn played<N: Ledger>(
+    alloc: Global,
+    blank: Blank,
+    input: &[u8],
+    piece: usize,
+    read_fails: &[u64],
+    write_fails: &[u64],
+) -> Result<(u8, Vec<u8>), AllocError>
+    requires name { blank.name ≡ N.name }
+    requires parts { blank.parts ≡ N.parts }
+    requires some { 0 < N.parts }
+    requires piece { 1 ≤ piece }
+{
+    let mut source = MemSource::new(input.to_vec(alloc)?, piece, read_fails.to_vec(alloc)?);
+    let mut sink = MemSink::new(alloc, write_fails.to_vec(alloc)?);
+    let mut steps = Steps::<Unseen<N>>::unseen(blank);
+    let words = vec![in alloc; String::from_str(alloc, "play")?]?;
+    let status = play(alloc, &words, &mut source, &mut sink, &mut steps);
+    Ok((status, sink.taken().to_vec(alloc)?))
+}
+
+/// The status of these words over an empty input, and what was written.
+pub fn worded<N: Ledger>(
+    alloc: Global,
+    blank: Blank,
+    words: &[&str],
+) -> Result<(u8, usize), AllocError>
+    requires name { blank.name ≡ N.name }
+    requires parts { blank.parts ≡ N.parts }
+    requires some { 0 < N.parts }
+{
+    let mut owned = Vec::new(alloc);
+    for word in words {
+        owned.push(String::from_str(alloc, word)?)?;
+    }
+    let mut source = MemSource::new(Vec::new(alloc), 1, Vec::new(alloc));
+    let mut sink = MemSink::new(alloc, Vec::new(alloc));
+    let mut steps = Steps::<Unseen<N>>::unseen(blank);
+    let status = play(alloc, &owned, &mut source, &mut sink, &mut steps);
+    Ok((status, sink.taken().len()))
+}
