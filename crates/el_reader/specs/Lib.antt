@@ -1,11 +1,14 @@
 pub mod Answer
-pub mod Climb
+pub mod Chain
 pub mod El
 pub mod Expression
+pub mod ExpressionOf
+pub mod Fault
 pub mod Operators
+pub mod ReadClimb
+pub mod ReadStack
+pub mod ReadTokens
 pub mod Reads
-pub mod Scan
 pub mod Spelling
-pub mod Stack
 pub mod Tokens
 pub mod Tree

@@ -1,0 +1,7 @@
+pub mod Contents
+pub mod Joins
+pub mod Low
+pub mod Places
+pub mod Replaces
+pub mod Splits
+pub mod TooLong

@@ -1,0 +1,5 @@
+//! Tests of the functions library.
+#![tactic(auto)]
+
+#[cfg(test)]
+mod functions;
