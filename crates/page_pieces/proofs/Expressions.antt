@@ -1,0 +1,4 @@
+-- Where an expression ends.
+pub mod Ends
+pub mod Found
+pub mod Loop

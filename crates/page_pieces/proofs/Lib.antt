@@ -1,0 +1,12 @@
+pub mod AtFront
+pub mod AttributeValues
+pub mod EndCuts
+pub mod Expressions
+pub mod Failures
+pub mod Heads
+pub mod NameLemmas
+pub mod PieceCuts
+pub mod PieceLemmas
+pub mod PieceMeaning
+pub mod PieceRows
+pub mod RepeatLemmas
