@@ -1,0 +1,5 @@
+pub mod BufferLemmas
+pub mod FaultLemmas
+pub mod GivenLemmas
+pub mod TableLemmas
+pub mod TokenLemmas

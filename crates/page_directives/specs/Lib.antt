@@ -1,0 +1,9 @@
+pub mod Faults
+pub mod Directive
+pub mod ContentType
+pub mod Checks
+pub mod Rows
+pub mod Tables
+pub mod Taglibs
+pub mod Settings
+pub mod Meet

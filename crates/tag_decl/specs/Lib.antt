@@ -1,0 +1,3 @@
+pub mod Declare
+pub mod Faults
+pub mod Names

@@ -1,0 +1,15 @@
+//! What a tag file declares: its attributes, its variables, its body and its undeclared attributes; and the faults of the directives
+//! that declare it.
+#![tactic(auto)]
+
+mod declaration;
+mod declaring;
+mod faults;
+mod named;
+mod names;
+
+pub use declaration::{
+    AttrDecl, AttrDecls, AttrKind, BodyKind, TagDecl, VarDecl, VarDecls, VarScope,
+};
+pub use declaring::declare;
+pub use faults::{declaring_faults, is_good};
