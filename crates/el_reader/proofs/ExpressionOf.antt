@@ -13,7 +13,7 @@ use Rattle.el_reader.specs.declared.kind.Kind.{Kind}
 use Rattle.el_reader.specs.declared.token.Token.{Token}
 use Rattle.el_reader.specs.Answer.{Finds, IsExpressionOf}
 use Rattle.el_reader.specs.El.{tree_of}
-use Rattle.el_reader.specs.Expression.{is_bare_call, is_decimal, is_left_out, HasLeftOut, IsInProfile, IsOutcome, IsExpression}
+use Rattle.el_reader.specs.Expression.{is_bare_call, is_decimal, is_left_out, HasLeftOut, IsInProfile, IsOutcome, IsExpression, max_nesting}
 use Rattle.el_reader.specs.ExpressionOf.{before, tokens_then, tokens_by, tokens_within, tokens_of, has_bare_call, part_outcome, tokens_outcome, text_outcome, expression_of}
 use Rattle.el_reader.specs.ReadClimb.{Part, run, wants}
 use Rattle.el_reader.specs.ReadTokens.{behind_blanks, kind_at, token_from}
@@ -88,21 +88,21 @@ are_left_out ts = go (list_any is_left_out ts) refl (has_bare_call ts (length ts
     go false is true calls = inr calls
     go false is false calls = neither is calls
 
-of_part : (ts : List Token) → IsInProfile ts → (part : Option Part) → run 64 0 [] wants ts ≡ part → IsOutcome ts (part_outcome part)
-of_part ts profile None is = (profile, unread 64 ts is)
-of_part ts profile (Some p) is = go (nat_le p.1 64) refl
+of_part : (ts : List Token) → IsInProfile ts → (part : Option Part) → run max_nesting 0 [] wants ts ≡ part → IsOutcome ts (part_outcome part)
+of_part ts profile None is = (profile, unread max_nesting ts is)
+of_part ts profile (Some p) is = go (nat_le p.1 max_nesting) refl
   where
-    go : (fits : Bool) → nat_le p.1 64 ≡ fits → IsOutcome ts (cond fits (Ok p.0) (Err fault.TooLarge))
-    go true fits = let r = read_within 64 ts p is (grind (arith, nat_tests)) in (profile, r.0, r.1, r.2)
-    go false fits = let r = read_beyond 64 ts p is (grind (arith, nat_tests)) in (profile, r.0, r.1, r.2, r.3)
+    go : (fits : Bool) → nat_le p.1 max_nesting ≡ fits → IsOutcome ts (cond fits (Ok p.0) (Err fault.TooLarge))
+    go true fits = let r = read_within max_nesting ts p is (grind (arith, nat_tests)) in (profile, r.0, r.1, r.2)
+    go false fits = let r = read_beyond max_nesting ts p is (grind (arith, nat_tests)) in (profile, r.0, r.1, r.2, r.3)
 
 of_tokens : (ts : List Token) → IsOutcome ts (tokens_outcome ts)
 of_tokens ts = go (list_any is_decimal ts) refl (list_any is_left_out ts || has_bare_call ts (length ts)) (are_left_out ts)
   where
-    go : (decimal : Bool) → list_any is_decimal ts ≡ decimal → (left : Bool) → AreLeftOut ts left → IsOutcome ts (cond decimal (Err fault.Decimal) (cond left (Err fault.LeftOut) (part_outcome (run 64 0 [] wants ts))))
+    go : (decimal : Bool) → list_any is_decimal ts ≡ decimal → (left : Bool) → AreLeftOut ts left → IsOutcome ts (cond decimal (Err fault.Decimal) (cond left (Err fault.LeftOut) (part_outcome (run max_nesting 0 [] wants ts))))
     go true is left left_is = is
     go false is true left_is = (λ has. false≢true (sym is ∙ has), left_is)
-    go false is false left_is = of_part ts (λ has. false≢true (sym is ∙ has), left_is) (run 64 0 [] wants ts) refl
+    go false is false left_is = of_part ts (λ has. false≢true (sym is ∙ has), left_is) (run max_nesting 0 [] wants ts) refl
 
 of_text : (text : List ℕ) (found : Option (List Token)) → AreTokens text found → IsExpression text (text_outcome found)
 of_text text None none = inr (none, refl)

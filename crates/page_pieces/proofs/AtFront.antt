@@ -1,4 +1,5 @@
 -- What stands at the front of a text: white space, names and marks.
+pub mod Before
 pub mod Longest
 pub mod MarkLoop
 pub mod Marks

@@ -10,7 +10,8 @@ use Rattle.page_pieces.specs.Marks.{mark_at}
 use Rattle.page_pieces.specs.Texts.{begins, further, around}
 use Rattle.page_pieces.specs.Expressions.{EndsBehind}
 use Rattle.page_pieces.specs.Tags.{attributes_bytes}
-use Rattle.page_pieces.specs.Pieces.{counted, text_len, IsPieceAt, IsDirectiveAt, IsStartAt, IsEndAt}
+use Rattle.page_pieces.specs.Pieces.{text_len, IsPieceAt, IsDirectiveAt, IsStartAt, IsEndAt}
+use Rattle.page_pieces.proofs.AtFront.Before.{some_before}
 
 -- the rest stands at the end of the text
 pub record Ends (text rest : List ℕ) : Type 0 where
@@ -82,13 +83,9 @@ behind_mark n (b ∷ text) rest not lt ends = record {
 cut_off : (n : ℕ) (text rest : List ℕ) → text ≢ [] → 0 < n → rest ≡ drop n text → Shortens text rest
 cut_off n text rest not lt is = behind_mark n text rest not lt (record { bytes = []; cut = sym is })
 
-no_count : (mark : Option Mark) (n : ℕ) → mark ≡ None → 0 < counted mark n
-no_count None n is = omega arith
-no_count (Some mark) n is = cc
-
 some_len : (setting : Setting) (text : List ℕ) → text ≢ [] → mark_at setting text ≡ None → 0 < text_len setting text
 some_len setting [] not none = absurd (not refl)
-some_len setting (b ∷ bytes) not none = no_count (mark_at setting (b ∷ bytes)) (text_len setting bytes) none
+some_len setting (b ∷ bytes) not none = some_before (mark_at setting) (b ∷ bytes) none (omega arith)
 
 -- bytes that begin with so many
 head_cut : (text front behind rest : List ℕ) → 0 < length front → text ≡ (front ++ behind) ++ rest → Shortens text rest

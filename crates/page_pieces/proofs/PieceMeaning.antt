@@ -43,11 +43,12 @@ made_piece : (a b : Piece) (x y : List ℕ) → b ≡ a → y ≡ x → ◌≡�
 made_piece a b x y p q = ap (λ z. Ok (z, x)) (sym p) ∙ ap (λ z. Ok (b, z)) (sym q)
 
 -- what is read is a text of this kind
-abbrev text_means : (means : List ℕ) (len : ℕ) (text : List ℕ) (piece : Piece) (rest : List ℕ) → text_piece means len text ≡ Ok (piece, rest) → IsTextAt means len text piece rest
-text_means means len text piece rest is = same_piece (pieces.Leaf (leaves.Text means)) piece (drop len text) rest is
+text_both : (means : List ℕ) (len : ℕ) (text : List ℕ) (piece : Piece) (rest : List ℕ) → (text_piece means len text ≡ Ok (piece, rest) → IsTextAt means len text piece rest) × (IsTextAt means len text piece rest → text_piece means len text ≡ Ok (piece, rest))
+text_both means len text piece rest = (λ is. same_piece (pieces.Leaf (leaves.Text means)) piece (drop len text) rest is, λ is. made_piece (pieces.Leaf (leaves.Text means)) piece (drop len text) rest is.0 is.1)
 
-abbrev text_read : (means : List ℕ) (len : ℕ) (text : List ℕ) (piece : Piece) (rest : List ℕ) → IsTextAt means len text piece rest → text_piece means len text ≡ Ok (piece, rest)
-text_read means len text piece rest is = made_piece (pieces.Leaf (leaves.Text means)) piece (drop len text) rest is.0 is.1
+-- what is read is no break
+no_break : (read : Piece × List ℕ) (fault : Break) → (◌≡◌ {A = Result (Piece × List ℕ) Break} (Ok read) (Err fault) → ⊥) × (⊥ → ◌≡◌ {A = Result (Piece × List ℕ) Break} (Ok read) (Err fault))
+no_break read fault = (λ is. cc, λ none. absurd none)
 
 -- a piece that is read up to what closes it
 abbrev closed_piece : Spot → (List ℕ → Piece) → Option (List ℕ × List ℕ) → Result (Piece × List ℕ) Break
@@ -72,6 +73,12 @@ around_broken : (spot : Spot) (made : List ℕ → Piece) (found : Option (List 
     → closed_piece spot made found ≡ Err fault
 around_broken spot made found fault none is = ap (closed_piece spot made) none ∙ ap (λ x. Err x) (sym is)
 
+-- what is so both ways is so one way and the other
+both_ways : {mark : Option Mark} {setting : Setting} {file : List ℕ} {spot : Spot} {text : List ℕ} {read : Result (Piece × List ℕ) Break}
+    → ((piece : Piece) (rest : List ℕ) → (read ≡ Ok (piece, rest) → IsPieceAt mark setting file spot text piece rest) × (IsPieceAt mark setting file spot text piece rest → read ≡ Ok (piece, rest)))
+    → ((fault : Break) → (read ≡ Err fault → IsBreakAt mark setting file spot text fault) × (IsBreakAt mark setting file spot text fault → read ≡ Err fault)) → Means mark setting file spot text read
+both_ways piece fault = record { stands = λ p rest. (piece p rest).0; is_read = λ p rest. (piece p rest).1; breaks = λ f. (fault f).0; is_broken = λ f. (fault f).1 }
+
 pub by_mark : (mark : Option Mark) (setting : Setting) (file : List ℕ) (spot : Spot) (text : List ℕ) → text ≢ [] → mark_at setting text ≡ mark
     → Means mark setting file spot text (piece_by mark setting file spot text)
 unfolding piece_by
@@ -81,36 +88,16 @@ by_mark (Some marks.Comment) setting file spot text not at = record {
   breaks = around_breaks spot (λ inside. pieces.Leaf leaves.Comment) (around (codes "--%>") (drop 4 text));
   is_broken = λ fault is. around_broken spot (λ inside. pieces.Leaf leaves.Comment) (around (codes "--%>") (drop 4 text)) fault is.0 is.1;
 }
-by_mark (Some marks.Directive) setting file spot text not at = record {
-  stands = λ piece rest. (directive_piece setting file spot text at piece rest).0;
-  is_read = λ piece rest. (directive_piece setting file spot text at piece rest).1;
-  breaks = λ fault. (directive_break setting file spot text at fault).0;
-  is_broken = λ fault. (directive_break setting file spot text at fault).1;
-}
+by_mark (Some marks.Directive) setting file spot text not at = both_ways (directive_piece setting file spot text at) (directive_break setting file spot text at)
 by_mark (Some marks.Scripting) setting file spot text not at = record {
   stands = λ piece rest is. cc;
   is_read = λ piece rest is. absurd is;
   breaks = λ fault is. cc;
   is_broken = λ fault is. ap (λ x. Err x) (sym is);
 }
-by_mark (Some marks.EscapedScripting) setting file spot text not at = record {
-  stands = text_means (codes "<%") 3 text;
-  is_read = text_read (codes "<%") 3 text;
-  breaks = λ fault is. cc;
-  is_broken = λ fault is. absurd is;
-}
-by_mark (Some marks.EscapedDollar) setting file spot text not at = record {
-  stands = text_means (codes "$") 2 text;
-  is_read = text_read (codes "$") 2 text;
-  breaks = λ fault is. cc;
-  is_broken = λ fault is. absurd is;
-}
-by_mark (Some marks.EscapedHash) setting file spot text not at = record {
-  stands = text_means (codes "#") 2 text;
-  is_read = text_read (codes "#") 2 text;
-  breaks = λ fault is. cc;
-  is_broken = λ fault is. absurd is;
-}
+by_mark (Some marks.EscapedScripting) setting file spot text not at = both_ways (text_both (codes "<%") 3 text) (no_break _)
+by_mark (Some marks.EscapedDollar) setting file spot text not at = both_ways (text_both (codes "$") 2 text) (no_break _)
+by_mark (Some marks.EscapedHash) setting file spot text not at = both_ways (text_both (codes "#") 2 text) (no_break _)
 by_mark (Some marks.Expression) setting file spot text not at = record {
   stands = λ piece rest is.
       let made = around_means spot (λ inside. pieces.Leaf (leaves.Expr inside)) (around_brace nothing_open (drop 2 text)) piece rest is in
@@ -121,30 +108,13 @@ by_mark (Some marks.Expression) setting file spot text not at = record {
       (none_is (drop 2 text) none.0, none.1);
   is_broken = λ fault is. around_broken spot (λ inside. pieces.Leaf (leaves.Expr inside)) (around_brace nothing_open (drop 2 text)) fault (none_found (drop 2 text) is.0) is.1;
 }
-by_mark (Some marks.Hash) setting file spot text not at = record {
-  stands = λ piece rest is. same_piece (pieces.Leaf leaves.Hash) piece (drop 2 text) rest is;
-  is_read = λ piece rest is. made_piece (pieces.Leaf leaves.Hash) piece (drop 2 text) rest is.0 is.1;
-  breaks = λ fault is. cc;
-  is_broken = λ fault is. absurd is;
-}
-by_mark (Some marks.Start) setting file spot text not at = record {
-  stands = λ piece rest. (start_piece_is setting file spot text at piece rest).0;
-  is_read = λ piece rest. (start_piece_is setting file spot text at piece rest).1;
-  breaks = λ fault. (start_break setting file spot text at fault).0;
-  is_broken = λ fault. (start_break setting file spot text at fault).1;
-}
-by_mark (Some marks.End) setting file spot text not at = record {
-  stands = λ piece rest. (end_piece setting file spot text at piece rest).0;
-  is_read = λ piece rest. (end_piece setting file spot text at piece rest).1;
-  breaks = λ fault. (end_break setting file spot text at fault).0;
-  is_broken = λ fault. (end_break setting file spot text at fault).1;
-}
-by_mark None setting file spot text not at = record {
-  stands = λ piece rest is. (not, text_means (take (text_len setting text) text) (text_len setting text) text piece rest is);
-  is_read = λ piece rest is. text_read (take (text_len setting text) text) (text_len setting text) text piece rest is.1;
-  breaks = λ fault is. cc;
-  is_broken = λ fault is. absurd is;
-}
+by_mark (Some marks.Hash) setting file spot text not at =
+    both_ways (λ piece rest. (λ is. same_piece (pieces.Leaf leaves.Hash) piece (drop 2 text) rest is, λ is. made_piece (pieces.Leaf leaves.Hash) piece (drop 2 text) rest is.0 is.1)) (no_break _)
+by_mark (Some marks.Start) setting file spot text not at = both_ways (start_piece_is setting file spot text at) (start_break setting file spot text at)
+by_mark (Some marks.End) setting file spot text not at = both_ways (end_piece setting file spot text at) (end_break setting file spot text at)
+by_mark None setting file spot text not at =
+    let front = text_both (take (text_len setting text) text) (text_len setting text) text in
+    both_ways (λ piece rest. (λ is. (not, (front piece rest).0 is), λ is. (front piece rest).1 is.1)) (no_break _)
 
 -- what is read at the front of a text is what is written there
 pub piece_means : (setting : Setting) (file : List ℕ) (spot : Spot) (text : List ℕ) → text ≢ []

@@ -1,6 +1,6 @@
 -- Where an expression ends: at the first `}` outside string literals and inner braces.
 use Rattle.std.specs.Prelude.{◌≡◌, ◌++◌, ◌∷◌, ◌==◌, ◌||◌, ℕ, Bool, true, List, [], not}
-use Rattle.page_pieces.specs.Literals.{is_quote, Between}
+use Rattle.pg_text.specs.Literals.{is_quote, any_byte, Between}
 
 -- a byte that is no quote and no brace
 abbrev pub is_other : ℕ → Bool
@@ -10,7 +10,7 @@ is_other b = not (is_quote b || ((b == 123) || (b == 125)))
 pub data IsInside : List ℕ → Type 0 where
   nothing_inside : IsInside []
   other_then : (b : ℕ) {more : List ℕ} → is_other b ≡ true → IsInside more → IsInside (b ∷ more)
-  literal_then : (quote : ℕ) {between more : List ℕ} → is_quote quote ≡ true → Between quote between → IsInside more → IsInside (quote ∷ (between ++ quote ∷ more))
+  literal_then : (quote : ℕ) {between more : List ℕ} → is_quote quote ≡ true → Between any_byte quote between → IsInside more → IsInside (quote ∷ (between ++ quote ∷ more))
   braces_then : {inside more : List ℕ} → IsInside inside → IsInside more → IsInside (123 ∷ (inside ++ 125 ∷ more))
 
 -- an expression's text begins here: this inside, its `}`, and what follows that

@@ -1,6 +1,5 @@
 pub mod Breaks
 pub mod Expressions
-pub mod Literals
 pub mod Marks
 pub mod Names
 pub mod Pieces

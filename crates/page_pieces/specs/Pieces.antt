@@ -1,5 +1,5 @@
 -- The pieces of a page: each is the first row of the table of marks that stands at its place.
-use Rattle.std.specs.Prelude.{◌≡◌, ◌≢◌, ◌++◌, ◌∷◌, ◌+◌, ℕ, Bool, true, false, List, [], Option, Some, None, take, drop, codes}
+use Rattle.std.specs.Prelude.{◌≡◌, ◌≢◌, ◌++◌, ◌∷◌, ℕ, Bool, true, false, List, [], Option, Some, None, take, drop, codes}
 use Rattle.page_pieces.specs.declared.setting.Setting.{Setting}
 use Rattle.page_pieces.specs.declared.attribute.Attribute.{Attribute}
 use Rattle.page_pieces.specs.declared.mark.Mark.{Mark}
@@ -14,7 +14,7 @@ use Rattle.page_pieces.specs.Settings.{setting_after}
 use Rattle.page_pieces.specs.Marks.{mark_at}
 use Rattle.page_pieces.specs.Tags.{AreAttributes, WrittenHead, head_bytes, IsHead, OpensDirective, ClosesDirective, OpensElement, ClosesElement, WrittenEnd, end_bytes, IsEnd}
 use Rattle.page_pieces.specs.Expressions.{EndsBehind}
-use Rattle.page_pieces.specs.Texts.{around}
+use Rattle.page_pieces.specs.Texts.{around, len_before}
 
 -- a piece as it is written: what it is, its bytes, and where it begins
 pub record WrittenPiece : Type 0 where
@@ -22,14 +22,9 @@ pub record WrittenPiece : Type 0 where
   pub bytes : List ℕ
   pub spot : Spot
 
-abbrev pub counted : Option Mark → ℕ → ℕ
-counted None more = 1 + more
-counted (Some mark) more = 0
-
 -- how many bytes at the front are template text: as many as no mark begins at
 abbrev pub text_len : Setting → List ℕ → ℕ
-text_len setting [] = 0
-text_len setting (b ∷ bytes) = counted (mark_at setting (b ∷ bytes)) (text_len setting bytes)
+text_len setting text = len_before (mark_at setting) text
 
 -- a directive with its attributes stands at the front of a text, and this rest follows
 pub record IsDirectiveAt (setting : Setting) (file : List ℕ) (spot : Spot) (text : List ℕ) (piece : Piece) (rest : List ℕ) : Type 0 where

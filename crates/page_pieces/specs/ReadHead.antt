@@ -21,7 +21,7 @@ use Rattle.page_pieces.specs.Names.{white_len}
 pub use Rattle.page_pieces.specs.Names.{white_front, behind_white}
 use Rattle.page_pieces.specs.Marks.{TagName, name_at, tag_name}
 use Rattle.page_pieces.specs.Tags.{WrittenAttribute}
-use Rattle.page_pieces.specs.Literals.{is_quote}
+use Rattle.pg_text.specs.Literals.{is_quote}
 use Rattle.page_pieces.specs.ReadValue.{attributes_of, around_quote}
 use Rattle.page_pieces.specs.Texts.{begins, after}
 

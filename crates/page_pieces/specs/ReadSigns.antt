@@ -1,5 +1,5 @@
 -- The signs of a value as the code keeps them: a text, and for each of its bytes whether it is shielded. No public contract speaks of it.
-use Rattle.std.specs.Prelude.{◌∷◌, ◌++◌, ◌+◌, ℕ, Bool, false, List, [], Option, Some, None, Result, Ok, Err}
+use Rattle.std.specs.Prelude.{◌∷◌, ◌++◌, ℕ, Bool, false, List, [], Option, Some, None, Result, Ok, Err}
 use Rattle.pg_text.specs.declared.translation_fault.TranslationFault.{TranslationFault}
 use Rattle.pg_text.specs.declared.translation_fault.TranslationFault.TheVariants as faults
 use Rattle.page_pieces.specs.declared.value_mark.ValueMark.{ValueMark}
@@ -9,19 +9,15 @@ use Rattle.page_pieces.specs.declared.attribute.Part.TheVariants as parts
 use Rattle.page_pieces.specs.declared.escape.Escape.{Escape as Found}
 use Rattle.page_pieces.specs.declared.setting.Setting.{Setting}
 use Rattle.page_pieces.specs.ReadExpression.{nothing_open, around_brace}
+use Rattle.page_pieces.specs.Texts.{len_before}
 use Rattle.page_pieces.specs.Values.{Escape, escape_at, Sign, sign, value_mark_at}
 
 abbrev pub escape_of : Found → Escape
 escape_of found = record { len = found.len; means = found.means.now; shields = found.shields }
 
-abbrev pub unless_escape : Option Escape → ℕ → ℕ
-unless_escape None more = 1 + more
-unless_escape (Some found) more = 0
-
 -- how many bytes stand before the first escape
 abbrev pub plain_len : Bool → List ℕ → ℕ
-plain_len el [] = 0
-plain_len el (b ∷ bytes) = unless_escape (escape_at el (b ∷ bytes)) (plain_len el bytes)
+plain_len el text = len_before (escape_at el) text
 
 -- the bytes of a text with a flag each
 abbrev pub signs_with : List ℕ → List Bool → List Sign
@@ -29,14 +25,9 @@ signs_with [] shields = []
 signs_with (b ∷ bytes) [] = sign false b ∷ signs_with bytes []
 signs_with (b ∷ bytes) (shielded ∷ shields) = sign shielded b ∷ signs_with bytes shields
 
-abbrev pub unless_marked : Option ValueMark → ℕ → ℕ
-unless_marked None more = 1 + more
-unless_marked (Some mark) more = 0
-
 -- how many signs stand before the first mark
 abbrev pub unmarked_len : Setting → List Sign → ℕ
-unmarked_len setting [] = 0
-unmarked_len setting (s ∷ more) = unless_marked (value_mark_at setting (s ∷ more)) (unmarked_len setting more)
+unmarked_len setting signs = len_before (value_mark_at setting) signs
 
 abbrev pub expression_or : Option (List ℕ × List ℕ) → Result (Part × List ℕ) TranslationFault
 expression_or None = Err faults.Unclosed

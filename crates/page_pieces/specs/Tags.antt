@@ -10,7 +10,7 @@ use Rattle.page_pieces.specs.declared.piece.Break.{Break}
 use Rattle.page_pieces.specs.declared.piece.Break.TheVariants.{Fault}
 use Rattle.page_pieces.specs.Spots.{spot_after, place_in}
 use Rattle.page_pieces.specs.Names.{IsWhite, IsName, IsAttributeName}
-use Rattle.page_pieces.specs.Literals.{is_quote, Between}
+use Rattle.pg_text.specs.Literals.{is_quote, any_byte, Between}
 use Rattle.page_pieces.specs.Values.{IsValue, IsBadValue}
 
 -- an attribute: white space, a name, `=` with white space around it, and a value between quotes
@@ -38,7 +38,7 @@ pub record IsWellFormed (a : WrittenAttribute) : Type 0 where
   pub before_sign : IsWhite a.before_sign
   pub after_sign : IsWhite a.after_sign
   pub quote : is_quote a.quote ≡ true
-  pub value : Between a.quote a.value
+  pub value : Between any_byte a.quote a.value
 
 abbrev pub AreWellFormed : List WrittenAttribute → Type 0
 AreWellFormed [] = Unit {0}

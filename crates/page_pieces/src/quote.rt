@@ -1,6 +1,6 @@
 ghost use Rattle.std.specs.Prelude.{◌≡◌, ◌<◌, IfSome, false, length, true};
 ghost use Rattle.std.specs.Option.{option_map};
-ghost use Rattle.page_pieces.specs.Literals.{is_quote};
+ghost use Rattle.pg_text.specs.Literals.{is_quote};
 ghost use Rattle.page_pieces.specs.ReadValue.{around_quote, ends_value, takes_next};
 
 // What stands before the quote that ends a value, and what follows it.

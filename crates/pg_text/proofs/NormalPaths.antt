@@ -1,12 +1,11 @@
 -- A path in normal form stands for itself.
-use Rattle.std.proofs.Common.{◌≡◌, ◌≢◌, ℕ, ◌<◌, ◌≤◌, ◌-◌, ◌+◌, Bool, true, false, cond, not, ◌||◌, ◌==◌, nat_lt, nat_eq, List, [], ◌∷◌, ◌++◌, length, drop, Option, Some, Ok, refl, sym, ap, subst, ◌∙◌, arith}
+use Rattle.std.proofs.Common.{◌≡◌, ℕ, ◌<◌, ◌≤◌, Bool, true, false, ◌||◌, ◌==◌, nat_lt, List, [], ◌∷◌, ◌++◌, length, drop, Option, Ok, refl, sym, ap, subst, ◌∙◌, arith}
 use borrow.Author.Tests.{ltb-true, ne_eqb}
-use Rattle.std.specs.List.{list_any, onto_first, slice_split, starts_with}
+use Rattle.std.specs.List.{list_any, slice_split}
 use Rattle.std.specs.Str.{bytes_eq}
-use Rattle.std.proofs.lemmas.Bool.{false≢true}
 use Rattle.std.proofs.lemmas.List.{append-nil}
-use Rattle.pg_text.specs.Normal.{IsNormal, is_bad_byte, is_bad_name, is_slash, max_path_bytes, path_of}
-use Rattle.pg_text.specs.Path.{Kept, NormalStands, kept, resolved, rooted, segments}
+use Rattle.pg_text.specs.Normal.{is_bad_byte, is_bad_name, is_slash, max_path_bytes, path_of}
+use Rattle.pg_text.specs.Path.{NormalStands, kept, resolved, segments}
 use Rattle.pg_text.proofs.SegmentLemmas.{neither}
 
 -- what a name that can stand in a path isn't, none of such names is

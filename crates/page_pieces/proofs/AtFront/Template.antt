@@ -9,7 +9,9 @@ use Rattle.std.proofs.lemmas.List.{drop_all}
 use Rattle.page_pieces.specs.declared.setting.Setting.{Setting}
 use Rattle.page_pieces.specs.declared.mark.Mark.{Mark}
 use Rattle.page_pieces.specs.Marks.{mark_at}
-use Rattle.page_pieces.specs.Pieces.{text_len, counted}
+use Rattle.page_pieces.specs.Pieces.{text_len}
+use Rattle.page_pieces.specs.Texts.{unless}
+use Rattle.page_pieces.proofs.AtFront.Before.{before_within, found_here, none_here}
 
 -- a byte with which a mark may begin
 abbrev pub may_mark : ℕ → Bool
@@ -39,46 +41,19 @@ front_is text n b within at = drop-cons text n 0 within ∙ (λ i. at i ∷ drop
 -- no mark stands here
 pub one_more : {setting : Setting} {text : List ℕ} {n : ℕ} (b : ℕ) → Counted setting text n → n < length text → get_or text n 0 ≡ b → mark_at setting (drop n text) ≡ None → Counted setting text (n + 1)
 one_more {setting} {text} {n} b so_far within at none =
-    let is = front_is text n b within at in
-    let none_there : mark_at setting (b ∷ drop (n + 1) text) ≡ None = ap (mark_at setting) (sym is) ∙ none in
-    let count : text_len setting (drop n text) ≡ 1 + text_len setting (drop (n + 1) text) = ap (text_len setting) is ∙ ap (λ m. counted m (text_len setting (drop (n + 1) text))) none_there in
-    record { same = omega (arith, so_far.same) }
+    let count = none_here (mark_at setting) (drop n text) (drop (n + 1) text) b (front_is text n b within at) none in
+    record { same = omega (arith, so_far.same, count) }
 
 pub no_mark : (setting : Setting) (text : List ℕ) (n b : ℕ) → n < length text → get_or text n 0 ≡ b → may_mark b ≡ false → mark_at setting (drop n text) ≡ None
 no_mark setting text n b within at is = ap (mark_at setting) (front_is text n b within at) ∙ unmarked setting b (drop (n + 1) text) is
 
-no_count : (m : Option Mark) (n : ℕ) → is_some m ≡ true → counted m n ≡ 0
-no_count None n is = cc
-no_count (Some mark) n is = refl
-
-no_text : (setting : Setting) (text : List ℕ) → is_some (mark_at setting text) ≡ true → text_len setting text ≡ 0
-no_text setting [] is = refl
-no_text setting (b ∷ bytes) is = no_count (mark_at setting (b ∷ bytes)) (text_len setting bytes) is
-
 -- a mark stands here
 pub ends_here : {setting : Setting} {text : List ℕ} {n : ℕ} → Counted setting text n → is_some (mark_at setting (drop n text)) ≡ true → n ≡ text_len setting text
-ends_here {setting} {text} {n} so_far is = omega (arith, so_far.same, no_text setting (drop n text) is)
+ends_here {setting} {text} {n} so_far is = omega (arith, so_far.same, found_here (mark_at setting) (drop n text) is)
 
 -- the text is at its end
 pub all_text : {setting : Setting} {text : List ℕ} {n : ℕ} → Counted setting text n → length text ≤ n → n ≡ text_len setting text
 all_text {setting} {text} {n} so_far whole = omega (arith, so_far.same, ap (text_len setting) (drop_all n text whole))
-
-pub text_within : (setting : Setting) (text : List ℕ) → text_len setting text ≤ length text
-text_within setting [] = omega arith
-text_within setting (b ∷ bytes) = go (mark_at setting (b ∷ bytes)) (text_within setting bytes)
-  where
-    go : (m : Option Mark) → text_len setting bytes ≤ length bytes → counted m (text_len setting bytes) ≤ suc (length bytes)
-    go None le = omega arith
-    go (Some mark) le = omega arith
-
-some_count : (m : Option Mark) (n : ℕ) → m ≡ None → 0 < counted m n
-some_count None n is = omega arith
-some_count (Some mark) n is = cc
-
--- where no mark stands there is some text
-pub some_text : (setting : Setting) (text : List ℕ) → mark_at setting text ≡ None → 0 < length text → 0 < text_len setting text
-some_text setting [] none lt = absurd (omega arith)
-some_text setting (b ∷ bytes) none lt = some_count (mark_at setting (b ∷ bytes)) (text_len setting bytes) none
 
 pub none_there : (m : Option Mark) → is_some m ≡ false → m ≡ None
 none_there None is = refl
@@ -93,8 +68,8 @@ mark_ends setting (b ∷ bytes) lt = go (mark_at setting (b ∷ bytes)) refl lt 
     marked true is m at = is
     marked false is m at = let none = unmarked setting b bytes is in cc
 
-    go : (m : Option Mark) → mark_at setting (b ∷ bytes) ≡ m → counted m (text_len setting bytes) < suc (length bytes) → (text_len setting bytes < length bytes → may_mark (get_or bytes (text_len setting bytes) 0) ≡ true)
-        → may_mark (get_or (b ∷ bytes) (counted m (text_len setting bytes)) 0) ≡ true
+    go : (m : Option Mark) → mark_at setting (b ∷ bytes) ≡ m → unless m (text_len setting bytes) < suc (length bytes) → (text_len setting bytes < length bytes → may_mark (get_or bytes (text_len setting bytes) 0) ≡ true)
+        → may_mark (get_or (b ∷ bytes) (unless m (text_len setting bytes)) 0) ≡ true
     go None is lt rec = ap (λ n. may_mark (get_or (b ∷ bytes) n 0)) (one-add (text_len setting bytes)) ∙ rec (omega arith)
     go (Some m) is lt rec = marked (may_mark b) refl m is
 
@@ -107,4 +82,4 @@ text_cut setting text utf8 = go (nat_lt (text_len setting text) (length text)) r
   where
     go : (b : Bool) → nat_lt (text_len setting text) (length text) ≡ b → IsCharBoundary text (text_len setting text)
     go true is = let within = ltb-true _ _ is in IsCharBoundary-before_ascii text (text_len setting text) within (may_ascii _ (mark_ends setting text within))
-    go false is = let whole : length text ≡ text_len setting text = omega (arith, text_within setting text, ltb-false _ _ is) in subst (IsCharBoundary text) whole (IsCharBoundary-end text)
+    go false is = let whole : length text ≡ text_len setting text = omega (arith, before_within (mark_at setting) text, ltb-false _ _ is) in subst (IsCharBoundary text) whole (IsCharBoundary-end text)

@@ -2,13 +2,15 @@
 use Rattle.std.proofs.Common.{◌≡◌, ◌<◌, ◌≤◌, ◌+◌, ◌-◌, ◌∙◌, ℕ, zero, suc, Bool, true, false, cond, ltb, ◌&&◌, List, [], ◌∷◌, ◌++◌, length, take, drop, get_or, refl, ap, sym, arith, append_assoc, Option, Some, None, IsUtf8, codes, length-append, length-drop, subst}
 use Rattle.std.specs.Str.{IsCharBoundary}
 use Rattle.std.specs.List.{list_all}
+use Rattle.std.specs.Option.{is_some}
 use Rattle.std.proofs.lemmas.List.{append-nil, drop_more, get_or_append_left, get_or-drop}
 use Rattle.std.proofs.lemmas.Str.{IsCharBoundary-end, IsCharBoundary-after_ascii, IsCharBoundary-before_ascii}
 use Rattle.std.proofs.lemmas.Slice.Eq.{starts_is}
 use Rattle.std.proofs.lemmas.Bool.Decides.{Decides-eqb, nat_tests}
-use Rattle.page_pieces.specs.Texts.{begins}
-use Rattle.page_pieces.specs.ReadSigns.{plain_len, unless_escape}
+use Rattle.page_pieces.specs.Texts.{begins, unless}
+use Rattle.page_pieces.specs.ReadSigns.{plain_len}
 use Rattle.page_pieces.specs.Values.{Escape, escape_at, escaped_or, Sign, sign, signs, signs_behind, signs_of}
+use Rattle.page_pieces.proofs.AtFront.Before.{before_within, found_here, none_behind, none_here}
 
 abbrev is_ascii : ℕ → Bool
 is_ascii b = ltb b 128
@@ -54,34 +56,10 @@ escape_begins el text found is =
 
 -- no escape stands behind so many bytes, where one more follows
 pub plain_more : (el : Bool) (text : List ℕ) (i : ℕ) → i < length text → escape_at el (drop i text) ≡ None → plain_len el (drop i text) ≡ 1 + plain_len el (drop (i + 1) text)
-plain_more el text i lt none =
-    let more = drop_more text i 0 lt in
-    ap (plain_len el) more ∙ ap (λ o. unless_escape o (plain_len el (drop (i + 1) text))) (ap (escape_at el) (sym more) ∙ none)
+plain_more el text i lt none = none_here (escape_at el) (drop i text) (drop (i + 1) text) (get_or text i 0) (drop_more text i 0 lt) none
 
 pub plain_here : (el : Bool) (text : List ℕ) (found : Escape) → escape_at el text ≡ Some found → plain_len el text ≡ 0
-plain_here el [] found is = refl
-plain_here el (b ∷ bytes) found is = ap (λ o. unless_escape o (plain_len el bytes)) is
-
-pub plain_within : (el : Bool) (text : List ℕ) → plain_len el text ≤ length text
-plain_within el [] = omega arith
-plain_within el (b ∷ bytes) = go (escape_at el (b ∷ bytes)) (plain_within el bytes)
-  where
-    go : (o : Option Escape) → plain_len el bytes ≤ length bytes → unless_escape o (plain_len el bytes) ≤ suc (length bytes)
-    go None le = omega arith
-    go (Some found) le = omega arith
-
--- where no escape stands behind the plain bytes nothing does
-pub plain_all : (el : Bool) (text : List ℕ) → escape_at el (drop (plain_len el text) text) ≡ None → drop (plain_len el text) text ≡ []
-plain_all el [] none = refl
-plain_all el (b ∷ bytes) none = go (escape_at el (b ∷ bytes)) refl none (plain_all el bytes)
-  where
-    go : (o : Option Escape) → escape_at el (b ∷ bytes) ≡ o → escape_at el (drop (unless_escape o (plain_len el bytes)) (b ∷ bytes)) ≡ None
-        → (escape_at el (drop (plain_len el bytes) bytes) ≡ None → drop (plain_len el bytes) bytes ≡ [])
-        → drop (unless_escape o (plain_len el bytes)) (b ∷ bytes) ≡ []
-    go None is none rec =
-        let one : 1 + plain_len el bytes ≡ suc (plain_len el bytes) = omega arith in
-        ap (λ n. drop n (b ∷ bytes)) one ∙ rec (ap (λ n. escape_at el (drop n (b ∷ bytes))) (sym one) ∙ none)
-    go (Some found) is none rec = absurd (cc)
+plain_here el text found is = found_here (escape_at el) text (ap is_some is)
 
 -- the signs of plain bytes, and then those of what follows
 pub plain_signs : (el : Bool) (text : List ℕ) → signs_of el text ≡ signs false (take (plain_len el text) text) ++ signs_of el (drop (plain_len el text) text)
@@ -90,7 +68,7 @@ plain_signs el (b ∷ bytes) = go (escape_at el (b ∷ bytes)) refl (plain_signs
   where
     go : (o : Option Escape) → escape_at el (b ∷ bytes) ≡ o
         → signs_of el bytes ≡ signs false (take (plain_len el bytes) bytes) ++ signs_of el (drop (plain_len el bytes) bytes)
-        → escaped_or o b (λ skipped. signs_behind el skipped bytes) ≡ signs false (take (unless_escape o (plain_len el bytes)) (b ∷ bytes)) ++ signs_of el (drop (unless_escape o (plain_len el bytes)) (b ∷ bytes))
+        → escaped_or o b (λ skipped. signs_behind el skipped bytes) ≡ signs false (take (unless o (plain_len el bytes)) (b ∷ bytes)) ++ signs_of el (drop (unless o (plain_len el bytes)) (b ∷ bytes))
     go None is rec =
         let one : suc (plain_len el bytes) ≡ 1 + plain_len el bytes = omega arith in
         ap (λ s. sign false b ∷ s) rec ∙ ap (λ n. signs false (take n (b ∷ bytes)) ++ signs_of el (drop n (b ∷ bytes))) one
@@ -149,7 +127,7 @@ plain_cut el text = go (escape_at el (drop (plain_len el text) text)) refl
   where
     go : (o : Option Escape) → escape_at el (drop (plain_len el text) text) ≡ o → IsCharBoundary text (plain_len el text)
     go None is =
-        let all : plain_len el text ≡ length text = omega (arith, plain_within el text, ap length (plain_all el text is), length-drop (plain_len el text) text) in
+        let all : plain_len el text ≡ length text = omega (arith, before_within (escape_at el) text, ap length (none_behind (escape_at el) text is), length-drop (plain_len el text) text) in
         subst (IsCharBoundary text) (sym all) (IsCharBoundary-end text)
     go (Some found) is =
         let at = stands_at el (drop (plain_len el text) text) found is in
@@ -172,6 +150,6 @@ escape_step el before after more_after rest plain behind more n found n_is plain
 -- no escape more
 pub no_escape : (el : Bool) (before after : List Sign) (rest plain behind : List ℕ) (n : ℕ) → n ≡ plain_len el rest → plain ≡ take n rest → behind ≡ drop n rest → escape_at el behind ≡ None → after ≡ before ++ signs false plain → after ≡ before ++ signs_of el rest
 no_escape el before after rest plain behind n n_is plain_is behind_is none after_is =
-    let nothing : drop (plain_len el rest) rest ≡ [] = plain_all el rest (ap (escape_at el) (sym (behind_is ∙ ap (λ m. drop m rest) n_is)) ∙ none) in
+    let nothing : drop (plain_len el rest) rest ≡ [] = none_behind (escape_at el) rest (ap (escape_at el) (sym (behind_is ∙ ap (λ m. drop m rest) n_is)) ∙ none) in
     after_is ∙ ap (λ s. before ++ signs false s) (plain_is ∙ ap (λ m. take m rest) n_is)
     ∙ ap (λ s. before ++ s) (sym (append-nil (signs false (take (plain_len el rest) rest))) ∙ ap (λ t. signs false (take (plain_len el rest) rest) ++ signs_of el t) (sym nothing) ∙ sym (plain_signs el rest))

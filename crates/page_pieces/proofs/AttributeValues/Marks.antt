@@ -1,10 +1,12 @@
 -- What opens in a value, looked for from left to right.
-use Rattle.std.proofs.Common.{◌≡◌, ◌≤◌, ◌<◌, ◌+◌, ◌∙◌, ℕ, Bool, false, List, [], ◌∷◌, length, drop, get_or, refl, ap, sym, arith, Some, None}
+use Rattle.std.proofs.Common.{◌≡◌, ◌≤◌, ◌<◌, ◌+◌, ℕ, Bool, false, List, [], ◌∷◌, length, drop, get_or, refl, ap, arith, Some, None}
+use Rattle.std.specs.Option.{is_some}
 use Rattle.std.proofs.lemmas.List.{drop_more}
 use Rattle.page_pieces.specs.declared.value_mark.ValueMark.{ValueMark}
 use Rattle.page_pieces.specs.declared.setting.Setting.{Setting}
-use Rattle.page_pieces.specs.ReadSigns.{signs_with, unless_marked, unmarked_len}
+use Rattle.page_pieces.specs.ReadSigns.{signs_with, unmarked_len}
 use Rattle.page_pieces.specs.Values.{Sign, sign, value_mark_of, value_mark_at}
+use Rattle.page_pieces.proofs.AtFront.Before.{found_here, none_here}
 
 pub opens_at : (setting : Setting) (text : List ℕ) (shields : List Bool) → 2 ≤ length text → value_mark_at setting (signs_with text shields) ≡ value_mark_of setting (sign (get_or shields 0 false) (get_or text 0 0)) (sign false (get_or text 1 0))
 opens_at setting [] shields two = absurd (omega arith)
@@ -19,16 +21,12 @@ too_short setting (x ∷ []) [] short = refl
 too_short setting (x ∷ []) (s ∷ shields) short = refl
 too_short setting (x ∷ y ∷ text) shields short = absurd (omega arith)
 
-one_more : (setting : Setting) (signs : List Sign) (more : List Sign) (s : Sign) → signs ≡ s ∷ more → value_mark_at setting signs ≡ None → unmarked_len setting signs ≡ 1 + unmarked_len setting more
-one_more setting signs more s is none = ap (unmarked_len setting) is ∙ ap (λ o. unless_marked o (unmarked_len setting more)) (ap (value_mark_at setting) (sym is) ∙ none)
-
 -- nothing opens behind so many bytes, where one more follows
 pub unmarked_more : (setting : Setting) (text : List ℕ) (shields : List Bool) (i : ℕ) → i < length text → i < length shields → value_mark_at setting (signs_with (drop i text) (drop i shields)) ≡ None
     → unmarked_len setting (signs_with (drop i text) (drop i shields)) ≡ 1 + unmarked_len setting (signs_with (drop (i + 1) text) (drop (i + 1) shields))
 unmarked_more setting text shields i lt shields_lt none =
-    one_more setting (signs_with (drop i text) (drop i shields)) (signs_with (drop (i + 1) text) (drop (i + 1) shields)) (sign (get_or shields i false) (get_or text i 0))
+    none_here (value_mark_at setting) (signs_with (drop i text) (drop i shields)) (signs_with (drop (i + 1) text) (drop (i + 1) shields)) (sign (get_or shields i false) (get_or text i 0))
     (λ j. signs_with (drop_more text i 0 lt j) (drop_more shields i false shields_lt j)) none
 
 pub unmarked_here : (setting : Setting) (signs : List Sign) (opening : ValueMark) → value_mark_at setting signs ≡ Some opening → unmarked_len setting signs ≡ 0
-unmarked_here setting [] opening is = refl
-unmarked_here setting (s ∷ more) opening is = ap (λ o. unless_marked o (unmarked_len setting more)) is
+unmarked_here setting signs opening is = found_here (value_mark_at setting) signs (ap is_some is)

@@ -9,10 +9,11 @@ use Rattle.page_pieces.specs.declared.attribute.Part.TheVariants as parts
 use Rattle.page_pieces.specs.declared.setting.Setting.{Setting}
 use Rattle.page_pieces.specs.declared.expression.Scanning.{Scanning}
 use Rattle.page_pieces.specs.ReadExpression.{around_brace, brace_or, scan_byte, nothing_open}
-use Rattle.page_pieces.specs.Texts.{further}
-use Rattle.page_pieces.specs.ReadSigns.{unless_marked, unmarked_len, expression_or, part_behind, text_added}
+use Rattle.page_pieces.specs.Texts.{further, unless}
+use Rattle.page_pieces.specs.ReadSigns.{unmarked_len, expression_or, part_behind, text_added}
 use Rattle.page_pieces.specs.Values.{Sign, bytes_of, value_mark_at}
 use Rattle.page_pieces.specs.ReadValue.{with_byte, with_part, with_expression, part_or, parts_behind, parts_of}
+use Rattle.page_pieces.proofs.AtFront.Before.{none_behind}
 
 -- a text before these parts, where it is not empty
 abbrev pub with_text : List ℕ → Result (List Part) TranslationFault → Result (List Part) TranslationFault
@@ -60,7 +61,7 @@ opened_other : (setting : Setting) (signs : List Sign) → unmarked_len setting 
 opened_other setting [] none = tt
 opened_other setting (s ∷ more) none = go (value_mark_at setting (s ∷ more)) none
   where
-    go : (o : Option ValueMark) → unless_marked o (unmarked_len setting more) ≡ 0 → BeginsOther (part_or o s more (λ skipped. parts_behind setting skipped more))
+    go : (o : Option ValueMark) → unless o (unmarked_len setting more) ≡ 0 → BeginsOther (part_or o s more (λ skipped. parts_behind setting skipped more))
     go None none = absurd (omega arith)
     go (Some value_marks.Hash) none = hash_other (parts_behind setting 1 more)
     go (Some value_marks.Expression) none = expression_other (around_brace nothing_open (bytes_of (drop 1 more))) (λ skipped. parts_behind setting skipped more)
@@ -84,11 +85,11 @@ unmarked_all : (setting : Setting) (signs : List Sign) → unmarked_len setting 
 unmarked_all setting [] = refl
 unmarked_all setting (s ∷ more) = go (value_mark_at setting (s ∷ more)) refl (unmarked_all setting more)
   where
-    go : (o : Option ValueMark) → value_mark_at setting (s ∷ more) ≡ o → unmarked_len setting (drop (unmarked_len setting more) more) ≡ 0 → unmarked_len setting (drop (unless_marked o (unmarked_len setting more)) (s ∷ more)) ≡ 0
+    go : (o : Option ValueMark) → value_mark_at setting (s ∷ more) ≡ o → unmarked_len setting (drop (unmarked_len setting more) more) ≡ 0 → unmarked_len setting (drop (unless o (unmarked_len setting more)) (s ∷ more)) ≡ 0
     go None is rec =
         let one : 1 + unmarked_len setting more ≡ suc (unmarked_len setting more) = omega arith in
         ap (λ n. unmarked_len setting (drop n (s ∷ more))) one ∙ rec
-    go (Some opening) is rec = ap (λ o. unless_marked o (unmarked_len setting more)) is
+    go (Some opening) is rec = ap (λ o. unless o (unmarked_len setting more)) is
 
 -- the text before the first opening, and then the parts behind it
 pub text_first : (setting : Setting) (signs : List Sign) → parts_of setting signs ≡ with_text (take (unmarked_len setting signs) (bytes_of signs)) (parts_of setting (drop (unmarked_len setting signs) signs))
@@ -97,7 +98,7 @@ text_first setting (s ∷ more) = go (value_mark_at setting (s ∷ more)) refl (
   where
     go : (o : Option ValueMark) → value_mark_at setting (s ∷ more) ≡ o
         → parts_of setting more ≡ with_text (take (unmarked_len setting more) (bytes_of more)) (parts_of setting (drop (unmarked_len setting more) more))
-        → part_or o s more (λ skipped. parts_behind setting skipped more) ≡ with_text (take (unless_marked o (unmarked_len setting more)) (bytes_of (s ∷ more))) (parts_of setting (drop (unless_marked o (unmarked_len setting more)) (s ∷ more)))
+        → part_or o s more (λ skipped. parts_behind setting skipped more) ≡ with_text (take (unless o (unmarked_len setting more)) (bytes_of (s ∷ more))) (parts_of setting (drop (unless o (unmarked_len setting more)) (s ∷ more)))
     go None is rec =
         let one : suc (unmarked_len setting more) ≡ 1 + unmarked_len setting more = omega arith in
         ap (with_byte s.byte) rec
@@ -107,13 +108,7 @@ text_first setting (s ∷ more) = go (value_mark_at setting (s ∷ more)) refl (
 
 -- where nothing opens behind the text nothing follows
 pub text_all : (setting : Setting) (signs : List Sign) → value_mark_at setting (drop (unmarked_len setting signs) signs) ≡ None → drop (unmarked_len setting signs) signs ≡ []
-text_all setting signs none = go (drop (unmarked_len setting signs) signs) none (unmarked_all setting signs)
-  where
-    go : (rest : List Sign) → value_mark_at setting rest ≡ None → unmarked_len setting rest ≡ 0 → rest ≡ []
-    go [] none zero_is = refl
-    go (s ∷ more) none zero_is =
-        let some : unmarked_len setting (s ∷ more) ≡ 1 + unmarked_len setting more = ap (λ o. unless_marked o (unmarked_len setting more)) none in
-        absurd (omega (arith, some, zero_is))
+text_all setting signs none = none_behind (value_mark_at setting) signs none
 
 -- the parts behind signs that are passed over
 pub parts_passed : (setting : Setting) (n : ℕ) (signs : List Sign) → parts_behind setting n signs ≡ parts_of setting (drop n signs)

@@ -3,7 +3,8 @@ use Rattle.std.proofs.Common.{◌≡◌, ◌<◌, ◌+◌, ℕ, Bool, true, List
 use Rattle.std.specs.Str.{IsCharBoundary}
 use Rattle.std.proofs.lemmas.Str.{IsCharBoundary-after_ascii}
 use Rattle.std.proofs.lemmas.Bool.Decides.{nat_tests}
-use Rattle.page_pieces.specs.Literals.{is_quote}
+use Rattle.pg_text.specs.Literals.{is_quote}
+use Rattle.pg_text.proofs.LiteralLemmas.{quote_ascii}
 use Rattle.page_pieces.specs.Texts.{further}
 use Rattle.page_pieces.specs.ReadValue.{ends_value}
 
@@ -20,9 +21,6 @@ further_by_nothing (Some found) = refl
 pub further_one : (front : List ℕ) (b : ℕ) (found : Option (List ℕ × List ℕ)) → further_by (front ++ b ∷ []) found ≡ further_by front (further b found)
 further_one front b None = refl
 further_one front b (Some found) = ap (λ t. Some (t, found.1)) (append_assoc front (b ∷ []) found.0)
-
-quote_ascii : (quote : ℕ) → is_quote quote ≡ true → quote < 128
-quote_ascii quote is = grind (arith, nat_tests)
 
 ending_is : (quote : ℕ) (escaped : Bool) (b : ℕ) → ends_value quote escaped b ≡ true → b ≡ quote
 ending_is quote escaped b is = grind (arith, nat_tests)

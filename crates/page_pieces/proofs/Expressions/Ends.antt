@@ -3,7 +3,8 @@ use Rattle.std.proofs.Common.{◌≡◌, ◌+◌, ◌-◌, ◌||◌, ◌∙◌, 
 use Rattle.std.proofs.lemmas.Bool.Decides.{nat_tests}
 use Rattle.page_pieces.specs.declared.expression.Scanning.{Scanning}
 use Rattle.page_pieces.specs.Texts.{further}
-use Rattle.page_pieces.specs.Literals.{is_quote, Between, nothing_between, byte_then, escaped_then}
+use Rattle.pg_text.specs.Literals.{is_quote, any_byte, Between, nothing_between, byte_then, escaped_then}
+use Rattle.pg_text.proofs.LiteralLemmas.{BetweenFrom}
 use Rattle.page_pieces.specs.Expressions.{is_other, IsInside, nothing_inside, other_then, literal_then, braces_then, EndsBehind, HasNoEnd}
 use Rattle.page_pieces.specs.ReadExpression.{outside_literal, within_literal, scan_byte, nothing_open, brace_or, around_brace}
 use Rattle.page_pieces.proofs.Expressions.Found.{end_found}
@@ -16,17 +17,12 @@ abbrev InsideTo : ℕ → List ℕ → Type 0
 InsideTo zero bytes = IsInside bytes
 InsideTo (suc depth) bytes = (inside : List ℕ) × (more : List ℕ) × (bytes ≡ inside ++ 125 ∷ more) × IsInside inside × InsideTo depth more
 
--- what may follow in a literal, where a backslash stands before it or not
-abbrev BetweenFrom : Bool → ℕ → List ℕ → Type 0
-BetweenFrom false quote bytes = Between quote bytes
-BetweenFrom true quote bytes = (b : ℕ) × (more : List ℕ) × (bytes ≡ b ∷ more) × Between quote more
-
 -- the end of a literal, and what may stand behind it
 record LiteralTo (quote : ℕ) (escaped : Bool) (depth : ℕ) (bytes : List ℕ) : Type 0 where
   between : List ℕ
   more : List ℕ
   cut : bytes ≡ between ++ quote ∷ more
-  literal : BetweenFrom escaped quote between
+  literal : BetweenFrom any_byte escaped quote between
   behind : InsideTo depth more
 
 abbrev Reads : Option ℕ → Bool → ℕ → List ℕ → Type 0
@@ -42,7 +38,7 @@ other_to : (depth b : ℕ) (bytes : List ℕ) → is_other b ≡ true → Inside
 other_to zero b bytes is to = other_then b is to
 other_to (suc depth) b bytes is to = (b ∷ to.0, to.1, ap (λ t. b ∷ t) to.2, other_then b is to.3, to.4)
 
-literal_to : (depth quote : ℕ) (between more : List ℕ) → is_quote quote ≡ true → Between quote between → InsideTo depth more → InsideTo depth (quote ∷ (between ++ quote ∷ more))
+literal_to : (depth quote : ℕ) (between more : List ℕ) → is_quote quote ≡ true → Between any_byte quote between → InsideTo depth more → InsideTo depth (quote ∷ (between ++ quote ∷ more))
 literal_to zero quote between more is literal to = literal_then quote is literal to
 literal_to (suc depth) quote between more is literal to =
     (quote ∷ (between ++ quote ∷ to.0), to.1, ap (λ t. quote ∷ (between ++ quote ∷ t)) to.2 ∙ ap (λ t. quote ∷ t) (sym (append_assoc between (quote ∷ to.0) (125 ∷ to.1))), literal_then quote is literal to.3, to.4)
@@ -103,7 +99,7 @@ outside_steps depth b next is = go (eqb b 125) refl (eqb b 123) refl (is_quote b
 within_steps : (quote : ℕ) (escaped : Bool) (depth b : ℕ) (next : Scanning) → within_literal quote (state_of (Some quote) escaped depth) b ≡ Some next → Steps (Some quote) escaped depth b next
 within_steps quote true depth b next is = step_is (state_of (Some quote) false depth) next is (record {
   proper = tt;
-  reads = λ bytes to. record { between = b ∷ to.between; more = to.more; cut = ap (λ t. b ∷ t) to.cut; literal = (b, to.between, refl, to.literal); behind = to.behind };
+  reads = λ bytes to. record { between = b ∷ to.between; more = to.more; cut = ap (λ t. b ∷ t) to.cut; literal = (b, to.between, refl, refl, to.literal); behind = to.behind };
 })
 within_steps quote false depth b next is = go (eqb b 92) refl (eqb b quote) refl is
   where
@@ -121,7 +117,7 @@ within_steps quote false depth b next is = go (eqb b 92) refl (eqb b quote) refl
               between = 92 ∷ c.0 ∷ c.1;
               more = to.more;
               cut = (λ i. back i ∷ to.cut i) ∙ ap (λ t. 92 ∷ (t ++ quote ∷ to.more)) c.2;
-              literal = escaped_then c.0 c.3;
+              literal = escaped_then c.0 c.3 c.4;
               behind = to.behind;
             }
     go false x true y e = step_is (state_of None false depth) next e (record {

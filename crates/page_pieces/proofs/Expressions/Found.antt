@@ -4,7 +4,7 @@ use Rattle.std.proofs.lemmas.Bool.{cond-true, cond-false, ne_eqb, eq-eqb}
 use Rattle.std.proofs.lemmas.Bool.Decides.{nat_tests}
 use Rattle.page_pieces.specs.declared.expression.Scanning.{Scanning}
 use Rattle.page_pieces.specs.Texts.{further}
-use Rattle.page_pieces.specs.Literals.{is_quote, Between, nothing_between, byte_then, escaped_then}
+use Rattle.pg_text.specs.Literals.{is_quote, any_byte, Between, nothing_between, byte_then, escaped_then}
 use Rattle.page_pieces.specs.Expressions.{is_other, IsInside, nothing_inside, other_then, literal_then, braces_then, EndsBehind}
 use Rattle.page_pieces.specs.ReadExpression.{scan_byte, nothing_open, brace_or, around_brace}
 
@@ -43,7 +43,7 @@ quote_not_slash : (quote : ℕ) → is_quote quote ≡ true → quote ≢ 92
 quote_not_slash quote is same = absurd (grind (arith, nat_tests))
 
 -- a whole literal is passed over
-literal_passed : (quote depth : ℕ) → is_quote quote ≡ true → {between : List ℕ} → Between quote between → (tail : List ℕ)
+literal_passed : (quote depth : ℕ) → is_quote quote ≡ true → {between : List ℕ} → Between any_byte quote between → (tail : List ℕ)
     → around_brace (within quote false depth) (between ++ quote ∷ tail) ≡ before_that (between ++ quote ∷ []) (around_brace (outside depth) tail)
 literal_passed quote depth is nothing_between tail =
     goes (within quote false depth) (outside depth) quote tail step ∙ ap (further quote) (before_nothing (around_brace (outside depth) tail)) ∙ before_byte quote [] (around_brace (outside depth) tail)
@@ -57,7 +57,7 @@ literal_passed quote depth is (byte_then b {bytes = bytes} ne no_slash more) tai
   where
     step : scan_byte (within quote false depth) b ≡ Some (within quote false depth)
     step = cond-false (eqb b 92) _ _ (is_not b 92 no_slash) ∙ cond-false (eqb b quote) _ _ (is_not b quote ne)
-literal_passed quote depth is (escaped_then b {bytes = bytes} more) tail =
+literal_passed quote depth is (escaped_then b {bytes = bytes} may more) tail =
     goes (within quote false depth) (within quote true depth) 92 (b ∷ (bytes ++ quote ∷ tail)) refl
     ∙ ap (further 92) (goes (within quote true depth) (within quote false depth) b (bytes ++ quote ∷ tail) refl
     ∙ ap (further b) (literal_passed quote depth is more tail)

@@ -1,12 +1,12 @@
 -- The name of an attribute, with a prefix or without, is a front of its text.
 use Rattle.std.proofs.Common.{◌≡◌, ℕ, ◌+◌, ◌<◌, Bool, true, false, cond, eqb, Some, None, Result, Ok, List, [], ◌∷◌, ◌++◌, length, take, drop, get_or, codes, refl, sym, ap, ◌∙◌, subst, arith, append_assoc, length-append, length-take, take-append-drop, IsUtf8}
-use Rattle.std.proofs.lemmas.Bool.Decides.{nat_tests}
 use Rattle.std.proofs.Math.Seq.{get_or-append_seam, take-append_seam, drop-append_seam}
 use Rattle.std.specs.List.{slice_get}
 use Rattle.std.specs.Str.{IsCharBoundary}
 use Rattle.std.proofs.lemmas.Str.{IsCharBoundary-after_ascii, IsCharBoundary-from_rest, IsUtf8-drop}
 use Rattle.page_pieces.specs.Names.{name_len}
-use Rattle.page_pieces.specs.Literals.{is_quote}
+use Rattle.pg_text.specs.Literals.{is_quote}
+use Rattle.pg_text.proofs.LiteralLemmas.{quote_ascii}
 use Rattle.page_pieces.specs.Texts.{begins, after}
 use Rattle.page_pieces.specs.ReadHead.{◌>>=◌, or_misread, name_read, with_local_name, attribute_name_at}
 use Rattle.page_pieces.proofs.AtFront.MarkLoop.{begun}
@@ -81,6 +81,3 @@ quote_cut (b ∷ bytes) quote utf8 first is = IsCharBoundary-after_ascii (b ∷ 
   where
     same : quote ≡ b
     same = cc
-
-    quote_ascii : (b : ℕ) → is_quote b ≡ true → b < 128
-    quote_ascii b is = grind (arith, nat_tests)

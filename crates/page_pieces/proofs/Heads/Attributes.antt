@@ -9,7 +9,7 @@ use Rattle.page_pieces.specs.declared.head.Misread.TheVariants.{Malformed}
 use Rattle.page_pieces.specs.Names.{IsWhite, IsName, IsAttributeName, is_white, is_name_start, is_name_byte, white_len, white_front, behind_white}
 use Rattle.page_pieces.specs.Marks.{name_at}
 use Rattle.page_pieces.specs.Tags.{WrittenAttribute, IsWellFormed, attribute_bytes}
-use Rattle.page_pieces.specs.Literals.{is_quote, Between}
+use Rattle.pg_text.specs.Literals.{is_quote, any_byte, Between}
 use Rattle.page_pieces.specs.Texts.{after}
 use Rattle.page_pieces.specs.ReadValue.{around_quote}
 use Rattle.page_pieces.specs.ReadHead.{◌>>=◌, misread, or_misread, or_cut_off, name_read, with_local_name, attribute_name_at, behind_mark, Quoted, quoted, quoted_at, attribute_behind, attribute_at}
@@ -99,7 +99,7 @@ attribute_name_is_read name rest (inr (prefix, local, is, prefixed, named)) stop
 record QuotedFront (text : List ℕ) (q : Quoted) : Type 0 where
   quote : is_quote q.quote ≡ true
   cut : text ≡ q.quote ∷ (q.value ++ q.quote ∷ q.rest)
-  between : Between q.quote q.value
+  between : Between any_byte q.quote q.value
 
 read_quoted : (text : List ℕ) (q : Quoted) → quoted_at text ≡ Ok q → QuotedFront text q
 unfolding quoted_at
@@ -113,7 +113,7 @@ read_quoted (b ∷ bytes) q is = go (is_quote b) refl (around_quote b false byte
         let front = value_front b false bytes found.0 found.1 at in
         subst (QuotedFront (b ∷ bytes)) (ok_same is) (record { quote = quotes; cut = ap (λ t. b ∷ t) front.cut; between = front.between })
 
-quoted_is_read : (quote : ℕ) (value rest : List ℕ) → is_quote quote ≡ true → Between quote value
+quoted_is_read : (quote : ℕ) (value rest : List ℕ) → is_quote quote ≡ true → Between any_byte quote value
     → quoted_at (quote ∷ (value ++ quote ∷ rest)) ≡ Ok (record { quote = quote; value = value; rest = rest })
 unfolding quoted_at
 quoted_is_read quote value rest is between =

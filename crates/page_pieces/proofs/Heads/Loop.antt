@@ -1,7 +1,6 @@
 -- The attributes of a head, read one at a time.
 use Rattle.std.proofs.Common.{◌≡◌, ◌<◌, ◌+◌, ◌-◌, ◌∙◌, ℕ, zero, suc, Bool, true, false, cond, List, [], ◌∷◌, ◌++◌, length, take, drop, get_or, length-append, subst, IsUtf8, refl, ap, sym, arith, Result, Ok, Err, nat_lt, append_assoc, append-nil, ltb-true, lt-ltb, one-add}
 use Rattle.std.proofs.Math.Seq.{get_or-append_seam, take-append_seam, drop-append_seam}
-use Rattle.std.proofs.lemmas.Bool.Decides.{nat_tests}
 use Rattle.std.proofs.lemmas.Str.{IsCharBoundary-after_ascii, IsUtf8-drop}
 use Rattle.page_pieces.specs.Names.{white_front, behind_white}
 use Rattle.page_pieces.specs.declared.setting.Setting.{Setting}
@@ -15,7 +14,7 @@ use Rattle.page_pieces.specs.declared.head.Misread.{Misread}
 use Rattle.page_pieces.specs.declared.head.Misread.TheVariants.{CutOff, Malformed}
 use Rattle.page_pieces.specs.Spots.{spot_after}
 use Rattle.page_pieces.specs.Tags.{WrittenAttribute, before_value, attribute_bytes}
-use Rattle.page_pieces.specs.Literals.{is_quote}
+use Rattle.pg_text.proofs.LiteralLemmas.{quote_ascii}
 use Rattle.page_pieces.specs.ReadValue.{attribute_of, attribute_first, attributes_of}
 use Rattle.page_pieces.specs.ReadHead.{attribute_at, end_read, Walk, attribute_before, ends_with, walk_on, walk_then, walk_within, walk_at, unread, attributes_read, attributes_at}
 use Rattle.page_pieces.specs.ReadSpelled.{unless_cut_off}
@@ -175,9 +174,6 @@ behind_ascii text front behind b utf8 is ascii =
     let seam : text ≡ (front ++ b ∷ []) ++ behind = is ∙ sym (append_assoc front (b ∷ []) behind) in
     let size : length front + 1 ≡ length (front ++ b ∷ []) = omega (arith, length-append front (b ∷ [])) in
     subst IsUtf8 ((λ i. drop (size i) (seam i)) ∙ drop-append_seam (front ++ b ∷ []) behind) (IsUtf8-drop text (length front + 1) utf8 (IsCharBoundary-after_ascii text (length front) utf8 within (omega arith)))
-
-quote_ascii : (b : ℕ) → is_quote b ≡ true → b < 128
-quote_ascii b is = grind (arith, nat_tests)
 
 pub behind_attribute : (text : List ℕ) (fault : Misread) (a : WrittenAttribute) (behind : List ℕ) → IsUtf8 text → unless_cut_off fault (attribute_at text) ≡ Ok (a, behind) → IsUtf8 behind
 behind_attribute text fault a behind utf8 is =

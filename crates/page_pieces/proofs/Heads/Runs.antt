@@ -6,7 +6,7 @@ use Rattle.page_pieces.specs.declared.head.Misread.{Misread}
 use Rattle.page_pieces.specs.declared.head.Misread.TheVariants.{Malformed}
 use Rattle.page_pieces.specs.Names.{is_white, is_name_start, is_name_byte, white_front, behind_white}
 use Rattle.page_pieces.specs.Tags.{WrittenAttribute}
-use Rattle.page_pieces.specs.Literals.{is_quote}
+use Rattle.pg_text.specs.Literals.{is_quote}
 use Rattle.page_pieces.specs.Texts.{after, further}
 use Rattle.page_pieces.specs.ReadValue.{ends_value, takes_next, around_quote}
 use Rattle.page_pieces.specs.ReadHead.{◌>>=◌, or_misread, or_cut_off, name_read, with_local_name, attribute_name_at, behind_mark, Quoted, quoted, quoted_at, attribute_behind}

@@ -9,7 +9,7 @@ use Rattle.page_pieces.specs.declared.head.HeadEnd.TheVariants as ends
 use Rattle.page_pieces.specs.declared.head.HeadKind.TheVariants as kinds
 use Rattle.page_pieces.specs.declared.head.Misread.TheVariants.{CutOff, Malformed}
 use Rattle.page_pieces.specs.Names.{is_white, is_name_start, is_name_byte}
-use Rattle.page_pieces.specs.Literals.{is_quote}
+use Rattle.pg_text.specs.Literals.{is_quote}
 use Rattle.page_pieces.specs.ReadValue.{ends_value, takes_next}
 
 -- what is read: a directive, or the start or the end of an element
