@@ -1,13 +1,13 @@
 -- Decimals are told as their grammar has them.
-use Rattle.std.proofs.Common.{◌≡◌, ◌==◌, ◌<◌, ◌≤◌, ◌+◌, ◌&&◌, ◌⊎◌, inl, inr, ℕ, suc, Bool, true, false, cond, nat_lt, List, [], ◌∷◌, ◌++◌, length, take, drop, get_or, refl, sym, ap, ◌∙◌, subst, arith}
+use Rattle.std.proofs.Common.{◌≡◌, ◌==◌, ◌<◌, ◌+◌, ◌&&◌, ◌⊎◌, inl, inr, ℕ, suc, Bool, true, false, cond, nat_lt, List, [], ◌∷◌, ◌++◌, length, take, drop, refl, sym, ap, ◌∙◌, subst, arith}
 use borrow.Author.Tests.{ltb-true, lt-ltb, eqb-true, ne_eqb}
 use Rattle.std.specs.Bool.{Decides}
 use Rattle.std.specs.Char.{is_ascii_digit}
-use Rattle.std.specs.List.{AllByRecursion, list_all, prefix_len}
+use Rattle.std.specs.List.{list_all}
 use Rattle.std.specs.Str.Parse.{without_leading_sign}
 use Rattle.std.proofs.lemmas.List.{take-append-drop}
 use Rattle.pg_text.specs.Decimals.{AreDigits, IsDecimal, IsDigits, IsExponent, IsSigned, is_exponent_letter, is_point, is_sign, pointed, scaled}
-use Rattle.el_coercion.specs.Number.{TellsDecimals, digits_before, is_decimal, is_digits, is_exponent, is_exponent_or_nothing, is_fraction, is_unsigned_decimal, makes_decimal}
+use Rattle.el_coercion.specs.Number.{TellsDecimals, digits_before, is_digits, is_exponent, is_exponent_or_nothing, is_fraction, is_unsigned_decimal, makes_decimal}
 
 both : (a b : Bool) → a && b ≡ true → (a ≡ true) × (b ≡ true)
 both true b h = (refl, h)

@@ -8,6 +8,7 @@ pub mod Function
 pub mod Json
 pub mod Limits
 pub mod Measured
+pub mod ReadJson
 pub mod RunFault
 pub mod Size
 pub mod SizeFalls

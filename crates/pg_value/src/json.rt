@@ -1,5 +1,6 @@
 ghost use Rattle.std.specs.Prelude.{◌≡◌, IfOk, IfErr, Some, None};
-ghost use Rattle.pg_value.specs.Json.{Converts, ConvertsTo, Refuses, json_value, json_data, whole, whole_items, whole_members};
+ghost use Rattle.pg_value.specs.Json.{json_value, json_data, whole, whole_items, whole_members};
+ghost use Rattle.pg_value.specs.ReadJson.{Converts, ConvertsTo, Refuses};
 ghost use Rattle.pg_value.specs.Value.{datum_of};
 ghost use Rattle.pg_text.specs.Failure.{AnswersAs};
 ghost use Rattle.serde_json.specs.View.{view, items_view, members_view};
