@@ -9,6 +9,7 @@ use Rattle.pg_text.specs.declared.failure.Failure.TheVariants as failure
 use Rattle.http_in.specs.declared.fault.HttpFault.{HttpFault}
 use Rattle.http_in.specs.declared.fault.HttpFault.TheVariants as http
 use Rattle.http_in.specs.declared.request.Request.{Request}
+use Rattle.http_in.specs.declared.limits.TheConstants.{MAX_PIECE_BYTES}
 use Rattle.http_in.specs.Reading.{Moves, Saw, Reads}
 use Rattle.http_in.specs.Requests.{Stop, Ended, Full, Faulted, Front, StopsAt, StandsFirst, HasFault, IsEnd, IsCutOff, IsUnfinished}
 use Rattle.http_in.proofs.Moving.{saw as seen_so}
@@ -24,15 +25,13 @@ use Rattle.conversation.specs.Conversation.{closes, stops_after, Walked, texts, 
 
 -- so far
 pub record IsSoFar {W : Type 0} (serves : Bool → W → Exchange → W → Type 0) (start now : W) (left later old new : Option (List ℕ)) (rest : List ℕ) (number : ℕ) : Type 0 where
-  pub exchanges : List Exchange
-  pub come : HasCome serves start now left later exchanges rest
-  pub count : length exchanges ≡ number
-  pub written : Appends old new (texts exchanges)
+  pub come : HasCome serves start now left later rest
+  pub count : length come.exchanges ≡ number
+  pub written : Appends old new (texts come.exchanges)
 
 pub begins : {W : Type 0} (serves : Bool → W → Exchange → W → Type 0) (start : W) (left taken : Option (List ℕ)) → IsSoFar serves start start left left taken taken [] 0
 begins serves start left taken = record {
-  exchanges = [];
-  come = record { came = []; consumed = consumes_none left; front = refl; goes_on = tt; walked = refl };
+  come = record { exchanges = []; came = []; consumed = consumes_none left; front = refl; goes_on = tt; walked = refl };
   count = refl;
   written = appends_none taken;
 }
@@ -95,51 +94,51 @@ pub goes_on : {W : Type 0} (serves : Bool → W → Exchange → W → Type 0) (
     → IsSoFar serves start now left later old new after_it (number + 1)
 goes_on serves start mid now left between later old taken new rest after_it number request close was saw is close_is open_still =
     let e : Exchange = exchange_of request is.text false in
-    let here : number ≡ 0 + length was.exchanges = omega (arith, was.count) in
+    let here : number ≡ 0 + length was.come.exchanges = omega (arith, was.count) in
     record {
-      exchanges = was.exchanges ++ e ∷ [];
       come = record {
+        exchanges = was.come.exchanges ++ e ∷ [];
         came = was.come.came ++ saw.piece;
         consumed = consumes_both left between later was.come.came saw.piece was.come.consumed saw.consumed;
-        front = subst (λ requests. Front (was.come.came ++ saw.piece) requests after_it) (sym (requests-push was.exchanges e))
-            (front_more (map request_in was.exchanges) (was.come.came ++ saw.piece) (rest ++ saw.piece) after_it request (front_of_requests_grows (map request_in was.exchanges) was.come.came saw.piece rest was.come.front) saw.holds);
-        goes_on = goes_on-push 0 was.exchanges e was.come.goes_on (subst (λ n. stops_after n e ≡ false) here (or_false (closes number request) false (sym close_is ∙ open_still) refl));
-        walked = walked-push serves 0 start mid now was.exchanges e was.come.walked (at_number serves mid now number (0 + length was.exchanges) e here (subst (λ c. serves c mid e now) close_is is.served));
+        front = subst (λ requests. Front (was.come.came ++ saw.piece) requests after_it) (sym (requests-push was.come.exchanges e))
+            (front_more (map request_in was.come.exchanges) (was.come.came ++ saw.piece) (rest ++ saw.piece) after_it request (front_of_requests_grows (map request_in was.come.exchanges) was.come.came saw.piece rest was.come.front) saw.holds);
+        goes_on = goes_on-push 0 was.come.exchanges e was.come.goes_on (subst (λ n. stops_after n e ≡ false) here (or_false (closes number request) false (sym close_is ∙ open_still) refl));
+        walked = walked-push serves 0 start mid now was.come.exchanges e was.come.walked (at_number serves mid now number (0 + length was.come.exchanges) e here (subst (λ c. serves c mid e now) close_is is.served));
       };
-      count = length_push was.exchanges e ∙ ap (λ n. n + 1) was.count;
-      written = subst (λ text. Appends old new text) (sym (texts-push was.exchanges e)) (appends_both old taken new (texts was.exchanges) is.text was.written is.written);
+      count = length_push was.come.exchanges e ∙ ap (λ n. n + 1) was.count;
+      written = subst (λ text. Appends old new text) (sym (texts-push was.come.exchanges e)) (appends_both old taken new (texts was.come.exchanges) is.text was.written is.written);
     }
 
 -- one request more was read and answered, and the walk stops
 pub stopped : {W : Type 0} (serves : Bool → W → Exchange → W → Type 0) (start mid now : W) (left between later old taken new : Option (List ℕ)) (rest after_it : List ℕ) (number : ℕ) (request : Request) (close broken : Bool)
     → IsSoFar serves start mid left between old taken rest number
     → Saw between later rest (λ seen. StandsFirst seen request after_it)
-    → length after_it < 4096
+    → length after_it < MAX_PIECE_BYTES
     → IsServed serves close request broken mid now taken new
     → close ≡ closes number request → (close || broken) ≡ true
     → IsConversation serves start now left later old new outcome.Done
 stopped serves start mid now left between later old taken new rest after_it number request close broken was saw read_on is close_is last =
     let e : Exchange = exchange_of request is.text broken in
-    let here : number ≡ 0 + length was.exchanges = omega (arith, was.count) in
+    let here : number ≡ 0 + length was.come.exchanges = omega (arith, was.count) in
     let consumed = consumes_both left between later was.come.came saw.piece was.come.consumed saw.consumed in
-    let front = subst (λ requests. Front (was.come.came ++ saw.piece) requests after_it) (sym (requests-push was.exchanges e))
-    (front_more (map request_in was.exchanges) (was.come.came ++ saw.piece) (rest ++ saw.piece) after_it request (front_of_requests_grows (map request_in was.exchanges) was.come.came saw.piece rest was.come.front) saw.holds) in
+    let front = subst (λ requests. Front (was.come.came ++ saw.piece) requests after_it) (sym (requests-push was.come.exchanges e))
+    (front_more (map request_in was.come.exchanges) (was.come.came ++ saw.piece) (rest ++ saw.piece) after_it request (front_of_requests_grows (map request_in was.come.exchanges) was.come.came saw.piece rest was.come.front) saw.holds) in
     record {
       came = was.come.came ++ saw.piece;
       consumed = consumed;
-      exchanges = was.exchanges ++ e ∷ [];
+      exchanges = was.come.exchanges ++ e ∷ [];
       rest = after_it;
       front = front;
-      walked = walked-push serves 0 start mid now was.exchanges e was.come.walked (at_number serves mid now number (0 + length was.exchanges) e here (subst (λ c. serves c mid e now) close_is is.served));
+      walked = walked-push serves 0 start mid now was.come.exchanges e was.come.walked (at_number serves mid now number (0 + length was.come.exchanges) e here (subst (λ c. serves c mid e now) close_is is.served));
       stop = Full;
       stops = tt;
-      ends = ends_by_exchange 0 was.exchanges e was.come.goes_on (subst (λ n. stops_after n e ≡ true) here (subst (λ c. (c || broken) ≡ true) close_is last));
+      ends = ends_by_exchange 0 was.come.exchanges e was.come.goes_on (subst (λ n. stops_after n e ≡ true) here (subst (λ c. (c || broken) ≡ true) close_is last));
       read_out = tt;
       read_on = read_on;
       outcome = refl;
-      written = subst (λ text. Appends old new text) (sym (append-nil (texts (was.exchanges ++ e ∷ []))))
-          (subst (λ text. Appends old new text) (sym (texts-push was.exchanges e)) (appends_both old taken new (texts was.exchanges) is.text was.written is.written));
-      told = all_bytes left later (was.come.came ++ saw.piece) after_it (map request_in (was.exchanges ++ e ∷ [])) Full consumed front tt tt;
+      written = subst (λ text. Appends old new text) (sym (append-nil (texts (was.come.exchanges ++ e ∷ []))))
+          (subst (λ text. Appends old new text) (sym (texts-push was.come.exchanges e)) (appends_both old taken new (texts was.come.exchanges) is.text was.written is.written));
+      told = all_bytes left later (was.come.came ++ saw.piece) after_it (map request_in (was.come.exchanges ++ e ∷ [])) Full consumed front tt tt;
     }
 
 pub broken_stops : (close : Bool) → (close || true) ≡ true
@@ -173,12 +172,13 @@ stop_read_out (Faulted http.CutOff) seen later has = has.1
 stop_read_out (Faulted fault) seen later has = tt
 
 -- more came, and no further request
-pub come_more : {W : Type 0} (serves : Bool → W → Exchange → W → Type 0) (start now : W) (left between later : Option (List ℕ)) (exchanges : List Exchange) (rest piece : List ℕ)
-    → HasCome serves start now left between exchanges rest → Consumes between later piece → HasCome serves start now left later exchanges (rest ++ piece)
-come_more serves start now left between later exchanges rest piece come consumed = record {
+abbrev pub come_more : {W : Type 0} (serves : Bool → W → Exchange → W → Type 0) (start now : W) (left between later : Option (List ℕ)) (rest piece : List ℕ)
+    → HasCome serves start now left between rest → Consumes between later piece → HasCome serves start now left later (rest ++ piece)
+come_more serves start now left between later rest piece come consumed = record {
+  exchanges = come.exchanges;
   came = come.came ++ piece;
   consumed = consumes_both left between later come.came piece come.consumed consumed;
-  front = front_of_requests_grows (map request_in exchanges) come.came piece rest come.front;
+  front = front_of_requests_grows (map request_in come.exchanges) come.came piece rest come.front;
   goes_on = come.goes_on;
   walked = come.walked;
 }
@@ -191,22 +191,22 @@ pub stops : {W : Type 0} (serves : Bool → W → Exchange → W → Type 0) (st
     → answer ≡ outcome_of stop
     → IsConversation serves start now left later old new answer
 stops serves start now left between later old taken new rest number stop answer was saw last is =
-    let come = come_more serves start now left between later was.exchanges rest saw.piece was.come saw.consumed in
+    let come = come_more serves start now left between later rest saw.piece was.come saw.consumed in
     record {
       came = come.came;
       consumed = come.consumed;
-      exchanges = was.exchanges;
+      exchanges = was.come.exchanges;
       rest = rest ++ saw.piece;
       front = come.front;
       walked = come.walked;
       stop = stop;
       stops = stop_there stop (rest ++ saw.piece) later saw.holds.0;
-      ends = ends_by_bytes stop 0 was.exchanges (stop_is_not_full stop (rest ++ saw.piece) later saw.holds.0) come.goes_on;
+      ends = ends_by_bytes stop 0 was.come.exchanges (stop_is_not_full stop (rest ++ saw.piece) later saw.holds.0) come.goes_on;
       read_out = stop_read_out stop (rest ++ saw.piece) later saw.holds.0;
       read_on = saw.holds.1;
       outcome = is;
-      written = appends_both old taken new (texts was.exchanges) (last_words stop) was.written last;
-      told = all_bytes left later come.came (rest ++ saw.piece) (map request_in was.exchanges) stop come.consumed come.front (stop_there stop (rest ++ saw.piece) later saw.holds.0)
+      written = appends_both old taken new (texts was.come.exchanges) (last_words stop) was.written last;
+      told = all_bytes left later come.came (rest ++ saw.piece) (map request_in was.come.exchanges) stop come.consumed come.front (stop_there stop (rest ++ saw.piece) later saw.holds.0)
           (stop_read_out stop (rest ++ saw.piece) later saw.holds.0);
     }
 
@@ -234,15 +234,14 @@ pub starved_between : {W : Type 0} (serves : Bool → W → Exchange → W → T
     → Moves between later rest after_it → Appends taken new []
     → StoppedForMemory serves starves start now left later before after old new
 starved_between serves starves start now left between later old taken new before after rest after_it number was moved told = record {
-  exchanges = was.exchanges;
   rest = rest ++ moved.piece;
   mid = now;
-  come = come_more serves start now left between later was.exchanges rest moved.piece was.come moved.consumed;
+  come = come_more serves start now left between later rest moved.piece was.come moved.consumed;
   text = [];
   is_last = inl (refl, refl);
   failed = false;
   cause = λ is. absurd (cc);
-  sent = appends_both old taken new (texts was.exchanges) [] was.written told;
+  sent = appends_both old taken new (texts was.come.exchanges) [] was.written told;
 }
 
 -- where reading failed, that was told
@@ -256,22 +255,20 @@ refused serves starves start now left between later old taken new before after r
     let read = subst (λ f. Reads between later rest after_it (Err (failure.Fault f))) told.0 has in
     let saw = seen_so between later rest after_it IsUnfinished read.0 read.1 in
     record {
-      exchanges = was.exchanges;
       rest = rest ++ saw.piece;
-      come = come_more serves start now left between later was.exchanges rest saw.piece was.come saw.consumed;
+      come = come_more serves start now left between later rest saw.piece was.come saw.consumed;
       unfinished = saw.holds;
-      written = subst (λ text. Appends old new text) (append-nil (texts was.exchanges)) (appends_both old taken new (texts was.exchanges) [] was.written told.1);
+      written = subst (λ text. Appends old new text) (append-nil (texts was.come.exchanges)) (appends_both old taken new (texts was.come.exchanges) [] was.written told.1);
     }
 refused serves starves start now left between later old taken new before after rest after_it number fault outcome.WriteFault was has on told =
     let saw = fault_seen fault between later rest after_it told.shown has on in
     record {
-      exchanges = was.exchanges;
       rest = rest ++ saw.piece;
       mid = now;
-      come = come_more serves start now left between later was.exchanges rest saw.piece was.come saw.consumed;
+      come = come_more serves start now left between later rest saw.piece was.come saw.consumed;
       next = refusal fault;
       is_next = inr (fault, fault_there fault (rest ++ saw.piece) later saw.holds.0, refl, refl);
-      broke = sent_after old taken new (texts was.exchanges) (refusal fault) true was.written told.sent;
+      broke = sent_after old taken new (texts was.come.exchanges) (refusal fault) true was.written told.sent;
     }
 refused serves starves start now left between later old taken new before after rest after_it number fault outcome.NoMemory was has on told =
     starved_between serves starves start now left between later old taken new before after rest after_it number was (moved_by fault between later rest after_it has) told
@@ -285,13 +282,12 @@ pub unwritten : {W : Type 0} (serves : Bool → W → Exchange → W → Type 0)
     → IsServedInPart serves close request mid now taken new → close ≡ closes number request
     → StoppedWriting serves start now left later old new
 unwritten serves start mid now left between later old taken new rest after_it number request close was saw is close_is = record {
-  exchanges = was.exchanges;
   rest = rest ++ saw.piece;
   mid = mid;
-  come = come_more serves start mid left between later was.exchanges rest saw.piece was.come saw.consumed;
+  come = come_more serves start mid left between later rest saw.piece was.come saw.consumed;
   next = is.text;
   is_next = inl (request, is.broken, after_it, saw.holds, subst (λ n. serves (closes n request) mid (exchange_of request is.text is.broken) now) (sym was.count) (subst (λ c. serves c mid (exchange_of request is.text is.broken) now) close_is is.served));
-  broke = sent_after old taken new (texts was.exchanges) is.text true was.written is.sent;
+  broke = sent_after old taken new (texts was.come.exchanges) is.text true was.written is.sent;
 }
 
 -- where memory was wanting for a request
@@ -302,15 +298,14 @@ pub starved_by : {W : Type 0} (serves : Bool → W → Exchange → W → Type 0
     → (Rose before after → Rose entry after)
     → StoppedForMemory serves starves start now left later entry after old new
 starved_by serves starves start mid now left between later old taken new before entry after rest after_it number request close was saw is close_is earlier = record {
-  exchanges = was.exchanges;
   rest = rest ++ saw.piece;
   mid = mid;
-  come = come_more serves start mid left between later was.exchanges rest saw.piece was.come saw.consumed;
+  come = come_more serves start mid left between later rest saw.piece was.come saw.consumed;
   text = is.text;
   is_last = inr (request, after_it, saw.holds, subst (λ n. starves (closes n request) mid request is.text now) (sym was.count) (subst (λ c. starves c mid request is.text now) close_is is.left));
   failed = is.failed;
   cause = λ failed. earlier (is.cause failed);
-  sent = sent_after old taken new (texts was.exchanges) is.text is.failed was.written is.sent;
+  sent = sent_after old taken new (texts was.come.exchanges) is.text is.failed was.written is.sent;
 }
 
 -- the input ended between requests

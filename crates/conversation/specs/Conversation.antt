@@ -6,10 +6,12 @@ use Rattle.edges.specs.Faults.{Rose}
 use Rattle.pg_text.specs.declared.failure.Failure.TheVariants as failure
 use Rattle.http_in.specs.declared.fault.HttpFault.{HttpFault}
 use Rattle.http_in.specs.declared.fault.HttpFault.TheVariants as http
+use Rattle.http_in.specs.declared.limits.TheConstants.{MAX_PIECE_BYTES}
 use Rattle.http_in.specs.Reading.{ReadsOn}
 use Rattle.http_in.specs.declared.request.Request.{Request}
 use Rattle.http_in.specs.Requests.{Stop, Ended, Full, Faulted, StopsAt, Cut, Front, StandsFirst, HasFault, IsUnfinished}
 use Rattle.http_out.specs.Sent.{SentAfter, BreaksOff}
+use Rattle.conversation.specs.declared.limits.TheConstants.{MAX_REQUESTS}
 use Rattle.conversation.specs.Exchange.{Exchange, exchange_of, request_in}
 use Rattle.conversation.specs.Refusal.{refusal}
 use Rattle.conversation.specs.declared.ended.Ended.{Ended as Outcome}
@@ -17,7 +19,7 @@ use Rattle.conversation.specs.declared.ended.Ended.TheVariants as outcome
 
 -- whether the connection closes after a request: it asks for that, or it is the 65,536th; the number is that of the requests before it
 unfoldable pub closes : ℕ → Request → Bool
-closes number request = request.close || (number + 1 == 65536)
+closes number request = request.close || (number + 1 == MAX_REQUESTS)
 
 -- whether the walk stops after an exchange: the connection closes, or the response is unfinished
 abbrev pub stops_after : ℕ → Exchange → Bool
@@ -64,11 +66,12 @@ IsReadOut stop later = ⊤
 -- how far was read on where the requests stop: fewer than 4,096 bytes stand behind the last request, behind a head with a fault, and behind the bytes among which a head has to end
 abbrev pub IsReadOn : Stop → List ℕ → Type 0
 IsReadOn Ended rest = ⊤
-IsReadOn Full rest = length rest < 4096
+IsReadOn Full rest = length rest < MAX_PIECE_BYTES
 IsReadOn (Faulted fault) rest = ReadsOn rest (Err (failure.Fault fault))
 
--- the bytes that came begin with the requests of these exchanges, after none of which the walk stops, and go on with the rest
-pub record HasCome {W : Type 0} (serves : Bool → W → Exchange → W → Type 0) (start now : W) (left later : Option (List ℕ)) (exchanges : List Exchange) (rest : List ℕ) : Type 0 where
+-- the bytes that came begin with the requests of exchanges, after none of which the walk stops, and go on with the rest
+pub record HasCome {W : Type 0} (serves : Bool → W → Exchange → W → Type 0) (start now : W) (left later : Option (List ℕ)) (rest : List ℕ) : Type 0 where
+  pub exchanges : List Exchange
   pub came : List ℕ
   pub consumed : Consumes left later came
   pub front : Front came (map request_in exchanges) rest
@@ -95,11 +98,10 @@ pub record IsConversation {W : Type 0} (serves : Bool → W → Exchange → W �
 
 -- the requests that stand whole in the bytes that came were answered, and nothing else was written
 pub record StoppedReading {W : Type 0} (serves : Bool → W → Exchange → W → Type 0) (start now : W) (left later old new : Option (List ℕ)) : Type 0 where
-  pub exchanges : List Exchange
   pub rest : List ℕ
-  pub come : HasCome serves start now left later exchanges rest
+  pub come : HasCome serves start now left later rest
   pub unfinished : IsUnfinished rest
-  pub written : Appends old new (texts exchanges)
+  pub written : Appends old new (texts come.exchanges)
 
 -- what was to be written next: the response to a request, which was run to its end, or the answer to a fault
 abbrev pub IsNext : {W : Type 0} → (Bool → W → Exchange → W → Type 0) → ℕ → W → W → List ℕ → List ℕ → Type 0
@@ -109,13 +111,12 @@ IsNext serves number mid now rest next =
 
 -- these requests were answered whole, and of what was next only a part was taken
 pub record StoppedWriting {W : Type 0} (serves : Bool → W → Exchange → W → Type 0) (start now : W) (left later old new : Option (List ℕ)) : Type 0 where
-  pub exchanges : List Exchange
   pub rest : List ℕ
   pub mid : W
-  pub come : HasCome serves start mid left later exchanges rest
+  pub come : HasCome serves start mid left later rest
   pub next : List ℕ
-  pub is_next : IsNext serves (length exchanges) mid now rest next
-  pub broke : BreaksOff old new (texts exchanges) next
+  pub is_next : IsNext serves (length come.exchanges) mid now rest next
+  pub broke : BreaksOff old new (texts come.exchanges) next
 
 -- where memory was wanting: no request was open, and nothing was to be written; or a request was, which left this state and this text
 abbrev pub IsLast : {W : Type 0} → (Bool → W → Request → List ℕ → W → Type 0) → ℕ → W → W → List ℕ → List ℕ → Type 0
@@ -125,15 +126,14 @@ IsLast starves number mid now rest text =
 
 -- these requests were answered whole, and then memory was wanting
 pub record StoppedForMemory {W : Type 0} (serves : Bool → W → Exchange → W → Type 0) (starves : Bool → W → Request → List ℕ → W → Type 0) (start now : W) (left later : Option (List ℕ)) (before after : ℕ) (old new : Option (List ℕ)) : Type 0 where
-  pub exchanges : List Exchange
   pub rest : List ℕ
   pub mid : W
-  pub come : HasCome serves start mid left later exchanges rest
+  pub come : HasCome serves start mid left later rest
   pub text : List ℕ
-  pub is_last : IsLast starves (length exchanges) mid now rest text
+  pub is_last : IsLast starves (length come.exchanges) mid now rest text
   pub failed : Bool
   pub cause : failed ≡ true → Rose before after
-  pub sent : SentAfter old new (texts exchanges) text failed
+  pub sent : SentAfter old new (texts come.exchanges) text failed
 
 -- what an outcome says of a connection: start and now are the states, left and later what its source had and has left, before and after its sink's count of faults, old and new what its sink had and has taken
 abbrev pub Tells : {W : Type 0} → (Bool → W → Exchange → W → Type 0) → (Bool → W → Request → List ℕ → W → Type 0) → W → W → Option (List ℕ) → Option (List ℕ) → ℕ → ℕ → Option (List ℕ) → Option (List ℕ) → Outcome → Type 0

@@ -4,6 +4,7 @@ ghost use Rattle.http_in.specs.declared.request.Request.{Request as Asked};
 ghost use Rattle.conversation.specs.Exchange.{Exchange};
 ghost use Rattle.conversation.specs.Served.{Served};
 
+use crate::limits::MAX_REQUESTS;
 use edges::Sink;
 use http_in::Request;
 use std::alloc::Global;
@@ -55,7 +56,7 @@ pub trait Desk {
         close: bool,
         sink: &mut K,
     ) -> Outcome
-        requires few { number < 65536 }
+        requires few { number < MAX_REQUESTS }
         requires ready { ready number self.old port.old }
         ensures ready { ready (number + 1) self.new port.new }
         ensures world { world self.new port.new ≡ world self.old port.old }

@@ -6,9 +6,11 @@
 
 mod desk;
 mod ended;
+mod limits;
 mod refusing;
 mod walking;
 
 pub use desk::{Desk, Outcome};
 pub use ended::Ended;
+pub use limits::MAX_REQUESTS;
 pub use walking::walk;

@@ -6,14 +6,12 @@ ghost use Rattle.conversation.specs.Refusal.{IsShown};
 
 use crate::desk::{Desk, Outcome};
 use crate::ended::Ended;
+use crate::limits::MAX_REQUESTS;
 use crate::refusing::refuse;
 use edges::{Sink, Source};
 use http_in::{HttpFault, Request, Rest, read_request};
 use pg_text::Failure;
 use std::alloc::Global;
-
-/// The most requests that one connection is answered.
-const REQUESTS: u64 = 65_536;
 
 /// Has the requests of one connection answered, each before it reads the next.
 pub fn walk<D: Desk, S: Source, K: Sink>(
@@ -24,7 +22,7 @@ pub fn walk<D: Desk, S: Source, K: Sink>(
     sink: &mut K,
 ) -> Ended
     requires ready { D.ready 0 desk.old port.old }
-    ensures ready { (number : ℕ) × (number ≤ 65536) × D.ready number desk.new port.new }
+    ensures ready { (number : ℕ) × (number ≤ MAX_REQUESTS) × D.ready number desk.new port.new }
     ensures world { D.world desk.new port.new ≡ D.world desk.old port.old }
 
     // The sink took the responses to the requests that stand in the bytes that came, and nothing else.
@@ -62,9 +60,9 @@ pub fn walk<D: Desk, S: Source, K: Sink>(
 // Whether the connection closes after a request, so many having come before it.
 #[tactic(auto, unfolding(crate::specs::Conversation::closes))]
 fn closes(number: u64, request: &Request) -> bool
-    requires { number < 65536 }
+    requires { number < MAX_REQUESTS }
     ensures value { result ≡ closes number request.now }
-    ensures more { result ≡ false → number + 1 < 65536 }
+    ensures more { result ≡ false → number + 1 < MAX_REQUESTS }
 {
-    request.close || number + 1 == REQUESTS
+    request.close || number + 1 == MAX_REQUESTS
 }

@@ -7,6 +7,7 @@ use Rattle.pg_text.specs.declared.failure.Failure.TheVariants.{Fault, NoMemory}
 use Rattle.http_in.specs.declared.fault.HttpFault.{HttpFault}
 use Rattle.http_in.specs.declared.fault.HttpFault.TheVariants.{HeadTooLarge, CutOff, ReadFault}
 use Rattle.http_in.specs.declared.fields.Field.{Field}
+use Rattle.http_in.specs.declared.limits.TheConstants.{MAX_HEAD_BYTES}
 use Rattle.http_in.specs.declared.request.Request.{Request}
 use Rattle.http_in.specs.Faults.{IfFault}
 use Rattle.http_in.specs.Fields.{fields_of}
@@ -21,7 +22,7 @@ use Rattle.http_in.proofs.HeadEnds.{front_grows}
 use Rattle.http_in.proofs.Moving.{saw, moves_both}
 
 -- where no head ends, the bytes are at an end or inside a head
-unfinished_head : (bytes : List ℕ) → head_len (front_of bytes) ≡ None → length bytes < 16384 → IsUnfinished bytes
+unfinished_head : (bytes : List ℕ) → head_len (front_of bytes) ≡ None → length bytes < MAX_HEAD_BYTES → IsUnfinished bytes
 unfinished_head bytes none short = go (skip_pairs bytes) refl
   where
     go : (rest : List ℕ) → skip_pairs bytes ≡ rest → IsUnfinished bytes

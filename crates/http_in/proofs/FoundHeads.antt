@@ -8,6 +8,7 @@ use Rattle.httparse.specs.Grammar.{RequestHead, ReadsRequest, IsField, IsToken}
 use Rattle.httparse.specs.Spans.{span_bytes, header_bytes, name_and_value, IsRequestAt}
 use Rattle.http_in.specs.declared.fault.HttpFault.{HttpFault}
 use Rattle.http_in.specs.declared.fields.Field.{Field}
+use Rattle.http_in.specs.declared.limits.TheConstants.{MAX_FIELDS}
 use Rattle.http_in.specs.Fields.{field_of, fields_of}
 use Rattle.http_in.specs.Head.{IsHead, sized, size_after}
 
@@ -19,7 +20,7 @@ names_are_tokens bytes spans request head at reads =
     subst (All (λ field. IsToken field.0)) (sym at.fields) (All-map (λ field. IsToken field.0) name_and_value head.fields names)
 
 -- what fits 64 spans is such a head
-pub is_head : (bytes : List ℕ) (spans : List HeaderSpan) (request : RequestSpans) (head : RequestHead) → IsRequestAt bytes spans request head → ReadsRequest bytes head [] → length spans ≡ 64
+pub is_head : (bytes : List ℕ) (spans : List HeaderSpan) (request : RequestSpans) (head : RequestHead) → IsRequestAt bytes spans request head → ReadsRequest bytes head [] → length spans ≡ MAX_FIELDS
     → IsHead bytes head
 is_head bytes spans request head at reads room = record {
   reads = reads;

@@ -7,6 +7,7 @@ use Rattle.httparse.proofs.GrammarLemmas.{request_unique}
 use Rattle.http_in.specs.declared.fault.HttpFault.{HttpFault}
 use Rattle.http_in.specs.declared.fault.HttpFault.TheVariants as http
 use Rattle.http_in.specs.declared.fields.Field.{Field}
+use Rattle.http_in.specs.declared.limits.TheConstants.{MAX_BODY_BYTES}
 use Rattle.http_in.specs.Fields.{fields_of, values_of}
 use Rattle.http_in.specs.Length.{size_of}
 use Rattle.http_in.specs.Head.{IsHead, IsGoodHead, IsBadHead, size_after, within_limit}
@@ -53,7 +54,7 @@ told given fault of_head is = let same : given ≡ fault = cc in subst IsOfHead 
 
 limited : (size : Option ℕ) (fault : HttpFault) → within_limit size ≡ Err fault → IsOfHead fault
 limited None fault is = told http.BadLength fault tt is
-limited (Some size) fault is = go (nat_lt 2097152 size) is
+limited (Some size) fault is = go (nat_lt MAX_BODY_BYTES size) is
   where
     go : (large : Bool) → cond large (Err http.BodyTooLarge) (Ok size) ≡ Err fault → IsOfHead fault
     go true is = told http.BodyTooLarge fault tt is

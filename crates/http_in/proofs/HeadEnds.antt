@@ -7,6 +7,7 @@ use Rattle.std.proofs.lemmas.List.{length-take, take-append-le, take_all}
 use Rattle.std.proofs.Math.Seq.{take-append-add}
 use Rattle.std.proofs.lemmas.Bool.{cases_lt}
 use Rattle.std.proofs.lemmas.Slice.Eq.{bytes_eq-Decides}
+use Rattle.http_in.specs.declared.limits.TheConstants.{MAX_HEAD_BYTES}
 use Rattle.http_in.specs.HeadEnd.{empty_line, skip_pairs, through_empty_line, head_len, front_of}
 
 -- what is mapped to a value was a value
@@ -87,15 +88,15 @@ first_grows limit bytes more n found =
 -- a head that ends in time does so too where more bytes follow
 pub front_grows : (bytes more : List ℕ) (n : ℕ) → head_len (front_of bytes) ≡ Some n → head_len (front_of (bytes ++ more)) ≡ Some n
 unfolding front_of
-front_grows bytes more n found = first_grows 16384 bytes more n found
+front_grows bytes more n found = first_grows MAX_HEAD_BYTES bytes more n found
 
 -- of 16,384 bytes or more, those that follow can't belong to the head
-pub front_full : (bytes more : List ℕ) → 16384 ≤ length bytes → front_of (bytes ++ more) ≡ front_of bytes
+pub front_full : (bytes more : List ℕ) → MAX_HEAD_BYTES ≤ length bytes → front_of (bytes ++ more) ≡ front_of bytes
 unfolding front_of
-front_full bytes more long = take-append-le 16384 bytes more long
+front_full bytes more long = take-append-le MAX_HEAD_BYTES bytes more long
 
 -- the first empty line ends within the bytes
-found_ends : (bytes : List ℕ) (n : ℕ) → through_empty_line bytes ≡ Some n → n ≤ length bytes
+pub found_ends : (bytes : List ℕ) (n : ℕ) → through_empty_line bytes ≡ Some n → n ≤ length bytes
 found_ends [] n found = absurd (cc)
 found_ends (b ∷ bytes) n found = go (λ m e. found_ends bytes m e) (starts_with nat_eq (b ∷ bytes) empty_line) refl found
   where
@@ -121,6 +122,6 @@ skipped_fits (b ∷ c ∷ bytes) = go (skipped_fits bytes) ((nat_eq b 13) && (na
 pub head_fits : (bytes : List ℕ) (n : ℕ) → head_len (front_of bytes) ≡ Some n → n ≤ length bytes
 unfolding front_of
 head_fits bytes n found =
-    let front : List ℕ = take 16384 bytes in
+    let front : List ℕ = take MAX_HEAD_BYTES bytes in
     let m = mapped (λ n. n + (length front - length (skip_pairs front))) (through_empty_line (skip_pairs front)) n found in
-    omega (arith, found_ends (skip_pairs front) m.0 m.1, skipped_fits front, length-take 16384 bytes, m.2)
+    omega (arith, found_ends (skip_pairs front) m.0 m.1, skipped_fits front, length-take MAX_HEAD_BYTES bytes, m.2)

@@ -5,6 +5,7 @@ use Rattle.std.proofs.lemmas.Bool.Decides.{nat_tests}
 use Rattle.httparse.specs.Grammar.{RequestHead}
 use Rattle.http_in.specs.declared.fault.HttpFault.{HttpFault}
 use Rattle.http_in.specs.declared.fault.HttpFault.TheVariants as http
+use Rattle.http_in.specs.declared.limits.TheConstants.{MAX_HEAD_BYTES}
 use Rattle.http_in.specs.declared.request.Request.{Request}
 use Rattle.http_in.specs.Fields.{fields_of}
 use Rattle.http_in.specs.Head.{IsGoodHead, IsBadHead}
@@ -40,12 +41,12 @@ one_first bytes request other rest after a b =
 
 -- what stops where no head ends
 abbrev bare_stop : List ℕ → Stop
-bare_stop bytes = cond (nat_le 16384 (length bytes)) (Faulted http.HeadTooLarge) (cond (nat_eq (length (skip_pairs bytes)) 0) Ended (Faulted http.CutOff))
+bare_stop bytes = cond (nat_le MAX_HEAD_BYTES (length bytes)) (Faulted http.HeadTooLarge) (cond (nat_eq (length (skip_pairs bytes)) 0) Ended (Faulted http.CutOff))
 
-is_long : (n : ℕ) → 16384 ≤ n → nat_le 16384 n ≡ true
+is_long : (n : ℕ) → MAX_HEAD_BYTES ≤ n → nat_le MAX_HEAD_BYTES n ≡ true
 is_long n long = grind (arith, nat_tests)
 
-is_short : (n : ℕ) → n < 16384 → nat_le 16384 n ≡ false
+is_short : (n : ℕ) → n < MAX_HEAD_BYTES → nat_le MAX_HEAD_BYTES n ≡ false
 is_short n short = grind (arith, nat_tests)
 
 is_empty : (bytes : List ℕ) → bytes ≡ [] → nat_eq (length bytes) 0 ≡ true

@@ -9,7 +9,7 @@ use Rattle.http_in.specs.declared.scan.Scan.{Scan}
 use Rattle.http_in.specs.declared.scan.Scan.TheVariants.{Pairs, Head}
 use Rattle.http_in.specs.HeadEnd.{empty_line, skip_pairs, through_empty_line, head_len}
 use Rattle.http_in.specs.Scan.{looked, end_behind, HasLooked}
-use Rattle.http_in.proofs.HeadEnds.{mapped, found_fits, skip_grows, skipped_fits}
+use Rattle.http_in.proofs.HeadEnds.{mapped, found_ends, found_fits, found_grows, skip_grows, skipped_fits}
 
 -- two fronts left out
 drop_both : (bytes : List ℕ) (a b c : ℕ) → a + b ≡ c → drop b (drop a bytes) ≡ drop c bytes
@@ -196,6 +196,39 @@ line_is_long (b ∷ bytes) n found = go (λ m e. line_is_long bytes m e) (starts
     go further false found =
         let m = mapped (λ n. n + 1) (through_empty_line bytes) n found in
         omega (arith, further m.0 m.1, m.2)
+
+-- from where an empty line begins it is found at once, whatever bytes follow
+found_again : (bytes more : List ℕ) (n : ℕ) → through_empty_line bytes ≡ Some n → through_empty_line (drop (n - 4) bytes ++ more) ≡ Some 4
+found_again [] more n found = absurd (cc)
+found_again (b ∷ bytes) more n found = go (λ m e. found_again bytes more m e) (starts_with nat_eq (b ∷ bytes) empty_line) refl found
+  where
+    go : ((m : ℕ) → through_empty_line bytes ≡ Some m → through_empty_line (drop (m - 4) bytes ++ more) ≡ Some 4)
+        → (test : Bool) → starts_with nat_eq (b ∷ bytes) empty_line ≡ test
+        → cond test (Some 4) (option_map (λ n. n + 1) (through_empty_line bytes)) ≡ Some n
+        → through_empty_line (drop (n - 4) (b ∷ bytes) ++ more) ≡ Some 4
+    go further true is found =
+        let four : 4 ≡ n = cc in
+        let here : n - 4 ≡ 0 = omega arith in
+        ap (λ k. through_empty_line (drop k (b ∷ bytes) ++ more)) here ∙ found_grows (b ∷ bytes) more 4 (rw is refl)
+    go further false is found =
+        let m = mapped (λ n. n + 1) (through_empty_line bytes) n found in
+        let behind : n - 4 ≡ suc (m.0 - 4) = omega (arith, line_is_long bytes m.0 m.1, m.2) in
+        ap (λ k. through_empty_line (drop k (b ∷ bytes) ++ more)) behind ∙ further m.0 m.1
+
+-- where the head's end was found, the next look begins at the empty line
+pub looks_again : (bytes : List ℕ) (at len next : ℕ) → HasLooked (Head at) bytes → Some len ≡ through_empty_line (take (length bytes - at) (drop at bytes)) → next ≡ at + len - 4
+    → HasLooked (Head next) bytes
+looks_again bytes at len next has found is =
+    let behind = sym (found ∙ ap through_empty_line (rest_is bytes at)) in
+    let long = line_is_long (drop at bytes) len behind in
+    let sum : at + (len - 4) ≡ next = omega (arith, is, long) in
+    record {
+      within = omega (arith, is, has.within, found_ends (drop at bytes) len behind, length-drop at bytes);
+      same = λ more.
+          let line = ap (λ rest. through_empty_line (rest ++ more)) (sym (drop_both bytes at (len - 4) next sum)) ∙ found_again (drop at bytes) more len behind in
+          let total : len + at ≡ 4 + next = omega (arith, is, long) in
+          has.same more ∙ ap (option_map (λ n. n + at)) (found_grows (drop at bytes) more len behind) ∙ ap Some total ∙ sym (ap (option_map (λ n. n + next)) line);
+    }
 
 -- a line that more bytes end, ends behind all that were there
 line_behind : (bytes more : List ℕ) (n : ℕ) → through_empty_line bytes ≡ None → through_empty_line (bytes ++ more) ≡ Some n → length bytes < n

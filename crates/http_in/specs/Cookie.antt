@@ -5,6 +5,7 @@ use Rattle.std.specs.List.{find, list_all, slice_split, starts_with}
 use Rattle.std.specs.Option.{option_map}
 use Rattle.httparse.specs.Grammar.{trim_ows}
 use Rattle.http_in.specs.declared.fields.Field.{Field}
+use Rattle.http_in.specs.declared.limits.TheConstants.{SESSION_ID_BYTES}
 use Rattle.http_in.specs.Fields.{values_of}
 
 -- the name of the session's cookie and the equals sign behind it
@@ -27,7 +28,7 @@ first_some (Some value ∷ others) = Some value
 
 -- whether a value can be the id of a session: 48 hexadecimal digits in lower case
 abbrev pub is_id : List ℕ → Bool
-is_id value = (length value == 48) && list_all (λ b. is_in_range 48 57 b || is_in_range 97 102 b) value
+is_id value = (length value == SESSION_ID_BYTES) && list_all (λ b. is_in_range 48 57 b || is_in_range 97 102 b) value
 
 -- the value, where it can be an id
 abbrev pub id_or_none : Option (List ℕ) → List ℕ

@@ -5,13 +5,14 @@ use Rattle.httparse.specs.Grammar.{RequestHead, ReadsRequest}
 use Rattle.http_in.specs.declared.fault.HttpFault.{HttpFault}
 use Rattle.http_in.specs.declared.fault.HttpFault.TheVariants as http
 use Rattle.http_in.specs.declared.fields.Field.{Field}
+use Rattle.http_in.specs.declared.limits.TheConstants.{MAX_BODY_BYTES, MAX_FIELDS}
 use Rattle.http_in.specs.Fields.{fields_of, values_of}
 use Rattle.http_in.specs.Length.{size_of}
 
 -- the bytes are, whole, a head of the grammar, with at most 64 fields
 pub record IsHead (bytes : List ℕ) (head : RequestHead) : Type 0 where
   pub reads : ReadsRequest bytes head []
-  pub few : length head.fields ≤ 64
+  pub few : length head.fields ≤ MAX_FIELDS
 
 -- the bytes are no such head
 abbrev pub IsNoHead : List ℕ → Type 0
@@ -20,7 +21,7 @@ IsNoHead bytes = (head : RequestHead) → IsHead bytes head → ⊥
 -- the size, where it is at most 2,097,152 bytes
 abbrev pub within_limit : Option ℕ → Result ℕ HttpFault
 within_limit None = Err http.BadLength
-within_limit (Some size) = if nat_lt 2097152 size then Err http.BodyTooLarge else Ok size
+within_limit (Some size) = if nat_lt MAX_BODY_BYTES size then Err http.BodyTooLarge else Ok size
 
 -- the size of the body after a head of this version, target and fields, or the first fault of the head in this order:
 -- the version is HTTP/1.0; the target doesn't begin with a slash, or not exactly one field is named Host; a field is named

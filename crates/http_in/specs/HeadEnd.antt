@@ -2,6 +2,7 @@
 use Rattle.std.specs.Prelude.{ℕ, ◌+◌, ◌-◌, ◌&&◌, List, [], ◌∷◌, length, take, Option, Some, None, ◌==◌, nat_eq, if◌then◌else◌}
 use Rattle.std.specs.List.{starts_with}
 use Rattle.std.specs.Option.{option_map}
+use Rattle.http_in.specs.declared.limits.TheConstants.{MAX_HEAD_BYTES}
 
 -- what ends a head: CR LF at the end of its last line, and CR LF for an empty line
 abbrev pub empty_line : List ℕ
@@ -24,4 +25,4 @@ head_len bytes = option_map (λ n. n + (length bytes - length (skip_pairs bytes)
 
 -- the bytes among which a head has to end
 unfoldable pub front_of : List ℕ → List ℕ
-front_of bytes = take 16384 bytes
+front_of bytes = take MAX_HEAD_BYTES bytes

@@ -5,6 +5,7 @@ use Rattle.pg_text.specs.declared.failure.Failure.TheVariants as failure
 use Rattle.std.specs.Io.KnownBytes.{Consumes, IsAtEnd}
 use Rattle.http_in.specs.declared.fault.HttpFault.{HttpFault}
 use Rattle.http_in.specs.declared.fault.HttpFault.TheVariants as http
+use Rattle.http_in.specs.declared.limits.TheConstants.{MAX_HEAD_BYTES, MAX_PIECE_BYTES}
 use Rattle.http_in.specs.declared.request.Request.{Request}
 use Rattle.http_in.specs.HeadEnd.{head_len, front_of}
 use Rattle.http_in.specs.Requests.{StandsFirst, HasFault, IsEnd, IsCutOff, IsUnfinished}
@@ -33,10 +34,10 @@ Reads left later old new (Err (failure.Fault fault)) = Moves left later old new 
 -- how far was read on behind what was answered: fewer than 4,096 bytes stand behind a request, behind a head with a fault,
 -- and behind the bytes among which a head has to end
 abbrev pub ReadsOn : List ℕ → Result (Option Request) (Failure HttpFault) → Type 0
-ReadsOn new (Ok (Some request)) = length new < 4096
+ReadsOn new (Ok (Some request)) = length new < MAX_PIECE_BYTES
 ReadsOn new (Ok None) = ⊤
 ReadsOn new (Err failure.NoMemory) = ⊤
-ReadsOn new (Err (failure.Fault http.HeadTooLarge)) = length new < 16384 + 4096
+ReadsOn new (Err (failure.Fault http.HeadTooLarge)) = length new < MAX_HEAD_BYTES + MAX_PIECE_BYTES
 ReadsOn new (Err (failure.Fault http.CutOff)) = ⊤
 ReadsOn new (Err (failure.Fault http.ReadFault)) = ⊤
-ReadsOn new (Err (failure.Fault fault)) = (len : ℕ) × (head_len (front_of new) ≡ Some len) × (length new < len + 4096)
+ReadsOn new (Err (failure.Fault fault)) = (len : ℕ) × (head_len (front_of new) ≡ Some len) × (length new < len + MAX_PIECE_BYTES)

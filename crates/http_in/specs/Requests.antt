@@ -3,6 +3,7 @@ use Rattle.std.specs.Prelude.{◌≡◌, ◌≢◌, ◌<◌, ◌≤◌, ◌+◌,
 use Rattle.httparse.specs.Grammar.{RequestHead}
 use Rattle.http_in.specs.declared.fault.HttpFault.{HttpFault}
 use Rattle.http_in.specs.declared.fault.HttpFault.TheVariants as http
+use Rattle.http_in.specs.declared.limits.TheConstants.{MAX_HEAD_BYTES}
 use Rattle.http_in.specs.declared.request.Request.{Request}
 use Rattle.http_in.specs.Fields.{fields_of}
 use Rattle.http_in.specs.Head.{IsGoodHead, IsBadHead}
@@ -23,13 +24,13 @@ pub record StandsFirst (bytes : List ℕ) (request : Request) (rest : List ℕ) 
 -- the bytes end between requests: there are only CR LF pairs, and too few for a fault
 pub record IsEnd (bytes : List ℕ) : Type 0 where
   pub ends : head_len (front_of bytes) ≡ None
-  pub short : length bytes < 16384
+  pub short : length bytes < MAX_HEAD_BYTES
   pub skipped : skip_pairs bytes ≡ []
 
 -- the bytes end inside a head
 pub record EndsInHead (bytes : List ℕ) : Type 0 where
   pub ends : head_len (front_of bytes) ≡ None
-  pub short : length bytes < 16384
+  pub short : length bytes < MAX_HEAD_BYTES
   pub begun : skip_pairs bytes ≢ []
 
 -- the bytes end inside a body
@@ -44,7 +45,7 @@ pub record EndsInBody (bytes : List ℕ) : Type 0 where
 -- 16,384 bytes are there and hold no end of a head
 pub record HasNoHead (bytes : List ℕ) : Type 0 where
   pub ends : head_len (front_of bytes) ≡ None
-  pub long : 16384 ≤ length bytes
+  pub long : MAX_HEAD_BYTES ≤ length bytes
 
 -- a head ends in time, and has this fault
 pub record HasBadHead (bytes : List ℕ) (fault : HttpFault) : Type 0 where

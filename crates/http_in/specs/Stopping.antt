@@ -3,6 +3,7 @@ use Rattle.std.specs.Prelude.{◌≡◌, ◌<◌, ℕ, List, length, Option, Non
 use Rattle.std.specs.Io.KnownBytes.{IsAtEnd}
 use Rattle.http_in.specs.declared.fault.HttpFault.{HttpFault}
 use Rattle.http_in.specs.declared.fault.HttpFault.TheVariants as http
+use Rattle.http_in.specs.declared.limits.TheConstants.{MAX_HEAD_BYTES}
 use Rattle.http_in.specs.HeadEnd.{head_len, front_of}
 use Rattle.http_in.specs.Requests.{EndsInHead, HasNoHead}
 
@@ -10,7 +11,7 @@ use Rattle.http_in.specs.Requests.{EndsInHead, HasNoHead}
 abbrev pub StopsHead : Option (List ℕ) → List ℕ → HttpFault → Type 0
 StopsHead left bytes http.HeadTooLarge = HasNoHead bytes
 StopsHead left bytes http.CutOff = EndsInHead bytes × IsAtEnd left
-StopsHead left bytes http.ReadFault = (head_len (front_of bytes) ≡ None) × (length bytes < 16384)
+StopsHead left bytes http.ReadFault = (head_len (front_of bytes) ≡ None) × (length bytes < MAX_HEAD_BYTES)
 StopsHead left bytes fault = ⊥
 
 -- this fault stops the reading until so many bytes are there

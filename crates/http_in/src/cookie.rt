@@ -4,6 +4,7 @@ ghost use Rattle.http_in.specs.Cookie.{first_some, is_id, is_session, session_in
 ghost use Rattle.http_in.specs.Fields.{values_of};
 
 use crate::Field;
+use crate::limits::SESSION_ID_BYTES;
 use crate::lookups::is_named;
 use crate::text::text_of;
 use crate::trim::trim;
@@ -14,14 +15,11 @@ const COOKIE: &str = "cookie";
 
 const SESSION_NAME: &[u8] = b"JSESSIONID=";
 
-/// The bytes of a session's id.
-const ID_SIZE: usize = 48;
-
 // The id of the session that the fields name, or no bytes.
 #[tactic(auto, using(crate::proofs::Cookies::session_is_short))]
 pub fn session_of(alloc: Global, fields: &[Field]) -> Result<Text, AllocError>
     ensures id { IfOk result (λ id. id ≡ session_of fields.now) }
-    ensures short { IfOk result (λ id. length id ≤ 48) }
+    ensures short { IfOk result (λ id. length id ≤ SESSION_ID_BYTES) }
 {
     match first_session(fields) {
         Some(value) if is_id(value) => Text::copy_of(alloc, text_of(value)),
@@ -62,7 +60,7 @@ fn is_session(piece: &[u8]) -> bool
 fn is_id(value: &[u8]) -> bool
     ensures { result ≡ is_id value.now }
 {
-    value.len() == ID_SIZE
+    value.len() == SESSION_ID_BYTES
         && value
             .iter()
             .all(|b| matches!(*b, b'0'..=b'9' | b'a'..=b'f'))

@@ -1,13 +1,12 @@
-ghost use Rattle.std.specs.Prelude.{◌≡◌, ◌==◌, length, map, All, IfOk};
+ghost use Rattle.std.specs.Prelude.{◌≡◌, length, map, All, IfOk};
 ghost use Rattle.httparse.specs.Grammar.{IsToken};
 ghost use Rattle.httparse.specs.Spans.{header_bytes, IsHeaderWithin};
 ghost use Rattle.http_in.specs.Fields.{field_of};
 
 use crate::text::text_of;
 use httparse::spans::HeaderSpan;
-use pg_text::{Bytes, Text};
+use pg_text::{Bytes, Listed, Text};
 use std::alloc::{AllocError, Global};
-use std::marker::Model;
 
 /// A field of a head.
 #[derive(Drop)]
@@ -18,43 +17,12 @@ pub struct Field {
     pub value: Bytes,
 }
 
-/// The fields of a head in the order sent. Contracts see the list of them.
-#[derive(Drop)]
-pub struct Fields {
-    items: Vec<Field>,
-}
-
-impl Model for Fields {
-    ghost use Rattle.std.specs.Prelude.{List};
-    ghost use Rattle.http_in.specs.declared.fields.Field.{Field};
-
-    ghost Value = { List Field };
-
-    ghost view = { λ f. f.items.items };
-}
-
-impl Fields {
-    pub fn as_slice(&self) -> &[Field]
-        ensures { result.now ≡ self.now }
-    {
-        &self.items
-    }
-
-    pub fn len(&self) -> usize
-        ensures { result ≡ length self.now }
-    {
-        self.items.len()
-    }
-
-    pub fn is_empty(&self) -> bool
-        ensures { result ≡ (length self.now == 0) }
-    {
-        self.items.is_empty()
-    }
-}
-
-// The fields at these spans.
-pub fn fields_at(alloc: Global, head: &[u8], spans: &[HeaderSpan]) -> Result<Fields, AllocError>
+// The fields at these spans, in their order.
+pub fn fields_at(
+    alloc: Global,
+    head: &[u8],
+    spans: &[HeaderSpan],
+) -> Result<Listed<Field>, AllocError>
     requires within { All (IsHeaderWithin (length head.now)) spans.now }
     requires names { All (λ field. IsToken field.0) (map (header_bytes head.now) spans.now) }
     ensures { IfOk result (λ fields. fields ≡ map field_of (map (header_bytes head.now) spans.now)) }
@@ -63,7 +31,7 @@ pub fn fields_at(alloc: Global, head: &[u8], spans: &[HeaderSpan]) -> Result<Fie
     for span in spans {
         items.push(read_field(alloc, span.name.of(head), span.value.of(head))?)?;
     }
-    Ok(Fields { items })
+    Ok(Listed::new(items))
 }
 
 // The field of this name and value.

@@ -6,25 +6,21 @@ ghost use Rattle.http_in.specs.Head.{IsBadHead, sized};
 ghost use Rattle.http_in.specs.Parts.{HasParts};
 
 use crate::fields::fields_at;
+use crate::limits::{MAX_BODY_BYTES, MAX_FIELDS};
 use crate::lookups::{body_size, count_of};
 use crate::text::text_of;
-use crate::{Field, Fields, HttpFault};
+use crate::{Field, HttpFault};
 use httparse::Status;
 use httparse::spans::{EMPTY_HEADER_SPAN, HeaderSpan, RequestSpans, parse_request};
-use pg_text::{Failure, Text};
+use pg_text::{Failure, Listed, Text};
 use std::alloc::Global;
-
-/// The most bytes that a body may have.
-pub const BODY_LIMIT: u64 = 2_097_152;
-
-const FIELD_LIMIT: usize = 64;
 
 // The parts of a head that is read, and the size of the body after it.
 #[derive(Drop)]
 pub struct Head {
     pub method: Text,
     pub target: Text,
-    pub fields: Fields,
+    pub fields: Listed<Field>,
     pub size: usize,
 }
 
@@ -33,7 +29,7 @@ pub fn parse_head(alloc: Global, bytes: &[u8]) -> Result<Head, Failure<HttpFault
     ensures good { IfOk result (HasParts bytes.now) }
     ensures bad { IfFault result (IsBadHead bytes.now) }
 {
-    let mut spans = [EMPTY_HEADER_SPAN; FIELD_LIMIT];
+    let mut spans = [EMPTY_HEADER_SPAN; MAX_FIELDS];
     let Some(request) = whole_head(bytes, &mut spans) else {
         return Err(Failure::Fault(HttpFault::BadHead));
     };
@@ -53,10 +49,10 @@ pub fn parse_head(alloc: Global, bytes: &[u8]) -> Result<Head, Failure<HttpFault
 
 // Where the parts of the head are, if the bytes are, whole, a head of the grammar.
 fn whole_head(bytes: &[u8], spans: &mut [HeaderSpan]) -> Option<RequestSpans>
-    requires room { length spans.old ≡ 64 }
+    requires room { length spans.old ≡ MAX_FIELDS }
     ensures found { IfSome result (λ r. (h : RequestHead) × ReadsRequest bytes.now h [] × IsRequestAt bytes.now spans.new r h) }
     ensures within { IfSome result (IsRequestWithin bytes.now spans.new) }
-    ensures none { IfNone result ((h : RequestHead) → ReadsRequest bytes.now h [] → length h.fields ≤ 64 → ⊥) }
+    ensures none { IfNone result ((h : RequestHead) → ReadsRequest bytes.now h [] → length h.fields ≤ MAX_FIELDS → ⊥) }
 {
     match parse_request(bytes, spans) {
         Ok(Status::Complete(request)) if request.len == bytes.len() => Some(request),
@@ -80,7 +76,7 @@ fn sized(version: u8, target: &[u8], fields: &[Field]) -> Result<usize, HttpFaul
     let Some(size) = body_size(fields) else {
         return Err(HttpFault::BadLength);
     };
-    if size > BODY_LIMIT {
+    if size > MAX_BODY_BYTES {
         return Err(HttpFault::BodyTooLarge);
     }
     Ok(size as usize)

@@ -1,4 +1,4 @@
-ghost use Rattle.std.specs.Prelude.{◌≡◌, ◌==◌, ◌∷◌, ◌++◌, [], length, unwrap_or, IfOk, OnOk, OnErr};
+ghost use Rattle.std.specs.Prelude.{◌≡◌, ◌++◌, [], unwrap_or, IfOk, OnOk};
 ghost use Rattle.std.specs.Option.{option_map};
 ghost use Rattle.http_in.specs.Params.{has_form, is_form_type, params_in, params_of};
 ghost use Rattle.http_in.specs.Target.{query_of};
@@ -8,9 +8,8 @@ use crate::lookups::{is_named, is_same};
 use crate::target::query_of;
 use crate::trim::trim;
 use form_urlencoded::parse;
-use pg_text::Text;
+use pg_text::{Duplicate, Listed, Text};
 use std::alloc::{AllocError, Global};
-use std::marker::Model;
 
 const CONTENT_TYPE: &str = "content-type";
 
@@ -23,71 +22,12 @@ pub struct Param {
     pub value: Text,
 }
 
-/// Parameters in their order. Contracts see the list of them.
-#[derive(Drop)]
-pub struct Params {
-    items: Vec<Param>,
-}
-
-impl Model for Params {
-    ghost use Rattle.std.specs.Prelude.{List};
-    ghost use Rattle.http_in.specs.declared.params.Param.{Param};
-
-    ghost Value = { List Param };
-
-    ghost view = { λ p. p.items.items };
-}
-
-impl Params {
-    /// No parameters.
-    pub fn new(alloc: Global) -> Self
-        ensures { result ≡ [] }
-    {
-        Params {
-            items: Vec::new(alloc),
-        }
-    }
-
-    pub fn as_slice(&self) -> &[Param]
-        ensures { result.now ≡ self.now }
-    {
-        &self.items
-    }
-
-    pub fn len(&self) -> usize
-        ensures { result ≡ length self.now }
-    {
-        self.items.len()
-    }
-
-    pub fn is_empty(&self) -> bool
-        ensures { result ≡ (length self.now == 0) }
-    {
-        self.items.is_empty()
-    }
-
-    /// Adds a parameter behind the others. Where there is no memory for it the parameter is dropped.
-    pub fn push(&mut self, param: Param) -> Result<(), AllocError>
-        ensures ok { OnOk result (self.new ≡ self.old ++ param ∷ []) }
-        ensures err { OnErr result (self.new ≡ self.old) }
-    {
-        self.items.push(param)?;
-        Ok(())
-    }
-
-    // Adds the parameters in a query or a form behind the others.
-    #[tactic(auto, unfolding(crate::specs::Params::params_in))]
-    fn add(&mut self, alloc: Global, text: &[u8]) -> Result<(), AllocError>
-        ensures { OnOk result (self.new ≡ self.old ++ params_in text.now) }
-    {
-        for pair in parse(alloc, text) {
-            let (name, value) = pair?;
-            self.push(Param {
-                name: Text::new(name.into_owned(alloc)?)?,
-                value: Text::new(value.into_owned(alloc)?)?,
-            })?;
-        }
-        Ok(())
+impl Duplicate for Param {
+    fn duplicate(&self) -> Result<Self, AllocError> {
+        Ok(Param {
+            name: self.name.copy()?,
+            value: self.value.copy()?,
+        })
     }
 }
 
@@ -98,15 +38,31 @@ pub fn params_of(
     target: &str,
     fields: &[Field],
     body: &[u8],
-) -> Result<Params, AllocError>
+) -> Result<Listed<Param>, AllocError>
     ensures { IfOk result (λ params. params ≡ params_of method.now target.now fields.now body.now) }
 {
-    let mut params = Params::new(alloc);
-    params.add(alloc, query_of(target).unwrap_or("").as_bytes())?;
+    let query = query_of(target).unwrap_or("");
+    let mut params = Listed::empty(alloc);
+    add_params(&mut params, alloc, query.as_bytes())?;
     if has_form(method, fields) {
-        params.add(alloc, body)?;
+        add_params(&mut params, alloc, body)?;
     }
     Ok(params)
+}
+
+// Adds the parameters in a query or a form behind the others.
+#[tactic(auto, unfolding(crate::specs::Params::params_in))]
+fn add_params(params: &mut Listed<Param>, alloc: Global, text: &[u8]) -> Result<(), AllocError>
+    ensures { OnOk result (params.new ≡ params.old ++ params_in text.now) }
+{
+    for pair in parse(alloc, text) {
+        let (name, value) = pair?;
+        params.push(Param {
+            name: Text::new(name.into_owned(alloc)?)?,
+            value: Text::new(value.into_owned(alloc)?)?,
+        })?;
+    }
+    Ok(())
 }
 
 // Whether a request of this method and fields has a form for its body.

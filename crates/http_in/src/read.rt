@@ -1,4 +1,4 @@
-ghost use Rattle.std.specs.Prelude.{◌≡◌, ◌≢◌, ◌^◌, max, ◌+◌, ◌<◌, ◌≤◌, Some, length, take, drop, IfOk, IfSome, IfNone, OnOk, OnErr};
+ghost use Rattle.std.specs.Prelude.{◌≡◌, ◌≢◌, ◌^◌, max, ◌+◌, ◌-◌, ◌<◌, ◌≤◌, Some, length, take, drop, IfOk, IfSome, IfNone, OnOk, OnErr};
 ghost use Rattle.std.specs.Io.KnownBytes.{IsAtEnd};
 ghost use Rattle.edges.specs.Faults.{Rose};
 ghost use Rattle.http_in.specs.Faults.{IfFault};
@@ -9,8 +9,8 @@ ghost use Rattle.http_in.specs.Requests.{IsEnd};
 ghost use Rattle.http_in.specs.Stopping.{StopsHead, StopsBody};
 
 use crate::head::{Head, parse_head};
-use crate::head_end::{HEAD_LIMIT, front_of, skip_pairs};
-use crate::scan::Scan;
+use crate::head_end::skip_pairs;
+use crate::limits::{MAX_HEAD_BYTES, MAX_PIECE_BYTES, SESSION_ID_BYTES};
 use crate::{HttpFault, Request, Rest};
 use edges::Source;
 use pg_text::{Bytes, Failure};
@@ -25,8 +25,8 @@ pub fn read_request<S: Source>(
     rest: &mut Rest,
 ) -> Result<Option<Request>, Failure<HttpFault>>
     ensures answer { Reads (S.left source.old) (S.left source.new) rest.old rest.new result }
-    ensures ahead { length rest.old < 4096 → ReadsOn rest.new result }
-    ensures cookie { IfOk result (λ found. IfSome found (λ request. length request.cookie ≤ 48)) }
+    ensures ahead { length rest.old < MAX_PIECE_BYTES → ReadsOn rest.new result }
+    ensures cookie { IfOk result (λ found. IfSome found (λ request. length request.cookie ≤ SESSION_ID_BYTES)) }
 
     ensures later { S.faults source.old ≤ S.faults source.new }
     ensures read { IfFault result (λ fault. fault ≡ HttpFault.ReadFault → Rose (S.faults source.old) (S.faults source.new)) }
@@ -46,23 +46,22 @@ fn read_head<S: Source>(
     rest: &mut Rest,
 ) -> Result<Option<usize>, Failure<HttpFault>>
     ensures found { IfOk result (λ found. IfSome found (λ len. head_len (front_of rest.new) ≡ Some len)) }
-    ensures within { IfOk result (λ found. IfSome found (λ len. (len ≤ 16384) × (len ≤ length rest.new))) }
+    ensures within { IfOk result (λ found. IfSome found (λ len. (len ≤ MAX_HEAD_BYTES) × (len ≤ length rest.new))) }
     ensures ended { IfOk result (λ found. IfNone found (IsEnd rest.new × IsAtEnd (S.left source.new))) }
     ensures stopped { IfFault result (StopsHead (S.left source.new) rest.new) }
-    ensures ahead { length rest.old < 4096 → IfOk result (λ found. IfSome found (λ len. length rest.new < len + 4096)) }
-    ensures too_large { length rest.old < 4096 → IfFault result (λ fault. fault ≡ HttpFault.HeadTooLarge → length rest.new < 16384 + 4096) }
+    ensures ahead { length rest.old < MAX_PIECE_BYTES → IfOk result (λ found. IfSome found (λ len. length rest.new < len + MAX_PIECE_BYTES)) }
+    ensures too_large { length rest.old < MAX_PIECE_BYTES → IfFault result (λ fault. fault ≡ HttpFault.HeadTooLarge → length rest.new < MAX_HEAD_BYTES + MAX_PIECE_BYTES) }
 
     ensures bytes { Moves (S.left source.old) (S.left source.new) rest.old rest.new }
     ensures later { S.faults source.old ≤ S.faults source.new }
     ensures read { IfFault result (λ fault. fault ≡ HttpFault.ReadFault → Rose (S.faults source.old) (S.faults source.new)) }
     ensures unfailing { S.unfailing source.old → IfFault result (λ fault. fault ≢ HttpFault.ReadFault) × S.unfailing source.new }
 {
-    let mut scan = Scan::Pairs(0);
     'fill: loop {
-        if let Some(len) = scan.head_len(front_of(rest.as_slice())) {
+        if let Some(len) = rest.head_len() {
             return Ok(Some(len));
         }
-        if rest.len() >= HEAD_LIMIT {
+        if rest.len() >= MAX_HEAD_BYTES {
             return Err(Failure::Fault(HttpFault::HeadTooLarge));
         }
         if !rest.fill(source)? {
@@ -84,7 +83,7 @@ fn read_body<S: Source>(
 ) -> Result<(), Failure<HttpFault>>
     ensures whole { OnOk result (need ≤ length rest.new) }
     ensures stopped { IfFault result (StopsBody need (S.left source.new) rest.new) }
-    ensures ahead { length rest.new ≤ max (length rest.old) (need + 4095) }
+    ensures ahead { length rest.new ≤ max (length rest.old) (need + (MAX_PIECE_BYTES - 1)) }
 
     ensures bytes { Moves (S.left source.old) (S.left source.new) rest.old rest.new }
     ensures later { S.faults source.old ≤ S.faults source.new }
@@ -109,7 +108,7 @@ fn take_request(
     requires whole { len + head.size ≤ length rest.old }
     requires fits { len + head.size < 2 ^ 64 }
     ensures request { IfOk result (λ request. request ≡ request_of head.method head.target head.fields (take head.size (drop len rest.old))) }
-    ensures cookie { IfOk result (λ request. length request.cookie ≤ 48) }
+    ensures cookie { IfOk result (λ request. length request.cookie ≤ SESSION_ID_BYTES) }
     ensures after { OnOk result (rest.new ≡ drop (len + head.size) rest.old) }
     ensures stays { OnErr result (rest.new ≡ rest.old) }
 {

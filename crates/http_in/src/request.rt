@@ -2,11 +2,12 @@ ghost use Rattle.std.specs.Prelude.{◌≡◌, ◌≤◌, IfOk, length};
 ghost use Rattle.http_in.specs.Request.{request_of};
 
 use crate::cookie::session_of;
+use crate::limits::SESSION_ID_BYTES;
 use crate::lookups::asks_to_close;
 use crate::params::params_of;
 use crate::target::{path_of, query_of};
-use crate::{Fields, Params};
-use pg_text::{Bytes, Path, Text};
+use crate::{Field, Param};
+use pg_text::{Bytes, Listed, Path, Text};
 use std::alloc::{AllocError, Global};
 
 /// A request. All that it says is told by its method, target, fields and body.
@@ -20,9 +21,10 @@ pub struct Request {
     pub path: Option<Path>,
     /// The query as it was sent, where there is a `?`.
     pub query: Option<Text>,
-    pub fields: Fields,
+    /// The fields in the order sent.
+    pub fields: Listed<Field>,
     /// The parameters of the query and then of a form that was posted, decoded.
-    pub params: Params,
+    pub params: Listed<Param>,
     /// The id of the session that the client names, or the empty text.
     pub cookie: Text,
     pub body: Bytes,
@@ -35,7 +37,7 @@ impl Request {
     /// request is dropped.
     pub fn retarget(self, alloc: Global, target: Text) -> Result<Self, AllocError>
         ensures request { IfOk result (λ request. request ≡ request_of self.method target self.fields self.body) }
-        ensures cookie { IfOk result (λ request. length request.cookie ≤ 48) }
+        ensures cookie { IfOk result (λ request. length request.cookie ≤ SESSION_ID_BYTES) }
     {
         Request::of(alloc, self.method, target, self.fields, self.body)
     }
@@ -46,11 +48,11 @@ impl Request {
         alloc: Global,
         method: Text,
         target: Text,
-        fields: Fields,
+        fields: Listed<Field>,
         body: Bytes,
     ) -> Result<Self, AllocError>
         ensures request { IfOk result (λ request. request ≡ request_of method target fields body) }
-        ensures cookie { IfOk result (λ request. length request.cookie ≤ 48) }
+        ensures cookie { IfOk result (λ request. length request.cookie ≤ SESSION_ID_BYTES) }
     {
         let query = match query_of(target.as_str()) {
             Some(query) => Some(Text::copy_of(alloc, query)?),

@@ -1,29 +1,36 @@
-ghost use Rattle.std.specs.Prelude.{◌≡◌, ◌+◌, ◌==◌, ◌≤◌, ◌<◌, [], length, drop, IfOk, IsTrue, false};
+ghost use Rattle.std.specs.Prelude.{◌≡◌, ◌+◌, ◌==◌, ◌≤◌, ◌<◌, [], length, drop, IfOk, IfSome, IsTrue, false};
 ghost use Rattle.std.specs.Io.KnownBytes.{IsAtEnd};
 ghost use Rattle.edges.specs.Faults.{Rose};
 ghost use Rattle.http_in.specs.Faults.{IfFault};
+ghost use Rattle.http_in.specs.HeadEnd.{front_of, head_len};
 
 use crate::HttpFault;
+use crate::head_end::front_of;
+use crate::limits::{MAX_HEAD_BYTES, MAX_PIECE_BYTES};
+use crate::scan::Scan;
 use edges::Source;
 use pg_text::Failure;
 use std::alloc::Global;
 use std::marker::Model;
 
-// The most bytes of one call of the source.
-const PIECE: usize = 4_096;
-
 /// The bytes that were read from a source and not used yet. Contracts see the list of them.
 #[derive(Drop)]
 pub struct Rest {
     bytes: Vec<u8>,
+    // How far they were looked through for the end of the first head.
+    scan: Scan,
 }
 
 impl Model for Rest {
     ghost use Rattle.std.specs.Prelude.{List, ℕ};
+    ghost use Rattle.http_in.specs.HeadEnd.{front_of};
+    ghost use Rattle.http_in.specs.Scan.{HasLooked};
 
     ghost Value = { List ℕ };
 
     ghost view = { λ r. r.bytes.items };
+
+    ghost invariant = { λ r. HasLooked r.scan (front_of r.bytes.items) };
 }
 
 impl Rest {
@@ -35,6 +42,7 @@ impl Rest {
     {
         Rest {
             bytes: Vec::new(alloc),
+            scan: Scan::Pairs(0),
         }
     }
 
@@ -56,7 +64,16 @@ impl Rest {
         self.bytes.is_empty()
     }
 
-    // Drops the first bytes.
+    // The length of the head that ends among the first bytes. What was looked through before isn't looked at again.
+    pub(crate) fn head_len(&mut self) -> Option<usize>
+        ensures value { result ≡ head_len (front_of self.old) }
+        ensures within { IfSome result (λ len. (len ≤ MAX_HEAD_BYTES) × (len ≤ length self.old)) }
+        ensures same { self.new ≡ self.old }
+    {
+        self.scan.head_len(front_of(&self.bytes))
+    }
+
+    // Drops the first bytes, and the mark with them.
     pub(crate) fn drop_front(&mut self, count: usize)
         requires { count ≤ length self.old }
         ensures { self.new ≡ drop count self.old }
@@ -64,6 +81,7 @@ impl Rest {
         let left = self.bytes.len() - count;
         self.bytes.copy_within(count.., 0);
         self.bytes.truncate(left);
+        self.scan = Scan::Pairs(0);
     }
 
     // Reads the next piece. The answer says whether any came: if none did, the input has ended. Where memory is wanting
@@ -73,12 +91,12 @@ impl Rest {
         ensures ended { IfOk result (λ came. came ≡ false → (self.new ≡ self.old) × IsAtEnd (S.left source.new)) }
         ensures bytes { Moves (S.left source.old) (S.left source.new) self.old self.new }
         ensures failed { IfFault result (λ fault. (fault ≡ HttpFault.ReadFault) × (self.new ≡ self.old) × Rose (S.faults source.old) (S.faults source.new)) }
-        ensures little { length self.new ≤ length self.old + 4096 }
+        ensures little { length self.new ≤ length self.old + MAX_PIECE_BYTES }
         ensures later { S.faults source.old ≤ S.faults source.new }
         ensures unfailing { S.unfailing source.old → IfFault result (λ _. ⊥) × S.unfailing source.new }
     {
-        let mut piece = [0; PIECE];
-        self.bytes.reserve(PIECE)?;
+        let mut piece = [0; MAX_PIECE_BYTES];
+        self.bytes.reserve(MAX_PIECE_BYTES)?;
         let Ok(count) = source.read(&mut piece) else {
             return Err(Failure::Fault(HttpFault::ReadFault));
         };

@@ -1,20 +1,21 @@
-ghost use Rattle.std.specs.Prelude.{◌≡◌, ◌≤◌, length, IfSome, IfNone};
+ghost use Rattle.std.specs.Prelude.{◌≡◌, ◌≤◌, length, IfSome};
 ghost use Rattle.http_in.specs.HeadEnd.{head_len};
 ghost use Rattle.http_in.specs.Scan.{HasLooked};
 
 use crate::head_end::{skip_pairs, through_empty_line};
 
-// How far bytes were looked through for the end of a head, so that none is looked at again when more bytes come.
+// How far bytes were looked through for the end of a head, so that none is looked at again when more bytes come, or when
+// the same head is asked for once more.
 #[derive(Clone, Copy)]
 pub enum Scan {
     // So many bytes are CR LF pairs, and at most one stands behind them.
     Pairs(usize),
-    // The head has begun, and no empty line begins in so many bytes.
+    // The head has begun, and no empty line begins in so many bytes behind it.
     Head(usize),
 }
 
-// The bytes of an empty line that may stand at the end already.
-const PART_OF_EMPTY_LINE: usize = 3;
+// The bytes of what ends a head. All but one of them may stand at the end of the bytes already.
+const EMPTY_LINE_BYTES: usize = 4;
 
 impl Scan {
     // The length of the head at the front, with the pairs before its first line. Bytes that were looked through before
@@ -23,7 +24,7 @@ impl Scan {
         requires { HasLooked self.old bytes.now }
         ensures value { result ≡ head_len bytes.now }
         ensures within { IfSome result (λ len. len ≤ length bytes.now) }
-        ensures looked { IfNone result (HasLooked self.new bytes.now) }
+        ensures looked { HasLooked self.new bytes.now }
     {
         match *self {
             Scan::Pairs(at) => {
@@ -44,12 +45,13 @@ impl Scan {
         requires { HasLooked (Scan.Head at) bytes.now }
         ensures value { result ≡ head_len bytes.now }
         ensures within { IfSome result (λ len. len ≤ length bytes.now) }
-        ensures looked { IfNone result (HasLooked self.new bytes.now) }
+        ensures looked { HasLooked self.new bytes.now }
     {
         if let Some(len) = through_empty_line(&bytes[at..]) {
+            *self = Scan::Head(at + len - EMPTY_LINE_BYTES);
             return Some(at + len);
         }
-        *self = Scan::Head(at.max(bytes.len().saturating_sub(PART_OF_EMPTY_LINE)));
+        *self = Scan::Head(at.max(bytes.len().saturating_sub(EMPTY_LINE_BYTES - 1)));
         None
     }
 }

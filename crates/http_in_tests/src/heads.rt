@@ -1,4 +1,4 @@
-use crate::telling::{told, told_both_ways};
+use crate::telling::{told, told_both_ways, told_with};
 use http_in::one_cut;
 use std::test::Fail;
 
@@ -86,71 +86,47 @@ fn a_head_has_its_first_fault(rt: HostRuntime) -> Result<(), Fail> {
             "Host: h\r\nContent-Length: x\r\ntransfer-ENCODING:",
             "ChunkedRequest",
         ),
-        ("/ HTTP/1.1", "Host: h\r\nContent-Length: 0", "GET / \nend"),
-        ("/ HTTP/1.1", "Host: h\r\nContent-Length: 1", "CutOff"),
-        (
-            "/ HTTP/1.1",
-            "Host: h\r\nContent-Length: 000000000000000000",
-            "GET / \nend",
-        ),
-        (
-            "/ HTTP/1.1",
-            "Host: h\r\nContent-Length: 0000000000000000000",
-            "BadLength",
-        ),
-        (
-            "/ HTTP/1.1",
-            "Host: h\r\nContent-Length: 999999999999999999",
-            "BodyTooLarge",
-        ),
-        (
-            "/ HTTP/1.1",
-            "Host: h\r\ncontent-length:\t0 \r\nContent-Length: 00",
-            "GET / \nend",
-        ),
-        (
-            "/ HTTP/1.1",
-            "Host: h\r\nContent-Length: 1\r\nContent-Length: 01",
-            "CutOff",
-        ),
-        (
-            "/ HTTP/1.1",
-            "Host: h\r\nContent-Length: 1\r\nContent-Length: 2",
-            "BadLength",
-        ),
-        (
-            "/ HTTP/1.1",
-            "Host: h\r\nContent-Length: 0\r\nContent-Length:",
-            "BadLength",
-        ),
-        ("/ HTTP/1.1", "Host: h\r\nContent-Length: 0, 0", "BadLength"),
-        ("/ HTTP/1.1", "Host: h\r\nContent-Length: +0", "BadLength"),
-        ("/ HTTP/1.1", "Host: h\r\nContent-Length: 2097152", "CutOff"),
-        (
-            "/ HTTP/1.1",
-            "Host: h\r\nContent-Length: 2097153",
-            "BodyTooLarge",
-        ),
-        (
-            "/ HTTP/1.1",
-            "Host: h\r\nconnection: keep-alive ,\tCLOSE\t,",
-            "GET /  close\nend",
-        ),
-        (
-            "/ HTTP/1.1",
-            "Host: h\r\nConnection: x\r\nConnection: Close",
-            "GET /  close\nend",
-        ),
-        (
-            "/ HTTP/1.1",
-            "Host: h\r\nConnection: closed, clos e",
-            "GET / \nend",
-        ),
-        ("/ HTTP/1.1", "Host: h\r\nX: close", "GET / \nend"),
     ] {
         let text = format!(in rt.alloc(); "GET {line}\r\n{fields}\r\n\r\n")?;
         let told = told_both_ways(rt.alloc(), text.as_bytes())?;
         assert_eq!(rt; told.as_str(), wanted, "{line} {fields}");
+    }
+    Ok(())
+}
+
+#[test]
+fn a_body_has_one_length(rt: HostRuntime) -> Result<(), Fail> {
+    for (lengths, wanted) in [
+        ("Content-Length: 0", "GET / \nend"),
+        ("Content-Length: 1", "CutOff"),
+        ("Content-Length: 000000000000000000", "GET / \nend"),
+        ("Content-Length: 0000000000000000000", "BadLength"),
+        ("Content-Length: 999999999999999999", "BodyTooLarge"),
+        ("content-length:\t0 \r\nContent-Length: 00", "GET / \nend"),
+        ("Content-Length: 1\r\nContent-Length: 01", "CutOff"),
+        ("Content-Length: 1\r\nContent-Length: 2", "BadLength"),
+        ("Content-Length: 0\r\nContent-Length:", "BadLength"),
+        ("Content-Length: 0, 0", "BadLength"),
+        ("Content-Length: +0", "BadLength"),
+        ("Content-Length: 2097152", "CutOff"),
+        ("Content-Length: 2097153", "BodyTooLarge"),
+    ] {
+        let told = told_with(rt.alloc(), lengths)?;
+        assert_eq!(rt; told.as_str(), wanted, "{lengths}");
+    }
+    Ok(())
+}
+
+#[test]
+fn a_request_asks_to_close(rt: HostRuntime) -> Result<(), Fail> {
+    for (fields, wanted) in [
+        ("connection: keep-alive ,\tCLOSE\t,", "GET /  close\nend"),
+        ("Connection: x\r\nConnection: Close", "GET /  close\nend"),
+        ("Connection: closed, clos e", "GET / \nend"),
+        ("X: close", "GET / \nend"),
+    ] {
+        let told = told_with(rt.alloc(), fields)?;
+        assert_eq!(rt; told.as_str(), wanted, "{fields}");
     }
     Ok(())
 }

@@ -1,4 +1,4 @@
-use crate::telling::{only_request, parts};
+use crate::telling::{fields, only_request, parts};
 use pg_text::Text;
 use std::test::Fail;
 
@@ -118,6 +118,18 @@ fn the_first_session_cookie_decides(rt: HostRuntime) -> Result<(), Fail> {
         let text = format!(in rt.alloc(); "GET /a HTTP/1.1\r\nHost: h\r\n{fields}\r\n\r\n")?;
         let request = only_request(rt.alloc(), text.as_bytes(), 65_536)?;
         assert_eq!(rt; request.cookie.as_str(), wanted, "{fields}");
+    }
+    Ok(())
+}
+
+#[test]
+fn fields_stand_in_the_order_sent(rt: HostRuntime) -> Result<(), Fail> {
+    let text =
+        b"GET /a HTTP/1.1\r\nHOST: h\r\nX-a:  1\t\r\nEmpty:\r\nx-A: \xff 2\r\n\r\n".as_slice();
+    for piece in [1, 65_536] {
+        let request = only_request(rt.alloc(), text, piece)?;
+        let told = fields(rt.alloc(), &request)?;
+        assert_eq!(rt; told.as_str(), "host:h|x-a:1|empty:|x-a:no text|");
     }
     Ok(())
 }

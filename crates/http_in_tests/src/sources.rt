@@ -27,6 +27,26 @@ fn a_read_fails_in_mid_stream(rt: HostRuntime) -> Result<(), Fail> {
     Ok(())
 }
 
+#[test]
+fn a_call_after_a_failed_read_goes_on(rt: HostRuntime) -> Result<(), Fail> {
+    let text = b"PUT /a HTTP/1.1\r\nHost: h\r\nContent-Length: 2\r\n\r\nhi".as_slice();
+    // A read fails in the head, one behind it, and one in the body.
+    let fails = vec![in rt.alloc(); 20, 48, 50]?;
+    let mut source = MemSource::new(text.to_vec(rt.alloc())?, 1, fails);
+    let mut rest = Rest::new(rt.alloc());
+    for _ in 0..3 {
+        match read_request(rt.alloc(), &mut source, &mut rest) {
+            Err(Failure::Fault(fault)) => assert_eq!(rt; fault, HttpFault::ReadFault),
+            _ => assert!(rt; false),
+        }
+    }
+    match read_request(rt.alloc(), &mut source, &mut rest) {
+        Ok(Some(request)) => assert_eq!(rt; request.body.as_slice(), b"hi".as_slice()),
+        _ => assert!(rt; false),
+    }
+    Ok(())
+}
+
 // The first request of bytes in memory: no read fails, as a caller concludes without a look at the answer.
 fn first_request(alloc: Global, bytes: Vec<u8>) -> Result<Option<Request>, Failure<HttpFault>>
     ensures { IfFault result (λ fault. fault ≢ HttpFault.ReadFault) }

@@ -45,6 +45,12 @@ pub fn told_both_ways(alloc: Global, bytes: &[u8]) -> Result<String, AllocError>
     }
 }
 
+// The same of a request without a body that has these fields beside Host.
+pub fn told_with(alloc: Global, fields: &str) -> Result<String, AllocError> {
+    let text = format!(in alloc; "GET / HTTP/1.1\r\nHost: h\r\n{fields}\r\n\r\n")?;
+    told_both_ways(alloc, text.as_bytes())
+}
+
 fn tell(told: &mut String, request: &Request) -> Result<(), AllocError> {
     for part in [request.method.as_str(), " ", request.target.as_str(), " "] {
         told.push_str(part)?;
@@ -99,5 +105,17 @@ pub fn parts(alloc: Global, request: &Request) -> Result<String, AllocError> {
     told.push('|')?;
     told.push_str(request.cookie.as_str())?;
     told.push('|')?;
+    Ok(told)
+}
+
+// The fields of a request, with a bar behind each.
+pub fn fields(alloc: Global, request: &Request) -> Result<String, AllocError> {
+    let mut told = String::new(alloc);
+    for field in request.fields.as_slice() {
+        let value = str::from_utf8(field.value.as_slice()).unwrap_or("no text");
+        for part in [field.name.as_str(), ":", value, "|"] {
+            told.push_str(part)?;
+        }
+    }
     Ok(told)
 }

@@ -11,7 +11,8 @@ use Rattle.std.proofs.lemmas.List.{drop_more, take_rest, append_assoc, append-ni
 use Rattle.std.proofs.lemmas.List.Sums.{prefix_len_passes}
 use Rattle.std.proofs.lemmas.List.Splits.{slice_split_none, slice_split_first}
 use Rattle.std.proofs.lemmas.Slice.Eq.{bytes_eq-Decides}
-use Rattle.pages_talk.specs.declared.first_page.Parameter.{Parameter}
+use Rattle.http_in.specs.declared.params.Param.{Param}
+use Rattle.pages_talk.specs.declared.limits.TheConstants.{MAX_OUTPUT_BYTES}
 use Rattle.pages_talk.specs.FirstPage.{behind, is_dollar, pieces_behind, limited, both_written, filled, pieces_written, stretch_written, stretches_written, begins_other_syntax, has_other_syntax, template_body}
 
 -- what `strip_prefix` gives at a text
@@ -35,26 +36,26 @@ pub pieces_whole : (text : List ℕ) → position_or_len is_dollar text ≡ leng
 pieces_whole text none = slice_split_none is_dollar text (λ k d within. not-true _ (prefix_len_passes (λ b. not (is_dollar b)) text k d (omega arith)))
 
 -- the bytes of a body that is not too long
-pub limited_within : (bytes : List ℕ) → length bytes ≤ 16777216 → limited bytes ≡ Some bytes
+pub limited_within : (bytes : List ℕ) → length bytes ≤ MAX_OUTPUT_BYTES → limited bytes ≡ Some bytes
 unfolding limited
-limited_within bytes within = rw (le-leb (length bytes) 16777216 within) refl
+limited_within bytes within = rw (le-leb (length bytes) MAX_OUTPUT_BYTES within) refl
 
-pub limited_past : (bytes : List ℕ) → 16777216 < length bytes → limited bytes ≡ None
+pub limited_past : (bytes : List ℕ) → MAX_OUTPUT_BYTES < length bytes → limited bytes ≡ None
 unfolding limited
-limited_past bytes past = rw (lt-leb (length bytes) 16777216 past) refl
+limited_past bytes past = rw (lt-leb (length bytes) MAX_OUTPUT_BYTES past) refl
 
-limited_parts : (bytes kept : List ℕ) → limited bytes ≡ Some kept → (kept ≡ bytes) × (length bytes ≤ 16777216)
+limited_parts : (bytes kept : List ℕ) → limited bytes ≡ Some kept → (kept ≡ bytes) × (length bytes ≤ MAX_OUTPUT_BYTES)
 unfolding limited
-limited_parts bytes kept is = elim (cases_Bool (nat_le (length bytes) 16777216)) [
-  | inl within ↦ (let same : Some bytes ≡ Some kept = rw within at is in cc, leb-true (length bytes) 16777216 within)
+limited_parts bytes kept is = elim (cases_Bool (nat_le (length bytes) MAX_OUTPUT_BYTES)) [
+  | inl within ↦ (let same : Some bytes ≡ Some kept = rw within at is in cc, leb-true (length bytes) MAX_OUTPUT_BYTES within)
   | inr past ↦ let same : None ≡ Some kept = rw past at is in absurd (cc)
 ]
 
-limited_none : (bytes : List ℕ) → limited bytes ≡ None → 16777216 < length bytes
+limited_none : (bytes : List ℕ) → limited bytes ≡ None → MAX_OUTPUT_BYTES < length bytes
 unfolding limited
-limited_none bytes is = elim (cases_Bool (nat_le (length bytes) 16777216)) [
+limited_none bytes is = elim (cases_Bool (nat_le (length bytes) MAX_OUTPUT_BYTES)) [
   | inl within ↦ let same : Some bytes ≡ None = rw within at is in absurd (cc)
-  | inr past ↦ leb-false (length bytes) 16777216 past
+  | inr past ↦ leb-false (length bytes) MAX_OUTPUT_BYTES past
 ]
 
 -- a body that grows in two steps is limited as one that grows in one
@@ -72,7 +73,7 @@ abbrev pub grown : List ℕ → Option (List ℕ) → Option (List ℕ)
 grown body left = option_and_then (λ more. limited (body ++ more)) left
 
 -- what the loop keeps: the body and the stretches that are left write what the template does
-pub record Fills (parameters : List Parameter) (template body : List ℕ) (left : Option (List ℕ)) : Type 0 where
+pub record Fills (parameters : List Param) (template body : List ℕ) (left : Option (List ℕ)) : Type 0 where
   pub same : grown body (stretches_written parameters (pieces_behind left)) ≡ option_and_then limited (filled parameters template)
   pub within : limited body ≡ Some body
 
@@ -96,7 +97,7 @@ grown_none body None rest is = refl
 grown_none body (Some bytes) None is = refl
 grown_none body (Some bytes) (Some more) is = past_longer body bytes more (sym is)
 
-module _ (parameters : List Parameter) (template front : List ℕ) (left : Option (List ℕ)) (cut : slice_split is_dollar template ≡ front ∷ pieces_behind left) where
+module _ (parameters : List Param) (template front : List ℕ) (left : Option (List ℕ)) (cut : slice_split is_dollar template ≡ front ∷ pieces_behind left) where
   in_pieces : grown [] (both_written (Some front) (stretches_written parameters (pieces_behind left))) ≡ option_and_then limited (filled parameters template)
   in_pieces = ap (λ pieces. option_and_then limited (pieces_written parameters pieces)) (sym cut)
 
@@ -112,7 +113,7 @@ module _ (parameters : List Parameter) (template front : List ℕ) (left : Optio
   fills_none_first is = sym (grown_none [] (Some front) (stretches_written parameters (pieces_behind left)) is) ∙ in_pieces
 
 -- one stretch more
-pub fills_more : (parameters : List Parameter) (template body text stretch longer : List ℕ) (left : Option (List ℕ)) → Fills parameters template body (Some text)
+pub fills_more : (parameters : List Param) (template body text stretch longer : List ℕ) (left : Option (List ℕ)) → Fills parameters template body (Some text)
     → slice_split is_dollar text ≡ stretch ∷ pieces_behind left → Some longer ≡ grown body (stretch_written parameters stretch) → Fills parameters template longer left
 fills_more parameters template body text stretch longer left fills cut is = record {
   same =
@@ -123,7 +124,7 @@ fills_more parameters template body text stretch longer left fills cut is = reco
 }
 
 -- a stretch that writes nothing, or too much
-pub fills_none : (parameters : List Parameter) (template body text stretch : List ℕ) (left : Option (List ℕ)) → Fills parameters template body (Some text)
+pub fills_none : (parameters : List Param) (template body text stretch : List ℕ) (left : Option (List ℕ)) → Fills parameters template body (Some text)
     → slice_split is_dollar text ≡ stretch ∷ pieces_behind left → None ≡ grown body (stretch_written parameters stretch) → None ≡ option_and_then limited (filled parameters template)
 fills_none parameters template body text stretch left fills cut is =
     sym (grown_none body (stretch_written parameters stretch) (stretches_written parameters (pieces_behind left)) is)
@@ -131,7 +132,7 @@ fills_none parameters template body text stretch left fills cut is =
     ∙ fills.same
 
 -- the end
-pub fills_all : (parameters : List Parameter) (template body : List ℕ) → Fills parameters template body None → Some body ≡ option_and_then limited (filled parameters template)
+pub fills_all : (parameters : List Param) (template body : List ℕ) → Fills parameters template body None → Some body ≡ option_and_then limited (filled parameters template)
 fills_all parameters template body fills = sym fills.within ∙ ap limited (sym (append-nil body)) ∙ fills.same
 
 -- what a first page does not hold is looked for one byte on
@@ -143,8 +144,8 @@ other_more text i within none =
     sym (ap has_other_syntax split ∙ ap (λ found. found || has_other_syntax (drop (i + 1) text)) here)
 
 -- a template that holds something else answers nothing
-pub template_refused : (parameters : List Parameter) (template : List ℕ) → true ≡ has_other_syntax template → None ≡ template_body parameters template
+pub template_refused : (parameters : List Param) (template : List ℕ) → true ≡ has_other_syntax template → None ≡ template_body parameters template
 template_refused parameters template other = ap (λ found. if found then None else option_and_then limited (filled parameters template)) other
 
-pub template_taken : (parameters : List Parameter) (template : List ℕ) → false ≡ has_other_syntax template → option_and_then limited (filled parameters template) ≡ template_body parameters template
+pub template_taken : (parameters : List Param) (template : List ℕ) → false ≡ has_other_syntax template → option_and_then limited (filled parameters template) ≡ template_body parameters template
 template_taken parameters template none = ap (λ found. if found then None else option_and_then limited (filled parameters template)) none

@@ -1,5 +1,6 @@
 -- One history of publishings.
 use Rattle.std.proofs.Common.{◌≡◌, ◌+◌, ℕ, Bool, true, false, cond, List, [], ◌∷◌, ◌++◌, length, Option, Some, None, refl, sym, ap, subst, ◌∙◌, arith, length-append}
+use Rattle.http_in.specs.declared.params.Param.{Param}
 use Rattle.http_in.specs.declared.request.Request.{Request}
 use Rattle.source_tree.specs.declared.edit.Edit.{Edit}
 use Rattle.source_tree.specs.declared.edit.Edit.TheVariants as edit
@@ -32,9 +33,9 @@ quiet site made none files version = record {
 }
 
 -- an answer with a page publishes nothing
-quiet_page : (file : Option File) (query : List ℕ) (draft : List Edit) → published_by (page_answer file query) draft ≡ []
-quiet_page None query draft = refl
-quiet_page (Some file) query draft = go (first_page_body file.text query)
+quiet_page : (file : Option File) (parameters : List Param) (draft : List Edit) → published_by (page_answer file parameters) draft ≡ []
+quiet_page None parameters draft = refl
+quiet_page (Some file) parameters draft = go (first_page_body file.text parameters)
   where
     go : (body : Option (List ℕ)) → published_by (page_of body) draft ≡ []
     go None = refl
@@ -51,7 +52,7 @@ history_step site message.Publish = go (tree_fault (next_files site)) refl
     go : (fault : Option TreeFault) → tree_fault (next_files site) ≡ fault → IsHistoryStep site (published (unless fault (next_files site)) site)
     go (Some fault) is = quiet site (effect_of NotBuilt site) refl refl refl
     go None is = record { legal = (is, tt); files = refl; version = refl }
-history_step site (message.Get path query) = quiet site (effect site (message.Get path query)) (quiet_page (file_at path site.files) query site.draft) refl refl
+history_step site (message.Get path parameters) = quiet site (effect site (message.Get path parameters)) (quiet_page (file_at path site.files) parameters site.draft) refl refl
 history_step site message.Missing = quiet site (effect site message.Missing) refl refl refl
 history_step site message.OtherMethod = quiet site (effect site message.OtherMethod) refl refl refl
 history_step site message.Other = quiet site (effect site message.Other) refl refl refl
@@ -89,8 +90,8 @@ history_more start next made requests legal files version has = (
 
 pub one_history : HasOneHistory
 unfolding after
-one_history start [] = record { legal = tt; files = refl; version = omega arith; fresh = λ path query. refl }
+one_history start [] = record { legal = tt; files = refl; version = omega arith; fresh = λ path parameters. refl }
 one_history start (request ∷ requests) =
     let first = history_step start (message_of request) in
     let all = history_more start (after start request) (published_by (effect start (message_of request)).answer start.draft) requests first.legal first.files first.version (one_history (after start request) requests) in
-    record { legal = all.0; files = all.1; version = all.2; fresh = λ path query. ap (λ f. page_answer (file_at path f) query) all.1 }
+    record { legal = all.0; files = all.1; version = all.2; fresh = λ path parameters. ap (λ f. page_answer (file_at path f) parameters) all.1 }

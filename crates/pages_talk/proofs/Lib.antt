@@ -3,3 +3,4 @@ pub mod FirstPageLemmas
 pub mod HistoryLemmas
 pub mod ServingLemmas
 pub mod TargetLemmas
+pub mod WireLemmas

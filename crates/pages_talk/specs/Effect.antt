@@ -1,5 +1,6 @@
 -- What a message does to a site.
 use Rattle.std.specs.Prelude.{ℕ, ◌+◌, List, [], ◌∷◌, ◌++◌, length, Option, Some, None, Result, Ok, Err, if◌then◌else◌}
+use Rattle.http_in.specs.declared.params.Param.{Param}
 use Rattle.source_tree.specs.declared.file.File.{File}
 use Rattle.source_tree.specs.declared.edit.Edit.{Edit}
 use Rattle.source_tree.specs.declared.edit.Edit.TheVariants as edit
@@ -48,10 +49,10 @@ abbrev pub page_of : Option (List ℕ) → Answer
 page_of None = NotBuilt
 page_of (Some body) = Page body
 
--- the answer to a message that asks for this file as a page
-abbrev pub page_answer : Option File → List ℕ → Answer
-page_answer None query = NotFound
-page_answer (Some file) query = page_of (first_page_body file.text query)
+-- the answer to a message that asks for this file as a page, with these parameters
+abbrev pub page_answer : Option File → List Param → Answer
+page_answer None parameters = NotFound
+page_answer (Some file) parameters = page_of (first_page_body file.text parameters)
 
 -- the files that the site's draft makes of its files
 abbrev pub next_files : Site → List File
@@ -61,7 +62,7 @@ next_files site = after_edits site.draft (site.version + 1) site.files
 abbrev pub effect : Site → Message → Effect
 effect site (message.Put path text) = drafted site (edit.Put path text)
 effect site message.Publish = published (tree_of (next_files site)) site
-effect site (message.Get path query) = effect_of (page_answer (file_at path site.files) query) site
+effect site (message.Get path parameters) = effect_of (page_answer (file_at path site.files) parameters) site
 effect site message.Missing = effect_of NotFound site
 effect site message.OtherMethod = effect_of MethodNotAllowed site
 effect site message.Other = effect_of NotBuilt site

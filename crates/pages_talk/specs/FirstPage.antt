@@ -1,23 +1,14 @@
 -- First pages: a directive, and a template with the values of parameters in it.
-use Rattle.std.specs.Prelude.{◌&&◌, ◌||◌, ◌==◌, ℕ, Bool, false, not, List, [], ◌∷◌, ◌++◌, length, map, drop, codes, nat_eq, nat_lt, nat_le, Option, Some, None, if◌then◌else◌}
+use Rattle.std.specs.Prelude.{◌&&◌, ◌||◌, ◌==◌, ℕ, Bool, false, not, List, [], ◌∷◌, ◌++◌, length, drop, codes, nat_eq, nat_lt, nat_le, Option, Some, None, if◌then◌else◌}
 use Rattle.std.specs.Char.{is_ascii_alphabetic}
 use Rattle.std.specs.List.{list_all, slice_split, starts_with, position_or_len, before_first, after_first}
 use Rattle.std.specs.Option.{option_map, option_and_then}
 use Rattle.std.specs.Str.{bytes_eq}
-use Rattle.std.specs.Str.Lossy.{utf8_lossy}
-use Rattle.form_urlencoded.specs.Form.{decode, raw_pairs}
-use Rattle.pages_talk.specs.declared.first_page.Parameter.{Parameter}
-
--- a pair of a query as a parameter: both texts decoded, with what isn't UTF-8 replaced
-abbrev pub parameter_of : List ℕ × List ℕ → Parameter
-parameter_of pair = record { name = utf8_lossy (decode pair.0); value = utf8_lossy (decode pair.1) }
-
--- the parameters of a query, in order
-unfoldable pub parameters_of : List ℕ → List Parameter
-parameters_of query = map parameter_of (raw_pairs query)
+use Rattle.http_in.specs.declared.params.Param.{Param}
+use Rattle.pages_talk.specs.declared.limits.TheConstants.{MAX_OUTPUT_BYTES}
 
 -- the value of the first parameter with this name, or nothing
-abbrev pub value_of : List ℕ → List Parameter → List ℕ
+abbrev pub value_of : List ℕ → List Param → List ℕ
 value_of name [] = []
 value_of name (parameter ∷ parameters) = if bytes_eq parameter.name name then parameter.value else value_of name parameters
 
@@ -35,15 +26,15 @@ around_brace text =
     if nat_lt (position_or_len (λ b. b == 125) text) (length text) then Some (before_first (λ b. b == 125) text, after_first (λ b. b == 125) text) else None
 
 -- what a name, a `}` and text write: the parameter's value and the text
-abbrev pub named_written : List Parameter → List ℕ × List ℕ → Option (List ℕ)
+abbrev pub named_written : List Param → List ℕ × List ℕ → Option (List ℕ)
 named_written parameters sides = if is_name sides.0 then Some (value_of sides.0 parameters ++ sides.1) else None
 
 -- what stands behind `${` writes, which has to be `param.`, a name, a `}` and text
-abbrev pub expression_written : List Parameter → List ℕ → Option (List ℕ)
+abbrev pub expression_written : List Param → List ℕ → Option (List ℕ)
 expression_written parameters expression = option_and_then (named_written parameters) (option_and_then around_brace (behind (codes "param.") expression))
 
 -- what a stretch behind a `$` writes: an expression and text where it begins with `{`, else the `$` and itself
-abbrev pub stretch_written : List Parameter → List ℕ → Option (List ℕ)
+abbrev pub stretch_written : List Param → List ℕ → Option (List ℕ)
 stretch_written parameters stretch = written (behind (codes "{") stretch)
   where
     written : Option (List ℕ) → Option (List ℕ)
@@ -55,7 +46,7 @@ abbrev pub both_written : Option (List ℕ) → Option (List ℕ) → Option (Li
 both_written first second = option_and_then (λ bytes. option_map (λ more. bytes ++ more) second) first
 
 -- what the stretches behind the dollar signs write, one behind the other
-abbrev pub stretches_written : List Parameter → List (List ℕ) → Option (List ℕ)
+abbrev pub stretches_written : List Param → List (List ℕ) → Option (List ℕ)
 stretches_written parameters [] = Some []
 stretches_written parameters (stretch ∷ stretches) = both_written (stretch_written parameters stretch) (stretches_written parameters stretches)
 
@@ -64,12 +55,12 @@ abbrev pub is_dollar : ℕ → Bool
 is_dollar b = b == 36
 
 -- what the pieces between the dollar signs write: the first is text
-abbrev pub pieces_written : List Parameter → List (List ℕ) → Option (List ℕ)
+abbrev pub pieces_written : List Param → List (List ℕ) → Option (List ℕ)
 pieces_written parameters [] = Some []
 pieces_written parameters (front ∷ stretches) = both_written (Some front) (stretches_written parameters stretches)
 
 -- what a template writes
-abbrev pub filled : List Parameter → List ℕ → Option (List ℕ)
+abbrev pub filled : List Param → List ℕ → Option (List ℕ)
 filled parameters template = pieces_written parameters (slice_split is_dollar template)
 
 -- the pieces of the text behind a `$`, where there is one
@@ -103,12 +94,12 @@ directive = codes "<%@ page session=\"false\" %>"
 
 -- the bytes, where they are no more than 16,777,216
 unfoldable pub limited : List ℕ → Option (List ℕ)
-limited bytes = if nat_le (length bytes) 16777216 then Some bytes else None
+limited bytes = if nat_le (length bytes) MAX_OUTPUT_BYTES then Some bytes else None
 
 -- what a template answers, where it has no other syntax and does not write too much
-abbrev pub template_body : List Parameter → List ℕ → Option (List ℕ)
+abbrev pub template_body : List Param → List ℕ → Option (List ℕ)
 template_body parameters template = if has_other_syntax template then None else option_and_then limited (filled parameters template)
 
--- what a text answers to a query, where it is a first page and does not answer too much
-unfoldable pub first_page_body : List ℕ → List ℕ → Option (List ℕ)
-first_page_body text query = option_and_then (template_body (parameters_of query)) (behind directive text)
+-- what a text answers to a request with these parameters, where it is a first page and does not answer too much
+unfoldable pub first_page_body : List ℕ → List Param → Option (List ℕ)
+first_page_body text parameters = option_and_then (template_body parameters) (behind directive text)

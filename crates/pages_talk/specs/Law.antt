@@ -1,5 +1,6 @@
 -- What holds of every conversation.
 use Rattle.std.specs.Prelude.{◌≡◌, ◌+◌, ℕ, List, [], ◌∷◌, ◌++◌, length, map, ⊤}
+use Rattle.http_in.specs.declared.params.Param.{Param}
 use Rattle.http_in.specs.declared.request.Request.{Request}
 use Rattle.http_in.specs.Requests.{Stop, Cut}
 use Rattle.conversation.specs.Exchange.{Exchange, request_in}
@@ -42,7 +43,8 @@ pub record HasHistory (start : Site) (requests : List Request) : Type 0 where
   pub files : (after_all start requests).files ≡ files_after start.files start.version (publishings start requests)
   pub version : (after_all start requests).version ≡ start.version + length (publishings start requests)
   -- a page that is asked for then is served from the files that the history made last
-  pub fresh : (path query : List ℕ) → (effect (after_all start requests) (Get path query)).answer ≡ page_answer (file_at path (files_after start.files start.version (publishings start requests))) query
+  pub fresh : (path : List ℕ) (parameters : List Param)
+      → (effect (after_all start requests) (Get path parameters)).answer ≡ page_answer (file_at path (files_after start.files start.version (publishings start requests))) parameters
 
 -- whatever is asked of whatever site, it has one history
 abbrev pub HasOneHistory : Type 0

@@ -1,9 +1,10 @@
 -- What a request asks for.
-use Rattle.std.specs.Prelude.{ℕ, Bool, false, ◌&&◌, ◌||◌, not, List, drop, ◌==◌, None, Result, Ok, Err, codes, nat_eq, if◌then◌else◌}
-use Rattle.std.specs.List.{before_first, after_first, ends_with, list_any, starts_with}
+use Rattle.std.specs.Prelude.{ℕ, Bool, false, ◌&&◌, ◌||◌, not, List, drop, ◌==◌, Option, Some, None, Result, Ok, Err, codes, nat_eq, if◌then◌else◌}
+use Rattle.std.specs.List.{ends_with, list_any, starts_with}
 use Rattle.std.specs.Str.{bytes_eq, is_utf8}
 use Rattle.pg_text.specs.declared.resolution.BadPath.{BadPath}
 use Rattle.pg_text.specs.Path.{resolved, segments}
+use Rattle.http_in.specs.declared.params.Param.{Param}
 use Rattle.http_in.specs.declared.request.Request.{Request}
 use Rattle.pages_talk.specs.declared.message.Message.{Message}
 use Rattle.pages_talk.specs.declared.message.Message.TheVariants.{Put, Publish, Get, Missing, OtherMethod, Other}
@@ -15,14 +16,6 @@ is_question b = b == 63
 -- the byte `%`
 abbrev pub is_percent : ℕ → Bool
 is_percent b = b == 37
-
--- the path of a target: what stands before its first question mark
-abbrev pub path_part : List ℕ → List ℕ
-path_part target = before_first is_question target
-
--- the query of a target: what stands behind its first question mark, or nothing
-abbrev pub query_part : List ℕ → List ℕ
-query_part target = after_first is_question target
 
 -- the target of a message that puts or deletes a file begins so, and the file's path begins at the last slash
 unfoldable pub is_file_target : List ℕ → Bool
@@ -44,11 +37,9 @@ is_editors request = starts_with nat_eq request.target (codes "/_editor/")
 unfoldable pub is_page_method : List ℕ → Bool
 is_page_method method = bytes_eq method (codes "GET") || bytes_eq method (codes "HEAD") || bytes_eq method (codes "POST")
 
--- the request asks for a page: by GET, a path without escapes that ends in .jsp, and no target of an editor
-unfoldable pub is_page_get : Request → Bool
-is_page_get request =
-    bytes_eq request.method (codes "GET") && (not (is_editors request)
-    && (ends_with nat_eq (path_part request.target) (codes ".jsp") && not (list_any is_percent (path_part request.target))))
+-- the request asks for a page or a file of the site: by GET, and with no target of an editor
+unfoldable pub is_get : Request → Bool
+is_get request = bytes_eq request.method (codes "GET") && not (is_editors request)
 
 -- the text stands for itself as a path: it is taken, and has no segment `.` or `..`
 abbrev pub is_own_path : List ℕ → Bool
@@ -62,10 +53,11 @@ is_own_path text = same (resolved (segments None text)) text
 abbrev pub is_put_path : List ℕ → Bool
 is_put_path text = not (list_any (λ b. is_percent b || is_question b) text) && is_own_path text
 
--- what asks for a page: a page that may be asked for, or one that is missing since its path is refused or hidden
-abbrev pub page_message : Result (List ℕ) BadPath → List ℕ → Message
-page_message (Err reason) query = Missing
-page_message (Ok path) query = if starts_with nat_eq path (codes "/WEB-INF/") then Missing else Get path query
+-- what asks for this path with these parameters: what is missing, where there is no path or it lies under /WEB-INF/; a page, where it ends in .jsp; else what isn't built
+abbrev pub page_message : Option (List ℕ) → List Param → Message
+page_message None parameters = Missing
+page_message (Some path) parameters =
+    if starts_with nat_eq path (codes "/WEB-INF/") then Missing else (if ends_with nat_eq path (codes ".jsp") then Get path parameters else Other)
 
 -- what else is asked for: a page or a file by a method that none takes, or what isn't built
 abbrev pub other_message : Request → Message
@@ -76,5 +68,5 @@ abbrev pub message : Request → Message
 message request =
     if is_put request then (if is_put_path (drop 14 request.target) && is_utf8 request.body then Put (drop 14 request.target) request.body else Other)
     else (if is_publish request then Publish
-    else (if is_page_get request then page_message (resolved (segments None (path_part request.target))) (query_part request.target)
+    else (if is_get request then page_message request.path request.params
     else other_message request))

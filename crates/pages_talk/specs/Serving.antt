@@ -6,7 +6,7 @@ use Rattle.http_out.specs.Response.{no_memory}
 use Rattle.conversation.specs.Exchange.{Exchange}
 use Rattle.conversation.specs.Conversation.{closes}
 use Rattle.conversation.specs.Functions as functions
-use Rattle.pages_talk.specs.Message.{message, is_page_get}
+use Rattle.pages_talk.specs.Message.{message, is_get}
 use Rattle.pages_talk.specs.Effect.{Site, effect}
 use Rattle.pages_talk.specs.Wire.{wire}
 
@@ -28,9 +28,9 @@ pub record IsReply (close : Bool) (old : Site) (e : Exchange) (new : Site) : Typ
   pub whole : e.broken ≡ false
   pub left : new ≡ after old e.request
 
--- what is written where memory is wanting: to one who asks for a page, that it is; to others nothing
+-- what is written where memory is wanting: to one who asks for a page or a file, that it is; to others nothing
 unfoldable pub apology : Bool → Request → List ℕ
-apology close request = if is_page_get request then no_memory close true else []
+apology close request = if is_get request then no_memory close true else []
 
 -- memory was wanting for a request: it was run or not, and the apology is all that is written
 pub record IsApology (close : Bool) (old : Site) (request : Request) (text : List ℕ) (new : Site) : Type 0 where

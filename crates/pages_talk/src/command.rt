@@ -1,4 +1,4 @@
-ghost use Rattle.std.specs.Prelude.{◌≡◌, [], true, false, map, string_bytes};
+ghost use Rattle.std.specs.Prelude.{◌≡◌, ◌≢◌, [], true, false, map, string_bytes};
 ghost use Rattle.edges.specs.Faults.{Rose};
 ghost use Rattle.conversation.specs.declared.ended.Ended.{Ended as Outcome};
 ghost use Rattle.conversation.specs.Conversation.{Tells};
@@ -27,6 +27,8 @@ pub fn play<S: Source, K: Sink, L: Ledger>(
 
     ensures read { result ≡ 3 → Rose (S.faults source.old) (S.faults source.new) }
     ensures write { result ≡ 4 → Rose (K.faults sink.old) (K.faults sink.new) }
+
+    ensures unfailing { S.unfailing source.old → (result ≢ 3) × S.unfailing source.new }
 
     ensures steps { steps.new ≡ steps.old }
 {

@@ -9,7 +9,7 @@ ghost use Rattle.pages_talk.specs.Serving.{after, apology, reply, shows_body};
 use crate::answer::Answer;
 use crate::draft::Draft;
 use crate::effect::carry_out;
-use crate::message::{is_page_get, read_message};
+use crate::message::{is_get, read_message};
 use crate::writing::write_answer;
 use conversation::{Desk, Outcome};
 use edges::Sink;
@@ -100,7 +100,7 @@ fn answer(
     carry_out(alloc, tree, draft, version, message)
 }
 
-// Tells one who asks for a page that memory was wanting.
+// Tells one who asks for a page or a file that memory was wanting.
 #[tactic(auto, unfolding(crate::specs::Serving::apology))]
 fn starved<K: Sink>(request: &Request, close: bool, sink: &mut K) -> Outcome
     ensures outcome { result ≡ Outcome.NoMemory }
@@ -108,7 +108,7 @@ fn starved<K: Sink>(request: &Request, close: bool, sink: &mut K) -> Outcome
     ensures later { K.faults sink.old ≤ K.faults sink.new }
 {
     let mut failed = false;
-    if is_page_get(request) {
+    if is_get(request) {
         write_no_memory(sink, &mut failed, close, true);
     }
     Outcome::NoMemory

@@ -1,16 +1,11 @@
 ghost use Rattle.std.specs.Prelude.{◌≡◌, ◌≤◌, true, [], ◌++◌, ◌∷◌, length, OnOk, OnErr};
 ghost use Rattle.pages_talk.specs.Draft.{is_draft};
 
+use crate::limits::{MAX_DRAFT_BYTES, MAX_DRAFT_EDITS};
 use pg_text::Path;
 use source_tree::{Edit, Edits, FileText};
 use std::alloc::{AllocError, Global};
 use std::marker::Model;
-
-/// The most edits that wait in a draft.
-const MAX_EDITS: usize = 1_024;
-
-/// The most bytes of texts that wait in a draft.
-const MAX_BYTES: usize = 16_777_216;
 
 /// The edits of a connection that wait to be published. Contracts see the list of them.
 #[derive(Drop)]
@@ -22,13 +17,14 @@ pub(crate) struct Draft {
 impl Model for Draft {
     ghost use Rattle.std.specs.Prelude.{◌≡◌, ◌≤◌, List, length};
     ghost use Rattle.source_tree.specs.declared.edit.Edit.{Edit};
+    ghost use Rattle.pages_talk.specs.declared.limits.TheConstants.{MAX_DRAFT_BYTES, MAX_DRAFT_EDITS};
     ghost use Rattle.pages_talk.specs.Draft.{draft_bytes};
 
     ghost Value = { List Edit };
 
     ghost view = { λ d. d.edits };
 
-    ghost invariant = { λ d. (d.bytes ≡ draft_bytes d.edits) × (length d.edits ≤ 1024) × (d.bytes ≤ 16777216) };
+    ghost invariant = { λ d. (d.bytes ≡ draft_bytes d.edits) × (length d.edits ≤ MAX_DRAFT_EDITS) × (d.bytes ≤ MAX_DRAFT_BYTES) };
 }
 
 impl Draft {
@@ -43,7 +39,7 @@ impl Draft {
 
     pub(crate) fn len(&self) -> usize
         ensures count { result ≡ length self.now }
-        ensures few { result ≤ 1024 }
+        ensures few { result ≤ MAX_DRAFT_EDITS }
     {
         let _ = &self.bytes;
         self.edits.len()
@@ -60,7 +56,7 @@ impl Draft {
     pub(crate) fn has_room(&self, path: &Path, text: &FileText) -> bool
         ensures { result ≡ is_draft (self.now ++ Edit.Put path.now text.now ∷ []) }
     {
-        self.edits.len() < MAX_EDITS && text.len() <= MAX_BYTES - self.bytes
+        self.edits.len() < MAX_DRAFT_EDITS && text.len() <= MAX_DRAFT_BYTES - self.bytes
     }
 
     /// Adds a file that is put.

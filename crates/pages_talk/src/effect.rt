@@ -10,6 +10,7 @@ use crate::answer::Answer;
 use crate::draft::Draft;
 use crate::first_page::first_page_body;
 use crate::message::Message;
+use http_in::Param;
 use pg_text::{Bytes, Failure, Path};
 use source_tree::{Edit, File, FileText, Tree};
 use std::alloc::{AllocError, Global};
@@ -33,7 +34,7 @@ pub(crate) fn carry_out(
     match message {
         Message::Put(path, text) => put(draft, path, text),
         Message::Publish => publish(tree, draft, version),
-        Message::Get(path, query) => page(alloc, tree.get(&path), query.as_str()),
+        Message::Get(path, parameters) => page(alloc, tree.get(&path), parameters.as_slice()),
         Message::Missing => Ok(Answer::NotFound),
         Message::OtherMethod => Ok(Answer::MethodNotAllowed),
         Message::Other => Ok(Answer::NotBuilt),
@@ -76,14 +77,14 @@ fn publish(tree: &mut Tree, draft: &mut Draft, version: &mut u64) -> Result<Answ
     }
 }
 
-// The answer to a message that asks for this file as a page.
-fn page(alloc: Global, file: Option<&File>, query: &str) -> Result<Answer, AllocError>
-    ensures { IfOk result (λ answer. answer ≡ page_answer (option_copied file.entry) query.now) }
+// The answer to a message that asks for this file as a page, with these parameters.
+fn page(alloc: Global, file: Option<&File>, parameters: &[Param]) -> Result<Answer, AllocError>
+    ensures { IfOk result (λ answer. answer ≡ page_answer (option_copied file.entry) parameters.now) }
 {
     let Some(file) = file else {
         return Ok(Answer::NotFound);
     };
-    match first_page_body(alloc, file.text.as_str(), query)? {
+    match first_page_body(alloc, file.text.as_str(), parameters)? {
         Some(body) => Ok(Answer::Page(Bytes::new(body))),
         None => Ok(Answer::NotBuilt),
     }

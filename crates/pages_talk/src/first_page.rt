@@ -2,33 +2,23 @@ ghost use Rattle.std.specs.Prelude.{◌≡◌, ◌<◌, ◌++◌, ◌∷◌, len
 ghost use Rattle.std.specs.Char.{is_ascii_alphabetic};
 ghost use Rattle.std.specs.List.{list_all, slice_split};
 ghost use Rattle.std.specs.Option.{option_map, option_and_then};
-ghost use Rattle.pages_talk.specs.FirstPage.{around_brace, begins_element, begins_other_syntax, behind, expression_written, filled, first_page_body, has_other_syntax, is_dollar, is_name, letters_then_colon, limited, parameters_of, pieces_behind, stretch_written, value_of};
+ghost use Rattle.pages_talk.specs.FirstPage.{around_brace, begins_element, begins_other_syntax, behind, expression_written, filled, first_page_body, has_other_syntax, is_dollar, is_name, letters_then_colon, limited, pieces_behind, stretch_written, value_of};
 
-use form_urlencoded::parse;
-use pg_text::Text;
+use crate::limits::MAX_OUTPUT_BYTES;
+use http_in::Param;
 use std::alloc::{AllocError, Global};
 
 /// What a first page begins with.
 const DIRECTIVE: &str = "<%@ page session=\"false\" %>";
 
-/// The most bytes that a page answers.
-const BODY_LIMIT: usize = 16_777_216;
-
-/// A parameter of a request.
-#[derive(Drop)]
-pub struct Parameter {
-    pub name: Text,
-    pub value: Text,
-}
-
-/// What a first page answers to a query, or None where the text is no first page or would answer more than 16,777,216
-/// bytes. A first page is a directive and then template text, in which `${param.name}` stands for a parameter's value.
+/// What a first page answers to a request with these parameters, or None where the text is no first page or would answer
+/// more than `MAX_OUTPUT_BYTES` bytes. A first page is a directive and then template text, in which `${param.name}` stands for a parameter's value.
 pub fn first_page_body(
     alloc: Global,
     text: &str,
-    query: &str,
+    parameters: &[Param],
 ) -> Result<Option<Vec<u8>>, AllocError>
-    ensures { IfOk result (λ body. option_map (λ bytes. bytes.items) body ≡ first_page_body text.now query.now) }
+    ensures { IfOk result (λ body. option_map (λ bytes. bytes.items) body ≡ first_page_body text.now parameters.now) }
 {
     let Some(template) = behind(DIRECTIVE, text) else {
         return Ok(None);
@@ -36,8 +26,7 @@ pub fn first_page_body(
     if has_other_syntax(template.as_bytes()) {
         return Ok(None);
     }
-    let parameters = parameters_of(alloc, query.as_bytes())?;
-    filled(alloc, template, &parameters)
+    filled(alloc, template, parameters)
 }
 
 // What stands behind the beginning of a text, where it begins so.
@@ -94,27 +83,11 @@ fn letters_then_colon(text: &[u8]) -> bool
     false
 }
 
-// The parameters of a query, in order.
-#[tactic(auto, unfolding(crate::specs::FirstPage::parameters_of))]
-fn parameters_of(alloc: Global, query: &[u8]) -> Result<Vec<Parameter>, AllocError>
-    ensures { IfOk result (λ parameters. parameters.items ≡ parameters_of query.now) }
-{
-    let mut parameters = Vec::new(alloc);
-    for pair in parse(alloc, query) {
-        let (name, value) = pair?;
-        parameters.push(Parameter {
-            name: Text::new(name.into_owned(alloc)?)?,
-            value: Text::new(value.into_owned(alloc)?)?,
-        })?;
-    }
-    Ok(parameters)
-}
-
 // What the template writes, where its expressions are all parameters and it does not write too much.
 fn filled(
     alloc: Global,
     template: &str,
-    parameters: &[Parameter],
+    parameters: &[Param],
 ) -> Result<Option<Vec<u8>>, AllocError>
     ensures { IfOk result (λ body.
         option_map (λ bytes. bytes.items) body ≡ option_and_then limited (filled parameters.now template.now)) }
@@ -149,7 +122,7 @@ fn cut(text: &str) -> (&str, Option<&str>)
 fn stretch_appended(
     body: Vec<u8>,
     stretch: &str,
-    parameters: &[Parameter],
+    parameters: &[Param],
 ) -> Result<Option<Vec<u8>>, AllocError>
     ensures { IfOk result (λ longer.
         option_map (λ bytes. bytes.items) longer
@@ -166,7 +139,7 @@ fn stretch_appended(
 
 // What the text behind a dollar sign stands for: the value of the parameter that it names, and the text behind the
 // expression; or the dollar sign, and itself.
-fn stretch_parts<'a>(stretch: &'a str, parameters: &'a [Parameter]) -> Option<(&'a str, &'a str)>
+fn stretch_parts<'a>(stretch: &'a str, parameters: &'a [Param]) -> Option<(&'a str, &'a str)>
     ensures { option_map (λ parts. parts.0.now ++ parts.1.now) result ≡ stretch_written parameters.entry.now stretch.entry.now }
 {
     match behind("{", stretch) {
@@ -176,10 +149,7 @@ fn stretch_parts<'a>(stretch: &'a str, parameters: &'a [Parameter]) -> Option<(&
 }
 
 // The value of the parameter that an expression names, and the text behind the expression.
-fn expression_parts<'a>(
-    expression: &'a str,
-    parameters: &'a [Parameter],
-) -> Option<(&'a str, &'a str)>
+fn expression_parts<'a>(expression: &'a str, parameters: &'a [Param]) -> Option<(&'a str, &'a str)>
     ensures { option_map (λ parts. parts.0.now ++ parts.1.now) result ≡ expression_written parameters.entry.now expression.entry.now }
 {
     let (name, text) = around_brace(behind("param.", expression)?)?;
@@ -212,7 +182,7 @@ fn has_letters_alone(name: &[u8]) -> bool
 }
 
 // The value of the first parameter with this name, or nothing.
-fn value_of<'a>(name: &str, parameters: &'a [Parameter]) -> &'a str
+fn value_of<'a>(name: &str, parameters: &'a [Param]) -> &'a str
     ensures { result.now ≡ value_of name.now parameters.entry.now }
 {
     for parameter in parameters {
@@ -227,7 +197,7 @@ fn value_of<'a>(name: &str, parameters: &'a [Parameter]) -> &'a str
 fn appended(mut body: Vec<u8>, text: &str) -> Result<Option<Vec<u8>>, AllocError>
     ensures { IfOk result (λ longer. option_map (λ bytes. bytes.items) longer ≡ limited (body.items ++ text.now)) }
 {
-    if body.len().saturating_add(text.len()) > BODY_LIMIT {
+    if body.len().saturating_add(text.len()) > MAX_OUTPUT_BYTES {
         return Ok(None);
     }
     body.extend_from_slice(text.as_bytes())?;

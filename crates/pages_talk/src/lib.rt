@@ -9,6 +9,7 @@ mod draft;
 mod effect;
 mod first_page;
 mod law;
+mod limits;
 mod message;
 mod writing;
 
@@ -16,3 +17,4 @@ pub use command::play;
 pub use connection::{Role, talk};
 pub use conversation::Ended;
 pub use law::{by_requests, one_conversation, one_history};
+pub use limits::{MAX_DRAFT_BYTES, MAX_DRAFT_EDITS, MAX_OUTPUT_BYTES};

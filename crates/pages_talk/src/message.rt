@@ -1,13 +1,14 @@
 ghost use Rattle.std.specs.Prelude.{◌≡◌, ◌&&◌, ◌||◌, None, true, drop, is_some, IfOk, IfSome, if◌then◌else◌};
 ghost use Rattle.pages_talk.specs.declared.message.Message.TheVariants.{Other, Put};
 ghost use Rattle.std.specs.List.{list_any};
+ghost use Rattle.std.specs.Option.{option_copied};
 ghost use Rattle.std.specs.Result.{result_ok};
 ghost use Rattle.std.specs.Str.{is_utf8};
 ghost use Rattle.pg_text.specs.Path.{resolved, segments};
-ghost use Rattle.pages_talk.specs.Message.{is_editors, is_file_target, is_own_path, is_page_get, is_page_method, is_percent, is_publish, is_put, is_put_path, is_question, message, other_message, page_message, path_part, query_part};
+ghost use Rattle.pages_talk.specs.Message.{is_editors, is_file_target, is_get, is_own_path, is_page_method, is_percent, is_publish, is_put, is_put_path, is_question, message, other_message, page_message};
 
-use http_in::Request;
-use pg_text::{Failure, Path, Text, resolve};
+use http_in::{Param, Request};
+use pg_text::{Failure, Listed, Path, resolve};
 use source_tree::FileText;
 use std::alloc::{AllocError, Global};
 
@@ -19,6 +20,8 @@ const PUBLISH: &[u8] = b"/_editor/publish";
 
 const HIDDEN: &[u8] = b"/WEB-INF/";
 
+const PAGE: &[u8] = b".jsp";
+
 /// What a request asks for.
 #[derive(Drop)]
 pub(crate) enum Message {
@@ -26,9 +29,9 @@ pub(crate) enum Message {
     Put(Path, FileText),
     /// Publishes the draft.
     Publish,
-    /// Asks for the page with this path, with this query.
-    Get(Path, Text),
-    /// Asks for a page whose path is refused or hidden.
+    /// Asks for the page with this path, with these parameters.
+    Get(Path, Listed<Param>),
+    /// Asks for a page or a file that has no path or is hidden.
     Missing,
     /// Asks for a page or a file by a method that none takes.
     OtherMethod,
@@ -50,9 +53,8 @@ pub(crate) fn read_message(alloc: Global, request: &Request) -> Result<Message, 
     if is_publish(request) {
         return Ok(Message::Publish);
     }
-    if is_page_get(request) {
-        let (path, query) = split_target(request.target.as_str());
-        return page_message(alloc, path, query);
+    if is_get(request) {
+        return page_message(request.path.as_ref(), &request.params);
     }
     Ok(other_message(request))
 }
@@ -100,39 +102,18 @@ fn is_publish(request: &Request) -> bool
     request.method.as_bytes() == b"POST".as_slice() && request.target.as_bytes() == PUBLISH
 }
 
-/// Whether the message asks for a page.
-#[tactic(auto, unfolding(crate::specs::Message::is_page_get))]
-pub(crate) fn is_page_get(request: &Request) -> bool
-    ensures { result ≡ is_page_get request.now }
+/// Whether the message asks for a page or a file of the site.
+#[tactic(auto, unfolding(crate::specs::Message::is_get))]
+pub(crate) fn is_get(request: &Request) -> bool
+    ensures { result ≡ is_get request.now }
 {
-    let (path, _query) = split_target(request.target.as_str());
-    request.method.as_bytes() == b"GET".as_slice()
-        && !is_editors(request)
-        && path.as_bytes().ends_with(b".jsp")
-        && !has_percent(path)
-}
-
-fn has_percent(text: &str) -> bool
-    ensures { result ≡ list_any is_percent text.now }
-{
-    text.as_bytes().iter().any(|b| *b == b'%')
+    request.method.as_bytes() == b"GET".as_slice() && !is_editors(request)
 }
 
 fn has_percent_or_question(text: &str) -> bool
     ensures { result ≡ list_any (λ b. is_percent b || is_question b) text.now }
 {
     text.as_bytes().iter().any(|b| *b == b'%' || *b == b'?')
-}
-
-// The path of a target, and its query.
-fn split_target(target: &str) -> (&str, &str)
-    ensures path { result.0.now ≡ path_part target.now }
-    ensures query { result.1.now ≡ query_part target.now }
-{
-    match target.split_once('?') {
-        Some((path, query)) => (path, query),
-        None => (target, ""),
-    }
 }
 
 // The path in the target of a message that puts a file.
@@ -192,15 +173,18 @@ fn resolved_path(alloc: Global, text: &str) -> Result<Option<Path>, AllocError>
     }
 }
 
-// The message that asks for the page with this path.
-fn page_message(alloc: Global, path: &str, query: &str) -> Result<Message, AllocError>
-    ensures { IfOk result (λ found. found ≡ page_message (resolved (segments None path.now)) query.now) }
+// The message that asks for this path with these parameters.
+fn page_message(path: Option<&Path>, parameters: &Listed<Param>) -> Result<Message, AllocError>
+    ensures { IfOk result (λ found. found ≡ page_message (option_copied path.entry) parameters.now) }
 {
-    let Some(path) = resolved_path(alloc, path)? else {
+    let Some(path) = path else {
         return Ok(Message::Missing);
     };
     if path.as_bytes().starts_with(HIDDEN) {
         return Ok(Message::Missing);
     }
-    Ok(Message::Get(path, Text::copy_of(alloc, query)?))
+    if !path.as_bytes().ends_with(PAGE) {
+        return Ok(Message::Other);
+    }
+    Ok(Message::Get(path.copy()?, parameters.copy()?))
 }

@@ -3,7 +3,7 @@ ghost use Rattle.std.specs.declared.option.Option.{Option};
 ghost use Rattle.edges.specs.Faults.{Rose};
 ghost use Rattle.http_out.specs.Response.{plain, whole};
 ghost use Rattle.http_out.specs.Sent.{Sent};
-ghost use Rattle.pages_talk.specs.Wire.{page_head, wire};
+ghost use Rattle.pages_talk.specs.Wire.{line_of, page_head, status_of, wire};
 
 use crate::answer::Answer;
 use edges::Sink;
@@ -27,47 +27,36 @@ pub(crate) fn write_answer<K: Sink>(
     ensures later { K.faults sink.old ≤ K.faults sink.new }
     ensures rose { (before : ℕ) → before ≤ K.faults sink.old → (failed.old ≡ true → Rose before (K.faults sink.old)) → failed.new ≡ true → Rose before (K.faults sink.new) }
 {
+    if let Answer::Page(body) = answer {
+        return write_page(alloc, sink, failed, body.as_slice(), close, shown);
+    }
+    let line = line_of(alloc, answer)?;
+    write_plain(alloc, sink, failed, status_of(answer), close, &line, shown)
+}
+
+// The status of an answer.
+fn status_of(answer: &Answer) -> Status
+    ensures { result ≡ status_of answer.now }
+{
     match answer {
-        Answer::Page(body) => write_page(alloc, sink, failed, body.as_slice(), close, shown),
-        Answer::Drafted(count) => {
-            let line = numbered(alloc, b"draft ", *count)?;
-            write_plain(alloc, sink, failed, Status::Ok, close, &line, shown)
-        }
-        Answer::Published(version) => {
-            let line = numbered(alloc, b"version ", *version)?;
-            write_plain(alloc, sink, failed, Status::Ok, close, &line, shown)
-        }
-        Answer::NotFound => {
-            write_plain(
-                alloc,
-                sink,
-                failed,
-                Status::NotFound,
-                close,
-                b"NotFound",
-                shown,
-            )
-        }
-        Answer::MethodNotAllowed => write_plain(
-            alloc,
-            sink,
-            failed,
-            Status::MethodNotAllowed,
-            close,
-            b"MethodNotAllowed",
-            shown,
-        ),
-        Answer::NotBuilt => {
-            write_plain(
-                alloc,
-                sink,
-                failed,
-                Status::NotImplemented,
-                close,
-                b"NotBuilt",
-                shown,
-            )
-        }
+        Answer::NotFound => Status::NotFound,
+        Answer::MethodNotAllowed => Status::MethodNotAllowed,
+        Answer::NotBuilt => Status::NotImplemented,
+        Answer::Drafted(_) | Answer::Published(_) | Answer::Page(_) => Status::Ok,
+    }
+}
+
+// The line of an answer. A page has none.
+fn line_of(alloc: Global, answer: &Answer) -> Result<Vec<u8>, AllocError>
+    ensures { IfOk result (λ line. line.items ≡ line_of answer.now) }
+{
+    match answer {
+        Answer::Drafted(count) => numbered(alloc, b"draft ", *count),
+        Answer::Published(version) => numbered(alloc, b"version ", *version),
+        Answer::NotFound => Vec::from_slice(alloc, b"NotFound"),
+        Answer::MethodNotAllowed => Vec::from_slice(alloc, b"MethodNotAllowed"),
+        Answer::NotBuilt => Vec::from_slice(alloc, b"NotBuilt"),
+        Answer::Page(_) => Ok(Vec::new(alloc)),
     }
 }
 

@@ -1,4 +1,4 @@
-use crate::played::played;
+use crate::played::{answered, played};
 use std::alloc::{AllocError, Global};
 use std::marker::Brand;
 use std::sync::ledger::Blank;
@@ -6,70 +6,45 @@ use std::test::Fail;
 
 const PUBLISH: &[u8] = b"POST /_editor/publish HTTP/1.1\r\nHost: x\r\n\r\n";
 
-// What one message is answered: how the answer begins, and how it ends.
-const ANSWERS: [(&str, &str, &str); 27] = [
-    ("GET /none.jsp", "404 Not Found", "NotFound\n"),
-    ("GET /a/../../x.jsp", "404 Not Found", "NotFound\n"),
-    ("GET //x.jsp", "404 Not Found", "NotFound\n"),
-    ("GET /WEB-INF/x.jsp?a=b", "404 Not Found", "NotFound\n"),
-    ("GET /a/../WEB-INF/x.jsp", "404 Not Found", "NotFound\n"),
-    ("GET /x.jsp?a=%41", "404 Not Found", "NotFound\n"),
-    ("GET /WEB-INF", "501 Not Implemented", "NotBuilt\n"),
-    ("GET /WEB-INF/x.tag", "501 Not Implemented", "NotBuilt\n"),
-    ("GET /x.jspx", "501 Not Implemented", "NotBuilt\n"),
-    ("GET /x.html?.jsp", "501 Not Implemented", "NotBuilt\n"),
-    ("GET /%41.jsp", "501 Not Implemented", "NotBuilt\n"),
-    ("GET /_editor/x.jsp", "501 Not Implemented", "NotBuilt\n"),
-    ("get /x.jsp", "405 Method Not Allowed", "MethodNotAllowed\n"),
-    ("PUT /x.jsp", "405 Method Not Allowed", "MethodNotAllowed\n"),
-    ("DELETE /", "405 Method Not Allowed", "MethodNotAllowed\n"),
-    ("PATCH /_editor/x", "501 Not Implemented", "NotBuilt\n"),
-    ("POST /x.jsp", "501 Not Implemented", "NotBuilt\n"),
-    (
-        "HEAD /x.jsp",
-        "501 Not Implemented",
-        "Content-Length: 9\r\n\r\n",
-    ),
-    ("POST /_editor/publish", "200 OK", "version 1\n"),
-    (
-        "POST /_editor/publish?base=0",
-        "501 Not Implemented",
-        "NotBuilt\n",
-    ),
-    ("GET /_editor/publish", "501 Not Implemented", "NotBuilt\n"),
-    (
-        "DELETE /_editor/files/a",
-        "501 Not Implemented",
-        "NotBuilt\n",
-    ),
-    ("PUT /_editor/files/a/b", "200 OK", "draft 1\n"),
-    (
-        "PUT /_editor/files/a/../b",
-        "501 Not Implemented",
-        "NotBuilt\n",
-    ),
-    ("PUT /_editor/files/", "501 Not Implemented", "NotBuilt\n"),
-    ("PUT /_editor/files/a?", "501 Not Implemented", "NotBuilt\n"),
-    (
-        "PUT /_editor/files/a%41",
-        "501 Not Implemented",
-        "NotBuilt\n",
-    ),
+// What one message is answered: the number of the status, and how the answer ends.
+const ANSWERS: [(&str, u16, &str); 29] = [
+    ("GET /none.jsp", 404, "NotFound\n"),
+    ("GET /", 404, "NotFound\n"),
+    ("GET /a/../../x.jsp", 404, "NotFound\n"),
+    ("GET //x.jsp", 404, "NotFound\n"),
+    ("GET /%00.jsp", 404, "NotFound\n"),
+    ("GET /WEB-INF/x.jsp?a=b", 404, "NotFound\n"),
+    ("GET /a/../WEB-INF/x.jsp", 404, "NotFound\n"),
+    ("GET /WEB%2DINF/x.tag", 404, "NotFound\n"),
+    ("GET /x.jsp?a=%41", 404, "NotFound\n"),
+    ("GET /%41.%6Asp", 404, "NotFound\n"),
+    ("GET /WEB-INF", 501, "NotBuilt\n"),
+    ("GET /x.jspx", 501, "NotBuilt\n"),
+    ("GET /x.html?.jsp", 501, "NotBuilt\n"),
+    ("GET /_editor/x.jsp", 501, "NotBuilt\n"),
+    ("get /x.jsp", 405, "MethodNotAllowed\n"),
+    ("PUT /x.jsp", 405, "MethodNotAllowed\n"),
+    ("DELETE /", 405, "MethodNotAllowed\n"),
+    ("PATCH /_editor/x", 501, "NotBuilt\n"),
+    ("POST /x.jsp", 501, "NotBuilt\n"),
+    ("HEAD /x.jsp", 501, "\r\n\r\n"),
+    ("POST /_editor/publish", 200, "version 1\n"),
+    ("POST /_editor/publish?base=0", 501, "NotBuilt\n"),
+    ("GET /_editor/publish", 501, "NotBuilt\n"),
+    ("DELETE /_editor/files/a", 501, "NotBuilt\n"),
+    ("PUT /_editor/files/a/b", 200, "draft 1\n"),
+    ("PUT /_editor/files/a/../b", 501, "NotBuilt\n"),
+    ("PUT /_editor/files/", 501, "NotBuilt\n"),
+    ("PUT /_editor/files/a?", 501, "NotBuilt\n"),
+    ("PUT /_editor/files/a%41", 501, "NotBuilt\n"),
 ];
 
 #[test]
 fn each_message_has_its_answer(rt: HostRuntime) -> Result<(), Fail> {
     for (message, status, end) in ANSWERS {
         let input = format!(in rt.alloc(); "{message} HTTP/1.1\r\nHost: x\r\n\r\n")?;
-        let (_ended, text) = played::<Brand>(
-            rt.alloc(),
-            Blank::new(1),
-            input.as_bytes(),
-            4_096,
-            &[],
-            &[],
-        )?;
-        let begin = format!(in rt.alloc(); "HTTP/1.1 {status}\r\n")?;
+        let text = answered::<Brand>(rt.alloc(), Blank::new(1), input.as_bytes())?;
+        let begin = format!(in rt.alloc(); "HTTP/1.1 {status} ")?;
         assert!(rt; text.as_slice().starts_with(begin.as_bytes()), "{message}");
         assert!(rt; text.as_slice().ends_with(end.as_bytes()), "{message}");
     }
@@ -82,7 +57,7 @@ fn a_connection_closes_where_it_is_asked_to(rt: HostRuntime) -> Result<(), Fail>
         (
             b"GET / HTTP/1.1\r\nHost: x\r\nConnection: Close\r\n\r\nGET".as_slice(),
             0,
-            b"HTTP/1.1 501 Not Implemented\r\nContent-Type: text/plain;charset=UTF-8\r\nContent-Length: 9\r\nConnection: close\r\n\r\nNotBuilt\n".as_slice(),
+            b"HTTP/1.1 404 Not Found\r\nContent-Type: text/plain;charset=UTF-8\r\nContent-Length: 9\r\nConnection: close\r\n\r\nNotFound\n".as_slice(),
         ),
         (
             b"GET / HTTP/1.1\r\n\r\nGET".as_slice(),

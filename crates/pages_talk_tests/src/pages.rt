@@ -1,4 +1,4 @@
-use crate::played::{played, worded};
+use crate::played::{answered, played, worded};
 use std::marker::Brand;
 use std::sync::ledger::Blank;
 use std::test::Fail;
@@ -96,16 +96,9 @@ fn a_first_page_answers_its_text_with_the_values_of_parameters(
         let page = format!(in rt.alloc(); "<%@ page session=\"false\" %>{text}")?;
         let size = page.len();
         let input = format!(in rt.alloc();
-            "PUT /_editor/files/a.jsp HTTP/1.1\r\nHost: x\r\nContent-Length: {size}\r\n\r\n{page}POST /_editor/publish HTTP/1.1\r\nHost: x\r\n\r\nGET /a.jsp?{query} HTTP/1.1\r\nHost: x\r\n\r\n"
+            "PUT /_editor/files/a.jsp HTTP/1.1\r\nHost: x\r\nContent-Length: {size}\r\n\r\n{page}POST /_editor/publish HTTP/1.1\r\nHost: x\r\n\r\nGET /%61.jsp?{query} HTTP/1.1\r\nHost: x\r\n\r\n"
         )?;
-        let (_ended, output) = played::<Brand>(
-            rt.alloc(),
-            Blank::new(1),
-            input.as_bytes(),
-            4_096,
-            &[],
-            &[],
-        )?;
+        let output = answered::<Brand>(rt.alloc(), Blank::new(1), input.as_bytes())?;
         let body = match wanted {
             Some(body) => format!(in rt.alloc(); "\r\n\r\n{body}")?,
             None => String::from_str(rt.alloc(), "\r\n\r\nNotBuilt\n")?,

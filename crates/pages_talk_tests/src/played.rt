@@ -27,6 +27,16 @@ pub fn played<N: Ledger>(
     Ok((status, sink.taken().to_vec(alloc)?))
 }
 
+/// What `play` writes to this input.
+pub fn answered<N: Ledger>(alloc: Global, blank: Blank, input: &[u8]) -> Result<Vec<u8>, AllocError>
+    requires name { blank.name ≡ N.name }
+    requires parts { blank.parts ≡ N.parts }
+    requires some { 0 < N.parts }
+{
+    let (_status, text) = played::<N>(alloc, blank, input, 4_096, &[], &[])?;
+    Ok(text)
+}
+
 /// The status of these words over an empty input, and what was written.
 pub fn worded<N: Ledger>(
     alloc: Global,

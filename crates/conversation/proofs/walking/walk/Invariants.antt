@@ -1,4 +1,6 @@
 use Rattle.std.proofs.Common.{◌≡◌, ◌≤◌, ◌<◌, ◌-◌, length}
+use Rattle.http_in.specs.declared.limits.TheConstants.{MAX_PIECE_BYTES}
+use Rattle.conversation.specs.declared.limits.TheConstants.{MAX_REQUESTS}
 use Rattle.conversation.proofs.WalkLemmas.{IsSoFar}
 use Rattle.conversation.proofs.walking.walk.Given as goal
 
@@ -10,10 +12,10 @@ invariant-requests g l = record {
   so_far : IsSoFar (g.D.Desk.serves (g.D.Desk.world l.fn.desk l.fn.port)) (g.D.Desk.state l.fn.desk l.fn.port) (g.D.Desk.state l.desk l.port) (g.S.Source.left l.fn.source) (g.S.Source.left l.source) (g.K.Sink.taken l.fn.sink) (g.K.Sink.taken l.sink) l.rest l.number;
   read : g.S.Source.faults l.fn.source ≤ g.S.Source.faults l.source;
   wrote : g.K.Sink.faults l.fn.sink ≤ g.K.Sink.faults l.sink;
-  number : l.number < 65536;
-  read_on : length l.rest < 4096;
+  number : l.number < MAX_REQUESTS;
+  read_on : length l.rest < MAX_PIECE_BYTES;
   unfailing : g.S.Source.unfailing l.fn.source → g.S.Source.unfailing l.source;
 }
 
 abbrev pub decreases-requests : goal.decreases-requests
-decreases-requests g l = 65536 - l.number
+decreases-requests g l = MAX_REQUESTS - l.number

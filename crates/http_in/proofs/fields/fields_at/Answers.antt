@@ -21,4 +21,4 @@ read_field-requires c = subst IsToken (sym c.of.ensures) (token_at c.args.head.n
 pub returns : goal.returns
 returns c =
     let all = take_all c.loop-span.span-index c.args.spans.now c.loop-span-test.false in
-    c.loop-span.invariant ∙ ap (map (λ span. field_of (header_bytes c.args.head.now span))) all ∙ sym (map-map field_of (header_bytes c.args.head.now) c.args.spans.now)
+    c.new.ensures ∙ c.loop-span.invariant ∙ ap (map (λ span. field_of (header_bytes c.args.head.now span))) all ∙ sym (map-map field_of (header_bytes c.args.head.now) c.args.spans.now)

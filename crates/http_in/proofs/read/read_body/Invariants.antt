@@ -1,4 +1,5 @@
 use Rattle.std.proofs.Common.{◌≤◌, ◌-◌, ◌+◌, max, length}
+use Rattle.http_in.specs.declared.limits.TheConstants.{MAX_PIECE_BYTES}
 use Rattle.http_in.specs.Reading.{Moves}
 use Rattle.http_in.proofs.read.read_body.Given as goal
 
@@ -6,7 +7,7 @@ use Rattle.http_in.proofs.read.read_body.Given as goal
 abbrev pub invariant-fill : goal.invariant-fill
 invariant-fill g l = record {
   moved : Moves (g.S.Source.left l.fn.source) (g.S.Source.left l.source) l.fn.rest l.rest;
-  little : length l.rest ≤ max (length l.fn.rest) (l.need + 4095);
+  little : length l.rest ≤ max (length l.fn.rest) (l.need + (MAX_PIECE_BYTES - 1));
   later : g.S.Source.faults l.fn.source ≤ g.S.Source.faults l.source;
   unfailing : g.S.Source.unfailing l.fn.source → g.S.Source.unfailing l.source;
 }

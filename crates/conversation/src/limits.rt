@@ -1,0 +1,2 @@
+/// The most requests that one connection is answered.
+pub const MAX_REQUESTS: u64 = 65_536;
