@@ -1,0 +1,7 @@
+mod BufferLemmas
+mod KeptLemmas
+mod OutputLemmas
+mod PieceLemmas
+mod PutLemmas
+mod SomePieces
+mod StreamLemmas
