@@ -11,8 +11,9 @@ use Rattle.pg_text.specs.Order.{AreRising, IsPlace, item_at, path_cmp, with_item
 use Rattle.pg_text.proofs.ItemLemmas.{IsBelow}
 use Rattle.pg_text.proofs.PlaceLemmas.{with_absent, with_found}
 use Rattle.source_tree.specs.declared.file.File.{File}
-use Rattle.site_words.specs.declared.words.Need.{Need}
-use Rattle.site_words.specs.Trees.{agrees, meets, opt_eq, stamp_of}
+use Rattle.source_tree.specs.declared.need.Need.{Need}
+use Rattle.site_words.specs.Trees.{agrees, meets, opt_eq}
+use Rattle.source_tree.specs.Stamps.{stamp_of}
 use Rattle.program_store.specs.declared.shelf.Shelf.{Shelf}
 use Rattle.program_store.specs.Store.{clean_in, dirty_in, hit_of, is_dirty, kept_of, kept_path, shelf_path, value_for, with_value}
 

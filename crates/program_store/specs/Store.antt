@@ -3,7 +3,7 @@ use Rattle.std.specs.Prelude.{ℕ, Bool, not, List, [], ◌∷◌, map, filter, 
 use Rattle.std.specs.Arc.{arc_value}
 use Rattle.pg_text.specs.Order.{item_at, with_item}
 use Rattle.source_tree.specs.declared.file.File.{File}
-use Rattle.site_words.specs.declared.words.Need.{Need}
+use Rattle.source_tree.specs.declared.need.Need.{Need}
 use Rattle.site_words.specs.Trees.{agrees, meets}
 use Rattle.program_store.specs.declared.shelf.Shelf.{Shelf}
 

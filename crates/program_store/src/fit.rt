@@ -1,9 +1,10 @@
 ghost use Rattle.std.specs.Prelude.{◌≡◌};
-ghost use Rattle.site_words.specs.Trees.{agrees, meets, opt_eq, stamp_of};
+ghost use Rattle.site_words.specs.Trees.{agrees, meets, opt_eq};
+ghost use Rattle.source_tree.specs.Stamps.{stamp_of};
 
 use pg_text::Names;
-use site_words::{Compiled, Need};
-use source_tree::Tree;
+use site_words::Compiled;
+use source_tree::{Need, Tree};
 
 /// Whether the needs of a value stand so in the tree.
 pub fn fits<P: Compiled>(made: &P, tree: &Tree) -> bool

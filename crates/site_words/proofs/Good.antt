@@ -1,6 +1,6 @@
 -- Sessions stay distinct, few and within their bounds, and those that requests hold are there.
 use Rattle.std.proofs.Common.{◌≡◌, ◌≢◌, ℕ, zero, suc, ◌+◌, ◌<◌, ◌≤◌, List, [], ◌∷◌, ◌++◌, length, Option, Some, None, refl, sym, ap, subst, ◌∙◌, arith, true, false, set, replicate}
-use Rattle.std.specs.Prelude.{⊤, Bool, ◌==◌, ◌&&◌, ◌||◌, not, if◌then◌else◌, max, nat_le, nat_lt}
+use Rattle.std.specs.Prelude.{Bool, ◌==◌, ◌&&◌, ◌||◌, not, if◌then◌else◌, max, nat_le, nat_lt}
 use Rattle.std.specs.List.{fold}
 use Rattle.std.proofs.lemmas.Bool.Decides.{nat_tests}
 use Rattle.std.proofs.lemmas.List.{length_push}

@@ -1,13 +1,13 @@
 -- The tree of a pass's request, by its own entries and the operations, is the one that the state has.
-use Rattle.std.proofs.Common.{◌≡◌, ℕ, zero, suc, ◌+◌, ◌-◌, ◌<◌, ◌≤◌, List, [], ◌∷◌, Option, Some, None, refl, sym, ap, subst, ◌∙◌}
-use Rattle.std.specs.Prelude.{⊤, slice_get, slice_index_or}
+use Rattle.std.proofs.Common.{◌≡◌, ℕ, zero, suc, ◌-◌, ◌<◌, List, [], ◌∷◌, Option, Some, None, sym, subst, ◌∙◌}
+use Rattle.std.specs.Prelude.{slice_get, slice_index_or}
 use Rattle.source_tree.specs.declared.file.File.{File}
 use Rattle.site_words.specs.declared.words.Run.{Run}
 use Rattle.site_words.specs.declared.words.Entry.{Entry}
 use Rattle.site_words.specs.declared.words.Opening.{Opening}
 use Rattle.site_words.specs.Answers.{ForRun}
 use Rattle.site_words.specs.Law.{Legal, own, run_of, trees_of}
-use Rattle.site_words.specs.Runs.{UnderWay, under_at, run_in, run_at, tree_in}
+use Rattle.site_words.specs.Runs.{UnderWay, under_at, run_in, tree_in}
 use Rattle.site_words.specs.State.{after}
 use Rattle.site_words.specs.Trees.{Needs}
 use Rattle.site_words.proofs.Items.{each_at}

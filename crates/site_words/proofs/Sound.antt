@@ -31,7 +31,7 @@ use Rattle.pg_text.proofs.NameLemmas.{order_left}
 use Rattle.site_words.specs.State.{State, after, moved, start_of, tree_after}
 use Rattle.site_words.specs.Step.{step, refusal_of, reply_to, stale, too_large, or_else}
 use Rattle.source_tree.specs.Changed.{changed}
-use Rattle.site_words.specs.Trees.{Needs, Each, every, meets}
+use Rattle.site_words.specs.Trees.{Needs, every, meets}
 use Rattle.site_words.specs.Weights.{attrs_weight}
 use Rattle.site_words.proofs.Good.{sessions_good}
 use Rattle.site_words.proofs.Items.{each_map, each_both, each_filter, each_every, every_each, and_left, and_right, and_both, le_of, to_le, to_lt}

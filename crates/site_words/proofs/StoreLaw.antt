@@ -15,12 +15,13 @@ use Rattle.std.specs.Ordering.{match_ordering}
 use Rattle.std.specs.declared.cmp.Ordering.{Ordering}
 use Rattle.std.specs.declared.cmp.Ordering.TheVariants.{Less, Equal, Greater}
 use Rattle.pg_text.specs.Names.{with_name}
-use Rattle.site_words.specs.declared.words.Need.{Need}
+use Rattle.source_tree.specs.declared.need.Need.{Need}
 use Rattle.site_words.specs.History.{IsTextOf, TextsAre, AreOneHistory}
 use Rattle.site_words.specs.Law.{latest_of}
 use Rattle.source_tree.specs.Changed.{changed, changed_by, changed_from, has_file}
 use Rattle.pg_text.specs.Names.{has_name}
-use Rattle.site_words.specs.Trees.{stamp_of, stamp_in, agrees, opt_eq, meets, OneHistory}
+use Rattle.site_words.specs.Trees.{agrees, opt_eq, meets, OneHistory}
+use Rattle.source_tree.specs.Stamps.{stamp_of, stamp_in}
 use Rattle.site_words.proofs.Items.{each_at, each_left, each_last, and_left, and_right, and_both}
 use Rattle.site_words.proofs.OneHistory.{published_one, same_path}
 

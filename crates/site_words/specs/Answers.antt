@@ -12,6 +12,7 @@ use Rattle.site_words.specs.declared.words.Opening.{Opening}
 use Rattle.site_words.specs.declared.words.Reply.{Reply}
 use Rattle.site_words.specs.declared.words.Reply.TheVariants as reply
 use Rattle.site_words.specs.declared.words.Refusal.{Refusal}
+use Rattle.site_words.specs.declared.words.Refusal.TheVariants.{JournalFull}
 use Rattle.site_words.specs.declared.port.Published.{Published}
 use Rattle.site_words.specs.declared.port.Begun.{Begun}
 use Rattle.site_words.specs.declared.port.Fresh.{Fresh}
@@ -64,6 +65,17 @@ of_fetched r = ok_as is_hit r
 -- what `offer` answers, as a reply
 abbrev pub of_offered : {E : Type 0} → Result Bool E → Acted Reply Refusal
 of_offered r = ok_as (λ b. reply.Offered b) r
+
+-- the journal is full
+abbrev pub IsFull : Refusal → Type 0
+IsFull (JournalFull weight promised) = ⊤
+IsFull other = ⊥
+
+-- what is refused is refused for want of room
+abbrev pub IsFullOnRefused : {A : Type 0} → Acted A Refusal → Type 0
+IsFullOnRefused (Did a) = ⊤
+IsFullOnRefused (Refused refusal) = IsFull refusal
+IsFullOnRefused NoMemory = ⊤
 
 -- a request starts with the latest tree, and with the attributes that its session has
 abbrev pub StartsWith : State → Acted Begun Refusal → Type 0

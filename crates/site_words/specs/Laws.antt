@@ -8,21 +8,22 @@ use Rattle.source_tree.specs.Order.{IsInOrder}
 use Rattle.edges.specs.declared.acted.Acted.TheVariants.{Did}
 use Rattle.pg_text.specs.Names.{AreInOrder, has_name}
 use Rattle.site_words.specs.declared.words.Entry.{Entry}
-use Rattle.site_words.specs.declared.words.Need.{Need}
+use Rattle.source_tree.specs.declared.need.Need.{Need}
 use Rattle.site_words.specs.declared.words.Op.{Op}
 use Rattle.site_words.specs.declared.words.Op.TheVariants as op
 use Rattle.site_words.specs.declared.words.Opening.{Opening}
 use Rattle.site_words.specs.declared.words.Reply.{Reply}
 use Rattle.site_words.specs.declared.words.Reply.TheVariants as reply
 use Rattle.site_words.specs.Fits.{fits}
-use Rattle.site_words.specs.History.{AreOneHistory, goes_on, publishes}
+use Rattle.site_words.specs.History.{AreOneHistory, publishes}
 use Rattle.site_words.specs.Invariants.{AllRest, AreApart, HasSessions, HasSoundTree, HasTrees, IsWithin}
 use Rattle.site_words.specs.Law.{Legal, May, Sure, own, run_of, trees_of}
 use Rattle.site_words.specs.Opening.{is_sound, next_opening, sound_app, sound_sessions, sound_tree}
 use Rattle.site_words.specs.Runs.{run_at}
 use Rattle.site_words.specs.State.{after}
 use Rattle.site_words.specs.Step.{full, refusal_of, step}
-use Rattle.site_words.specs.Trees.{Needs, OneHistory, agrees, every, meets, stamp_of}
+use Rattle.site_words.specs.Trees.{Needs, OneHistory, agrees, every, meets}
+use Rattle.source_tree.specs.Stamps.{stamp_of}
 use Rattle.site_words.specs.Weights.{promise}
 
 -- what a pass may do, it may do until it has one entry more of its own

@@ -13,6 +13,7 @@ pub mod Law
 pub mod Calls
 pub mod History
 pub mod Answers
+pub mod Running
 pub mod Copies
 pub mod Invariants
 pub mod Laws

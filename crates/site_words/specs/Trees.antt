@@ -3,7 +3,8 @@ use Rattle.std.specs.Prelude.{◌≡◌, ℕ, Bool, true, false, ◌&&◌, ◌==
 use Rattle.std.specs.List.{list_any}
 use Rattle.source_tree.specs.declared.file.File.{File}
 use Rattle.source_tree.specs.Edits.{file_at}
-use Rattle.site_words.specs.declared.words.Need.{Need}
+use Rattle.source_tree.specs.Stamps.{stamp_of}
+use Rattle.source_tree.specs.declared.need.Need.{Need}
 use Rattle.pg_text.specs.Names.{has_name}
 
 -- what a path of a tree needs; each definition takes it
@@ -24,15 +25,6 @@ every test (x ∷ xs) = test x && every test xs
 abbrev pub text_in : Option File → List ℕ
 text_in None = []
 text_in (Some file) = file.text
-
--- the stamp of the file, where there is one
-abbrev pub stamp_in : Option File → Option ℕ
-stamp_in None = None
-stamp_in (Some file) = Some file.stamp
-
--- the stamp of the file at a path, where there is one
-abbrev pub stamp_of : List ℕ → List File → Option ℕ
-stamp_of path files = stamp_in (file_at path files)
 
 -- both have the same stamp, or none
 abbrev pub opt_eq : Option ℕ → Option ℕ → Bool

@@ -1,4 +1,4 @@
-ghost use Rattle.std.specs.Prelude.{◌≡◌, ℕ, List, IfSome, IfOk};
+ghost use Rattle.std.specs.Prelude.{◌≡◌, ℕ, List, true, IfSome, IfOk};
 ghost use Rattle.std.specs.Arc.{arc_value};
 ghost use Rattle.site_words.specs.declared.words.Entry.{Entry};
 ghost use Rattle.site_words.specs.declared.words.Opening.{Opening};
@@ -6,7 +6,8 @@ ghost use Rattle.site_words.specs.declared.words.Op.TheVariants as op;
 ghost use Rattle.site_words.specs.State.{after};
 ghost use Rattle.site_words.specs.Law.{May, own, run_of, Legal};
 ghost use Rattle.site_words.specs.Calls.{Calls};
-ghost use Rattle.site_words.specs.Answers.{of_published, of_begun, of_app, of_fresh, of_fetched, of_offered, of_snapped, StartsWith, Shows, IsNamed, ForRun, IsSamePort};
+ghost use Rattle.site_words.specs.Answers.{of_published, of_begun, of_app, of_fresh, of_fetched, of_offered, of_snapped, IsFullOnRefused, StartsWith, Shows, IsNamed, ForRun, IsSamePort};
+ghost use Rattle.site_words.specs.Opening.{is_sound};
 
 use crate::compiled::Compiled;
 use crate::words::{AppReply, AppStep, Refusal, Reply};
@@ -64,9 +65,10 @@ pub trait Port<P: Compiled> {
 
     ghost seen: { Self → List Entry };
 
-    // what was seen is legal, always
+    /// What was seen is legal and the opening is sound, always.
     fn law(&self)
-        ensures legal { Legal P.needs (opening self.now) (seen self.now) };
+        ensures legal { Legal P.needs (opening self.now) (seen self.now) }
+        ensures sound { is_sound (opening self.now) ≡ true };
 
     /// Publishes the edits.
     fn publish(&mut self, base: Option<u64>, edits: &Edits) -> Acted<Published, Refusal>
@@ -74,11 +76,12 @@ pub trait Port<P: Compiled> {
         ensures same { IsSamePort (pass self.old) (pass self.new) (opening self.old) (opening self.new) (home self.old) (home self.new) }
         ensures call { Calls P.needs (opening self.old) (pass self.old) (seen self.old) (seen self.new) (op.Publish base edits.now) (of_published result) };
 
-    /// Begins a request at this moment. A busy session is waited for, at the same moment.
+    /// Begins a request at this moment. A busy session is waited for, at the same moment, so only a full journal refuses.
     fn begin(&mut self, cookie: &Text, moment: u64) -> Acted<Begun, Refusal>
         requires may { May (opening self.old) (seen self.old) (pass self.old) (own (pass self.old) (seen self.old)) (op.Begin cookie.now moment) }
         ensures same { IsSamePort (pass self.old) (pass self.new) (opening self.old) (opening self.new) (home self.old) (home self.new) }
         ensures call { Calls P.needs (opening self.old) (pass self.old) (seen self.old) (seen self.new) (op.Begin cookie.now moment) (of_begun result) }
+        ensures full { IsFullOnRefused result }
         ensures start { StartsWith (after P.needs (opening self.old) (seen self.new)) result };
 
     /// Does a step on the application's attributes.

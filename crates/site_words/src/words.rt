@@ -1,14 +1,6 @@
-use crate::lists::KeptSessions;
-use pg_text::{Names, Path, Text};
+use pg_text::{Listed, Names, Path, Text};
 use pg_value::{Attrs, Value};
 use source_tree::{Edits, Tree, TreeFault};
-
-/// A name with the stamp of its file, or with none.
-#[derive(Drop)]
-pub struct Need {
-    pub name: Path,
-    pub stamp: Option<u64>,
-}
 
 /// What a running page asks of the application's attributes.
 #[derive(Drop)]
@@ -94,6 +86,9 @@ pub struct KeptSession {
     pub used: u64,
     pub attrs: Attrs,
 }
+
+/// Sessions, the free ones in the order of their last end.
+pub type KeptSessions = Listed<KeptSession>;
 
 /// A request under way: its number, version and session, and what is left of its promise.
 #[derive(Clone, Copy, Debug, PartialEq, Eq)]

@@ -5,13 +5,14 @@ use Rattle.source_tree.specs.declared.file.File.{File}
 use Rattle.source_tree.specs.Edits.{file_at}
 use Rattle.edges.specs.declared.acted.Acted.{Acted}
 use Rattle.edges.specs.declared.acted.Acted.TheVariants.{Did, Refused, NoMemory}
-use Rattle.site_words.specs.declared.words.Need.{Need}
+use Rattle.source_tree.specs.declared.need.Need.{Need}
 use Rattle.site_words.specs.declared.words.KeptSession.{KeptSession}
 use Rattle.site_words.specs.declared.words.Opening.{Opening}
 use Rattle.site_words.specs.declared.words.Op.{Op}
 use Rattle.site_words.specs.declared.words.Reply.{Reply}
 use Rattle.site_words.specs.declared.words.Refusal.{Refusal}
-use Rattle.site_words.specs.Trees.{Needs, stamp_of, text_in}
+use Rattle.site_words.specs.Trees.{Needs, text_in}
+use Rattle.source_tree.specs.Stamps.{stamp_of}
 use Rattle.pg_text.specs.Names.{with_name}
 use Rattle.site_words.specs.State.{State, moved, start_of}
 use Rattle.site_words.specs.Step.{step}

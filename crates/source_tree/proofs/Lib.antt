@@ -3,3 +3,4 @@ pub mod OrderLemmas
 mod PathLemmas
 pub mod LimitLemmas
 pub mod LawLemmas
+pub mod RisingLemmas
