@@ -1,5 +1,5 @@
 -- Sets of faults.
-use Rattle.std.proofs.Common.{◌≡◌, ℕ, zero, suc, ◌<◌, ◌*◌, ◌^◌, ◌%◌, max, Bool, true, false, cond, List, [], ◌∷◌, ◌++◌, refl, sym, ap, ◌∙◌, arith, eq-eqb, get_or}
+use Rattle.std.proofs.Common.{◌≡◌, ℕ, zero, suc, ◌<◌, ◌*◌, ◌^◌, ◌%◌, max, Bool, true, false, cond, List, [], ◌∷◌, ◌++◌, refl, sym, ap, ◌∙◌, arith, eq-eqb}
 use borrow.Author.Tests.{eqb-true}
 use Rattle.std.specs.Prelude.{filter, ◌==◌, ◌&&◌, ◌||◌}
 use Rattle.std.specs.List.{list_any, slice_get, find}

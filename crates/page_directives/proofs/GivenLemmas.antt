@@ -1,7 +1,7 @@
 -- The attributes that directives give together.
 use Rattle.std.proofs.Common.{◌+◌, ◌<◌, length, drop, get_or, add-one, drop-cons, ◌≡◌, ℕ, Bool, true, false, cond, List, [], ◌∷◌, ◌++◌, refl, sym, ap, ◌∙◌, append_assoc, Option, Some, None}
-use Rattle.std.specs.Prelude.{◌&&◌, ◌||◌}
-use Rattle.std.specs.Option.{is_some, option_map}
+use Rattle.std.specs.Prelude.{◌&&◌, ◌||◌, if◌then◌else◌}
+use Rattle.std.specs.Option.{is_some}
 use Rattle.std.specs.Str.{bytes_eq}
 use Rattle.page_pieces.specs.declared.attribute.Attribute.{Attribute}
 use Rattle.page_pieces.specs.Repeats.{has_name}
@@ -30,24 +30,30 @@ value_of_behind name [] ys e = refl
 value_of_behind name (x ∷ xs) ys e =
     behind (bytes_eq x.name name) (has_name name xs) (plain_text x.parts) (value_of name (xs ++ ys)) (value_of name ys) (value_of_behind name xs ys) e
 
-by_both : (a b : Bool) → (a && b) ≡ true → (a ≡ true) × (b ≡ true)
-by_both true b e = (refl, e)
-by_both false b e = (e, cc)
+-- the item at a place and those behind it
+item_at : {A : Type 0} (xs : List A) (i : ℕ) (x : A) → i < length xs → x ≡ get_or xs i x → drop i xs ≡ x ∷ drop (i + 1) xs
+item_at xs i x within is = drop-cons xs i x within ∙ (λ k. sym is k ∷ drop (sym (add-one i) k) xs)
 
--- the first directive that gives an attribute of a name decides its value
-pub value_given : (giver name : List ℕ) (d : Directive) (ds : List Directive) (own : List Attribute) → (is_named giver d && has_name name d.attributes) ≡ true
-    → value_of name (given giver (d ∷ ds) ++ own) ≡ value_of name d.attributes
-value_given giver name d ds own e =
-    ap (λ b. value_of name (((cond b d.attributes []) ++ given giver ds) ++ own)) (by_both (is_named giver d) (has_name name d.attributes) e).0
-    ∙ (ap (value_of name) (append_assoc d.attributes (given giver ds) own) ∙ value_of_here name d.attributes (given giver ds ++ own) (by_both (is_named giver d) (has_name name d.attributes) e).1)
-
-pub value_not_given : (giver name : List ℕ) (d : Directive) (ds : List Directive) (own : List Attribute) → (is_named giver d && has_name name d.attributes) ≡ false
-    → value_of name (given giver (d ∷ ds) ++ own) ≡ value_of name (given giver ds ++ own)
-value_not_given giver name d ds own e = by_name (is_named giver d) e
+value_of_first : (giver name : List ℕ) (own : List Attribute) (d : Directive) (ds : List Directive)
+    → value_of name (given giver (d ∷ ds) ++ own) ≡ cond (is_named giver d && has_name name d.attributes) (value_of name d.attributes) (value_of name (given giver ds ++ own))
+value_of_first giver name own d ds = by_name (is_named giver d)
   where
-    by_name : (b : Bool) → (b && has_name name d.attributes) ≡ false → value_of name (((cond b d.attributes []) ++ given giver ds) ++ own) ≡ value_of name (given giver ds ++ own)
-    by_name false e = refl
-    by_name true e = ap (value_of name) (append_assoc d.attributes (given giver ds) own) ∙ value_of_behind name d.attributes (given giver ds ++ own) e
+    by_given : (b : Bool) → has_name name d.attributes ≡ b
+        → value_of name (d.attributes ++ (given giver ds ++ own)) ≡ cond b (value_of name d.attributes) (value_of name (given giver ds ++ own))
+    by_given true e = value_of_here name d.attributes (given giver ds ++ own) e
+    by_given false e = value_of_behind name d.attributes (given giver ds ++ own) e
+
+    by_name : (b : Bool) → value_of name ((cond b d.attributes [] ++ given giver ds) ++ own) ≡ cond (b && has_name name d.attributes) (value_of name d.attributes) (value_of name (given giver ds ++ own))
+    by_name false = refl
+    by_name true = ap (value_of name) (append_assoc d.attributes (given giver ds) own) ∙ by_given (has_name name d.attributes) refl
+
+-- the value of an attribute is that which the directive at a place gives it, where it gives one, or else that which those behind it give
+pub value_at : (giver name : List ℕ) (own : List Attribute) (ds : List Directive) (i : ℕ) (d : Directive) (gives : Bool) → i < length ds → d ≡ get_or ds i d
+    → gives ≡ (is_named giver d && has_name name d.attributes)
+    → value_of name (given giver (drop i ds) ++ own) ≡ cond gives (value_of name d.attributes) (value_of name (given giver (drop (i + 1) ds) ++ own))
+value_at giver name own ds i d gives within is e =
+    ap (λ (ds : List Directive). value_of name (given giver ds ++ own)) (item_at ds i d within is)
+    ∙ (value_of_first giver name own d (drop (i + 1) ds) ∙ ap (λ b. cond b (value_of name d.attributes) (value_of name (given giver (drop (i + 1) ds) ++ own))) (sym e))
 
 -- a value without a fault is a text
 taken_is_text : (check : Option Check) (a : Attribute) → is_good (by_row check a) ≡ true → is_some (plain_text a.parts) ≡ true
@@ -59,7 +65,7 @@ taken_is_text (Some check) a e = by_text (plain_text a.parts) e
     by_text (Some text) e = refl
 
 -- the first, or else the other
-abbrev or_else : Option (List ℕ) → Option (List ℕ) → Option (List ℕ)
+abbrev pub or_else : Option (List ℕ) → Option (List ℕ) → Option (List ℕ)
 or_else None other = other
 or_else (Some text) other = Some text
 
@@ -79,31 +85,18 @@ decided-append table name (a ∷ xs) ys =
     by_value (bytes_eq a.name name) (is_good (by_row (row_of name table) a)) (plain_text a.parts) (decided table name (xs ++ ys)) (decided table name xs) (decided table name ys)
     (taken_is_text (row_of name table) a) (decided-append table name xs ys)
 
--- where a directive of the name has a value, it decides
-pub decided_here : (table : Table) (giver name : List ℕ) (d : Directive) (ds : List Directive) → is_named giver d ≡ true → is_some (decided table name d.attributes) ≡ true
-    → decided table name (given giver (d ∷ ds)) ≡ decided table name d.attributes
-decided_here table giver name d ds e some =
-    ap (λ b. decided table name ((cond b d.attributes []) ++ given giver ds)) e
-    ∙ (decided-append table name d.attributes (given giver ds) ∙ sym (first_or (decided table name d.attributes) (decided table name (given giver ds)) some))
+decided_first : (table : Table) (giver name : List ℕ) (d : Directive) (ds : List Directive)
+    → decided table name (given giver (d ∷ ds)) ≡ or_else (if is_named giver d then decided table name d.attributes else None) (decided table name (given giver ds))
+decided_first table giver name d ds = by_name (is_named giver d)
+  where
+    by_name : (b : Bool) → decided table name (cond b d.attributes [] ++ given giver ds) ≡ or_else (cond b (decided table name d.attributes) None) (decided table name (given giver ds))
+    by_name true = decided-append table name d.attributes (given giver ds)
+    by_name false = refl
 
-none_or : (found other : Option (List ℕ)) → is_some found ≡ false → or_else found other ≡ other
-none_or None other e = refl
-none_or (Some text) other e = cc
-
-pub decided_not_here : (table : Table) (giver name : List ℕ) (d : Directive) (ds : List Directive) → is_named giver d ≡ true → is_some (decided table name d.attributes) ≡ false
-    → decided table name (given giver (d ∷ ds)) ≡ decided table name (given giver ds)
-decided_not_here table giver name d ds e some =
-    ap (λ b. decided table name ((cond b d.attributes []) ++ given giver ds)) e
-    ∙ (decided-append table name d.attributes (given giver ds) ∙ none_or (decided table name d.attributes) (decided table name (given giver ds)) some)
-
-pub decided_other : (table : Table) (giver name : List ℕ) (d : Directive) (ds : List Directive) → is_named giver d ≡ false
-    → decided table name (given giver (d ∷ ds)) ≡ decided table name (given giver ds)
-decided_other table giver name d ds e = ap (λ b. decided table name ((cond b d.attributes []) ++ given giver ds)) e
-
-pub is_some-map : {A B : Type 0} (f : A → B) (o : Option A) → is_some (option_map f o) ≡ is_some o
-is_some-map f None = refl
-is_some-map f (Some x) = refl
-
--- the item at a place and those behind it
-pub drop_item : {A : Type 0} (xs : List A) (i : ℕ) (x : A) → i < length xs → x ≡ get_or xs i x → drop i xs ≡ x ∷ drop (i + 1) xs
-drop_item xs i x within is = drop-cons xs i x within ∙ (λ k. sym is k ∷ drop (sym (add-one i) k) xs)
+-- the directive at a place decides, or else those behind it
+pub decided_at : (table : Table) (giver name : List ℕ) (ds : List Directive) (i : ℕ) (d : Directive) (value : Option (List ℕ)) → i < length ds → d ≡ get_or ds i d
+    → value ≡ (if is_named giver d then decided table name d.attributes else None)
+    → decided table name (given giver (drop i ds)) ≡ or_else value (decided table name (given giver (drop (i + 1) ds)))
+decided_at table giver name ds i d value within is e =
+    ap (λ (ds : List Directive). decided table name (given giver ds)) (item_at ds i d within is)
+    ∙ (decided_first table giver name d (drop (i + 1) ds) ∙ ap (λ v. or_else v (decided table name (given giver (drop (i + 1) ds)))) (sym e))

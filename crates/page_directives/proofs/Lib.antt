@@ -1,5 +1,6 @@
 pub mod BufferLemmas
 pub mod FaultLemmas
+pub mod FirstLemmas
 pub mod GivenLemmas
 pub mod TableLemmas
 pub mod TokenLemmas

@@ -1,11 +1,9 @@
 -- The faults of attributes, one after the other.
 use Rattle.std.proofs.Common.{◌≡◌, ℕ, ◌+◌, ◌<◌, List, [], ◌∷◌, ◌++◌, refl, sym, ap, ◌∙◌, append_assoc, append-nil, length, take, get_or}
 use Rattle.std.proofs.lemmas.List.{take_more}
-use Rattle.pg_text.specs.declared.translation_fault.TranslationFault.{TranslationFault}
 use Rattle.page_pieces.specs.declared.attribute.Attribute.{Attribute}
 use Rattle.page_directives.specs.Checks.{Table, by_row, attribute_faults}
 use Rattle.page_directives.specs.Directive.{row_of}
-use Rattle.page_directives.specs.Faults.{in_order}
 
 attribute_faults-append : (table : Table) (xs ys : List Attribute) → attribute_faults table (xs ++ ys) ≡ attribute_faults table xs ++ attribute_faults table ys
 attribute_faults-append table [] ys = refl

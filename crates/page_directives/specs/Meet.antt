@@ -24,25 +24,26 @@ nothing_before = record { directives = []; prefixes = [] }
 abbrev pub include_faults : Directive → List TranslationFault
 include_faults d = attribute_faults include_table d.attributes ++ (fault_if (not (has_name (codes "file") d.attributes)) fault.BadDirective ++ fault_if (has_repeat d.attributes) fault.BadAttribute)
 
--- a directive gives settings in a file of its kind alone
-abbrev pub page_faults : Where → (decides : Bool) → List Directive → Directive → List TranslationFault
-page_faults file.Page decides before d = setting_faults false decides before d
-page_faults _ decides before d = fault.BadDirective ∷ []
+-- where the directives stand that give settings
+abbrev pub may_give : (in_tag : Bool) → Where → Bool
+may_give false file.Page = true
+may_give true file.TagFile = true
+may_give _ _ = false
 
-abbrev pub tag_faults : Where → (decides : Bool) → List Directive → Directive → List TranslationFault
-tag_faults file.TagFile decides before d = setting_faults true decides before d
-tag_faults _ decides before d = fault.BadDirective ∷ []
+-- a directive gives settings in a file of its kind alone
+abbrev pub giving_faults : (in_tag : Bool) → Where → (first before : List Directive) → Directive → List TranslationFault
+giving_faults in_tag stands first before d = if may_give in_tag stands then setting_faults in_tag first before d else fault.BadDirective ∷ []
 
 -- `attribute` and `variable` may stand in a tag file itself, and no other directive may stand anywhere
 abbrev pub other_faults : Where → Directive → List TranslationFault
 other_faults file.TagFile d = fault_if (not (is_named (codes "attribute") d) && not (is_named (codes "variable") d)) fault.BadDirective
 other_faults _ d = fault.BadDirective ∷ []
 
--- the faults of a directive in such a file, behind what stands before; `decides` says whether it stood in the first reading, too
-unfoldable pub met_faults : Where → (decides : Bool) → Before → Directive → List TranslationFault
-met_faults stands decides before d =
+-- the faults of a directive in such a file, behind what stands before; `first` are all directives of the first reading of the page or tag file
+unfoldable pub met_faults : Where → (first : List Directive) → Before → Directive → List TranslationFault
+met_faults stands first before d =
     if is_named (codes "include") d then include_faults d
     else if is_named (codes "taglib") d then taglib_faults before.prefixes before.directives d
-    else if is_named (codes "page") d then page_faults stands decides before.directives d
-    else if is_named (codes "tag") d then tag_faults stands decides before.directives d
+    else if is_named (codes "page") d then giving_faults false stands first before.directives d
+    else if is_named (codes "tag") d then giving_faults true stands first before.directives d
     else other_faults stands d

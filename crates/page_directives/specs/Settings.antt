@@ -1,5 +1,5 @@
 -- What the page directives of a page, or the tag directives of a tag file, say together.
-use Rattle.std.specs.Prelude.{ℕ, Bool, true, false, not, ◌&&◌, ◌||◌, List, [], ◌∷◌, ◌++◌, codes, Option, Some, None, if◌then◌else◌}
+use Rattle.std.specs.Prelude.{ℕ, ◌+◌, Bool, true, false, not, ◌&&◌, ◌||◌, List, [], ◌∷◌, ◌++◌, codes, take, Option, Some, None, if◌then◌else◌}
 use Rattle.std.specs.Option.{unwrap_or, option_and_then}
 use Rattle.std.specs.Str.{bytes_eq}
 use Rattle.pg_value.specs.declared.settings.PageSettings.{PageSettings}
@@ -9,7 +9,7 @@ use Rattle.page_pieces.specs.declared.attribute.Attribute.{Attribute}
 use Rattle.page_pieces.specs.Settings.{contains_text, plain_text, value_of}
 use Rattle.page_directives.specs.Checks.{Table, attribute_faults, by_row, buffer_size}
 use Rattle.page_directives.specs.ContentType.{content_type}
-use Rattle.page_directives.specs.Directive.{Directive, is_named, row_of}
+use Rattle.page_directives.specs.Directive.{Directive, before_in, is_named, row_of}
 use Rattle.page_directives.specs.Faults.{fault_if, is_good}
 use Rattle.page_directives.specs.Tables.{page_table, tag_table, repeatable}
 
@@ -41,24 +41,30 @@ abbrev pub is_value : List ℕ → Option (List ℕ) → Bool
 is_value text None = false
 is_value text (Some value) = bytes_eq value text
 
--- there is neither a buffer nor flushing
-abbrev pub is_unbuffered : List Attribute → Bool
-is_unbuffered all = is_value (codes "none") (value_of (codes "buffer") all) && is_value (codes "false") (value_of (codes "autoFlush") all)
-
--- the faults of a directive that gives settings, behind the directives before it; `decides` says whether it stood in the first reading, too
-unfoldable pub setting_faults : (in_tag decides : Bool) → List Directive → Directive → List TranslationFault
-setting_faults in_tag decides before d =
-    let old = given (giver in_tag) before in
-    let all = old ++ d.attributes in
-    attribute_faults (giver_table in_tag) d.attributes
-    ++ (fault_if (has_clash all d.attributes) fault.Clash
-    ++ fault_if (decides && (is_unbuffered all && not (is_unbuffered old))) fault.UnbufferedNoFlush)
-
 -- the first value of an attribute that isn't refused decides
 abbrev pub decided : Table → List ℕ → List Attribute → Option (List ℕ)
 decided table name [] = None
 decided table name (a ∷ attributes) =
     if bytes_eq a.name name && is_good (by_row (row_of name table) a) then plain_text a.parts else decided table name attributes
+
+-- what the directives that give settings decide of an attribute
+abbrev pub decided_by : (in_tag : Bool) → List Directive → List ℕ → Option (List ℕ)
+decided_by in_tag ds name = decided (giver_table in_tag) name (given (giver in_tag) ds)
+
+-- these directives decide that there is neither a buffer nor flushing
+abbrev pub is_unbuffered : (in_tag : Bool) → List Directive → Bool
+is_unbuffered in_tag ds = is_value (codes "none") (decided_by in_tag ds (codes "buffer")) && is_value (codes "false") (decided_by in_tag ds (codes "autoFlush"))
+
+-- with this directive the first reading has decided so, and before it hadn't. Its directives alone decide settings, also those that the second reading doesn't
+-- meet, each where it stands in the first: so a directive of the second reading alone changes nothing here, and one of the first alone counts for those behind it
+abbrev pub unbuffers : (in_tag : Bool) → (first : List Directive) → Directive → Bool
+unbuffers in_tag first d = is_unbuffered in_tag (take (before_in first d + 1) first) && not (is_unbuffered in_tag (take (before_in first d) first))
+
+-- the faults of a directive that gives settings, behind the directives before it; `first` are all directives of the first reading
+unfoldable pub setting_faults : (in_tag : Bool) → (first before : List Directive) → Directive → List TranslationFault
+setting_faults in_tag first before d =
+    attribute_faults (giver_table in_tag) d.attributes
+    ++ (fault_if (has_clash (given (giver in_tag) before ++ d.attributes) d.attributes) fault.Clash ++ fault_if (unbuffers in_tag first d) fault.UnbufferedNoFlush)
 
 -- a truth value, or else this one
 abbrev pub truth_or : Bool → Option (List ℕ) → Bool
@@ -81,4 +87,4 @@ settings_by value = record {
 
 -- the settings that directives of the first reading decide
 unfoldable pub settings_of : (in_tag : Bool) → List Directive → PageSettings
-settings_of in_tag ds = settings_by (λ name. decided (giver_table in_tag) name (given (giver in_tag) ds))
+settings_of in_tag ds = settings_by (decided_by in_tag ds)

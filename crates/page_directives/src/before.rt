@@ -1,7 +1,7 @@
 ghost use Rattle.std.specs.Prelude.{◌≡◌, ◌++◌, ◌∷◌, [], IfOk, OnErr, OnOk};
 ghost use Rattle.std.specs.Option.{option_map};
 ghost use Rattle.page_directives.specs.Faults.{in_order};
-ghost use Rattle.page_directives.specs.Meet.{include_faults, met_faults, nothing_before, other_faults, page_faults, tag_faults};
+ghost use Rattle.page_directives.specs.Meet.{giving_faults, include_faults, may_give, met_faults, nothing_before, other_faults};
 ghost use Rattle.page_directives.specs.Taglibs.{prefix_of_tag, prefixes_in_text, target_of};
 ghost use Rattle.page_pieces.specs.Marks.{tag_name};
 
@@ -60,17 +60,18 @@ impl<'a> Before<'a> {
         &self.directives
     }
 
-    /// The faults of a directive that stands in such a file. `decides` says whether it stood in the first reading, too.
+    /// The faults of a directive that stands in such a file. `first` are all directives of the first reading of the page or tag file, in
+    /// order.
     #[tactic(auto, unfolding(crate::specs::Meet::met_faults))]
-    pub fn faults(&self, stands: Where, decides: bool, directive: &Directive<'a>) -> Faults
-        ensures { result ≡ in_order (met_faults stands decides self.now directive.now) }
+    pub fn faults(&self, stands: Where, first: &[Directive], directive: &Directive<'a>) -> Faults
+        ensures { result ≡ in_order (met_faults stands first.now self.now directive.now) }
     {
         let before = self.directives.as_slice();
         match directive.name() {
             "include" => include_faults(directive),
             "taglib" => taglib_faults(&self.prefixes, before, directive),
-            "page" => page_faults(stands, decides, before, directive),
-            "tag" => tag_faults(stands, decides, before, directive),
+            "page" => giving_faults(false, stands, first, before, directive),
+            "tag" => giving_faults(true, stands, first, before, directive),
             _ => other_faults(stands, directive),
         }
     }
@@ -79,14 +80,14 @@ impl<'a> Before<'a> {
     pub fn meet(
         &mut self,
         stands: Where,
-        decides: bool,
+        first: &[Directive],
         directive: Directive<'a>,
     ) -> Result<Faults, AllocError>
-        ensures faults { IfOk result (λ faults. faults ≡ in_order (met_faults stands decides self.old directive.entry)) }
+        ensures faults { IfOk result (λ faults. faults ≡ in_order (met_faults stands first.now self.old directive.entry)) }
         ensures before { OnOk result (self.new ≡ record self.old { directives = self.old.directives ++ directive.entry ∷ [] }) }
         ensures err { OnErr result (self.new ≡ self.old) }
     {
-        let faults = self.faults(stands, decides, &directive);
+        let faults = self.faults(stands, first, &directive);
         self.directives.push(directive)?;
         Ok(faults)
     }
@@ -142,33 +143,31 @@ fn include_faults(directive: &Directive) -> Faults
     ).and(Faults::one_if(attributes.repeats(), TranslationFault::BadAttribute)))
 }
 
-// The faults of a page directive.
-fn page_faults<'a>(
-    stands: Where,
-    decides: bool,
-    before: &[Directive<'a>],
-    directive: &Directive<'a>,
-) -> Faults
-    ensures { result ≡ in_order (page_faults stands decides before.now directive.now) }
+// Whether the directives that give settings stand there.
+fn may_give(in_tag: bool, stands: Where) -> bool
+    ensures { result ≡ may_give in_tag stands }
 {
     match stands {
-        Where::Page => setting_faults(false, decides, before, directive),
-        _ => Faults::one(TranslationFault::BadDirective),
+        Where::Page => !in_tag,
+        Where::TagFile => in_tag,
+        Where::TagFilePart => false,
     }
 }
 
-// The faults of a tag directive.
-fn tag_faults<'a>(
+// The faults of a directive that gives settings, by where it stands.
+fn giving_faults<'a>(
+    in_tag: bool,
     stands: Where,
-    decides: bool,
+    first: &[Directive],
     before: &[Directive<'a>],
     directive: &Directive<'a>,
 ) -> Faults
-    ensures { result ≡ in_order (tag_faults stands decides before.now directive.now) }
+    ensures { result ≡ in_order (giving_faults in_tag stands first.now before.now directive.now) }
 {
-    match stands {
-        Where::TagFile => setting_faults(true, decides, before, directive),
-        _ => Faults::one(TranslationFault::BadDirective),
+    if may_give(in_tag, stands) {
+        setting_faults(in_tag, first, before, directive)
+    } else {
+        Faults::one(TranslationFault::BadDirective)
     }
 }
 

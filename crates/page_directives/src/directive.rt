@@ -1,4 +1,4 @@
-ghost use Rattle.std.specs.Prelude.{◌≡◌, IfOk};
+ghost use Rattle.std.specs.Prelude.{◌≡◌, ◌≤◌, length, IfOk};
 ghost use Rattle.std.specs.Option.{option_map};
 
 use crate::target::{Target, target_in};
@@ -30,7 +30,7 @@ impl<'a> Model for Directive<'a> {
 }
 
 impl<'a> Directive<'a> {
-    ghost use Rattle.page_directives.specs.Directive.{is_named};
+    ghost use Rattle.page_directives.specs.Directive.{before_in, is_at_same, is_named};
     ghost use Rattle.page_directives.specs.Taglibs.{prefix_in, target_in};
 
     pub fn new(
@@ -73,8 +73,26 @@ impl<'a> Directive<'a> {
         self.name == name
     }
 
-    // The prefix, where this is a taglib directive.
-    pub(crate) fn prefix(&self) -> Option<&'a str>
+    // Whether another directive stands at the same byte of the same file.
+    fn is_at_same(&self, other: &Directive) -> bool
+        ensures { result ≡ is_at_same self.now other.now }
+    {
+        other.place.byte == self.place.byte && other.place.file.as_str() == self.place.file.as_str()
+    }
+
+    // How many directives of a reading stand before this one: all of them where it doesn't stand there.
+    pub(crate) fn before_in(&self, reading: &[Directive]) -> usize
+        ensures value { result ≡ before_in reading.now self.now }
+        ensures within { result ≤ length reading.now }
+    {
+        reading
+            .iter()
+            .take_while(|other| !self.is_at_same(other))
+            .count()
+    }
+
+    /// The prefix, where this is a taglib directive.
+    pub fn prefix(&self) -> Option<&'a str>
         ensures { option_map (λ text. text.now) result ≡ prefix_in self.now }
     {
         if self.is_named("taglib") {

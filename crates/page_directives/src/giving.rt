@@ -1,4 +1,4 @@
-ghost use Rattle.std.specs.Prelude.{◌≡◌, ◌++◌, ◌&&◌, IfOk};
+ghost use Rattle.std.specs.Prelude.{◌≡◌, ◌++◌, ◌&&◌, None, IfOk, if◌then◌else◌};
 ghost use Rattle.std.specs.Option.{option_and_then, option_map, unwrap_or};
 ghost use Rattle.page_pieces.specs.Repeats.{has_name};
 ghost use Rattle.page_pieces.specs.Settings.{value_of};
@@ -6,7 +6,7 @@ ghost use Rattle.page_directives.specs.Directive.{is_named};
 ghost use Rattle.page_directives.specs.Checks.{buffer_size, by_row};
 ghost use Rattle.page_directives.specs.Faults.{in_order, is_good};
 ghost use Rattle.page_directives.specs.Rows.{check_of, rows_of};
-ghost use Rattle.page_directives.specs.Settings.{decided, differs, given, giver, giver_table, has_clash, is_unbuffered, is_value, setting_faults, settings_of, truth_or};
+ghost use Rattle.page_directives.specs.Settings.{decided, decided_by, differs, given, has_clash, is_unbuffered, is_value, setting_faults, settings_of, truth_or, unbuffers};
 
 use crate::buffers::buffer_size;
 use crate::charset::content_type;
@@ -79,36 +79,51 @@ pub fn is_value(text: &str, value: Option<&str>) -> bool
     }
 }
 
-// Whether there is neither a buffer nor flushing.
-fn is_unbuffered<'a>(giver: &str, before: &[Directive<'a>], own: &'a [Attribute]) -> bool
-    ensures { result ≡ is_unbuffered (given giver.now before.now ++ own.now) }
+// What the directives that give settings decide of an attribute.
+fn decided_by<'a>(in_tag: bool, directives: &[Directive<'a>], name: &str) -> Option<&'a str>
+    ensures { option_map (λ text. text.now) result ≡ decided_by in_tag directives.now name.now }
 {
-    is_value("none", value_given(giver, before, own, "buffer"))
-        && is_value("false", value_given(giver, before, own, "autoFlush"))
+    decided(giver_table(in_tag), giver(in_tag), directives, name)
 }
 
-/// The faults of a directive that gives settings, behind the directives before it; `decides` says whether it stood in the first
-/// reading, too.
+// Whether these directives decide that there is neither a buffer nor flushing.
+fn is_unbuffered(in_tag: bool, directives: &[Directive]) -> bool
+    ensures { result ≡ is_unbuffered in_tag directives.now }
+{
+    is_value("none", decided_by(in_tag, directives, "buffer"))
+        && is_value("false", decided_by(in_tag, directives, "autoFlush"))
+}
+
+// Whether with this directive the first reading has decided that there is neither a buffer nor flushing, and before it hadn't.
+#[tactic(auto, using(crate::proofs::FirstLemmas::outside))]
+fn unbuffers(in_tag: bool, first: &[Directive], directive: &Directive) -> bool
+    ensures { result ≡ unbuffers in_tag first.now directive.now }
+{
+    let at = directive.before_in(first);
+    if at == first.len() {
+        return false;
+    }
+    is_unbuffered(in_tag, &first[..at + 1]) && !is_unbuffered(in_tag, &first[..at])
+}
+
+/// The faults of a directive that gives settings, behind the directives before it. `first` are all directives of the first reading of
+/// the page or tag file, in order.
 #[tactic(auto, unfolding(crate::specs::Settings::setting_faults))]
 pub fn setting_faults<'a>(
     in_tag: bool,
-    decides: bool,
+    first: &[Directive],
     before: &[Directive<'a>],
     directive: &Directive<'a>,
 ) -> Faults
-    ensures { result ≡ in_order (setting_faults in_tag decides before.now directive.now) }
+    ensures { result ≡ in_order (setting_faults in_tag first.now before.now directive.now) }
 {
-    let giver = giver(in_tag);
     let own = directive.attributes().as_slice();
-    let (nothing, _) = own.split_at(0);
-    let clashes = has_clash(giver, before, own);
-    let unbuffered = decides
-        && is_unbuffered(giver, before, own)
-        && !is_unbuffered(giver, before, nothing);
+    let clashes = has_clash(giver(in_tag), before, own);
+    let unbuffers = unbuffers(in_tag, first, directive);
     attribute_faults(giver_table(in_tag), own).and(Faults::one_if(
         clashes,
         TranslationFault::Clash,
-    ).and(Faults::one_if(unbuffered, TranslationFault::UnbufferedNoFlush)))
+    ).and(Faults::one_if(unbuffers, TranslationFault::UnbufferedNoFlush)))
 }
 
 // Whether an attribute's value has no fault by the row of its name.
@@ -131,6 +146,22 @@ fn decided_in<'a>(table: Table, name: &str, attributes: &'a [Attribute]) -> Opti
     None
 }
 
+// The first value of an attribute that isn't refused, where a directive of this name gives it.
+fn decided_by_one<'a>(
+    table: Table,
+    giver: &str,
+    directive: &Directive<'a>,
+    name: &str,
+) -> Option<&'a str>
+    ensures { option_map (λ text. text.now) result ≡ (if is_named giver.now directive.now then decided (rows_of table.now) name.now directive.now.attributes else None) }
+{
+    if directive.is_named(giver) {
+        decided_in(table, name, directive.attributes().as_slice())
+    } else {
+        None
+    }
+}
+
 /// The first value of an attribute that isn't refused, of those that directives of this name give.
 pub fn decided<'a>(
     table: Table,
@@ -141,11 +172,8 @@ pub fn decided<'a>(
     ensures { option_map (λ text. text.now) result ≡ decided (rows_of table.now) name.now (given giver.now directives.now) }
 {
     for directive in directives {
-        if directive.is_named(giver) {
-            let value = decided_in(table, name, directive.attributes().as_slice());
-            if value.is_some() {
-                return value;
-            }
+        if let Some(value) = decided_by_one(table, giver, directive, name) {
+            return Some(value);
         }
     }
     None
@@ -179,13 +207,6 @@ fn text_of(alloc: Global, value: Option<&str>) -> Result<Option<Text>, AllocErro
         Some(text) => Ok(Some(Text::copy_of(alloc, text)?)),
         None => Ok(None),
     }
-}
-
-// What the directives that give settings decide of an attribute.
-fn decided_by<'a>(in_tag: bool, directives: &[Directive<'a>], name: &str) -> Option<&'a str>
-    ensures { option_map (λ text. text.now) result ≡ decided (giver_table in_tag) name.now (given (giver in_tag) directives.now) }
-{
-    decided(giver_table(in_tag), giver(in_tag), directives, name)
 }
 
 /// The settings that the directives of the first reading of a page or a tag file decide.

@@ -18,6 +18,7 @@ pub use checks::{Check, Table, attribute_faults};
 pub use directive::Directive;
 pub use faults::Faults;
 pub use giving::{decided, is_value, setting_faults, settings, truth_or};
+pub use registering::target_of;
 pub use tables::{TRUTHS, tag_table};
 pub use target::Target;
 pub use words::is_among;

@@ -26,8 +26,8 @@ fn is_prefix(prefix: &str, other: Option<&str>) -> bool
     }
 }
 
-// What a prefix stands for behind these directives.
-pub(crate) fn target_of<'d>(prefix: &str, directives: &'d [Directive]) -> Option<&'d Target>
+/// What a prefix stands for behind these directives: the first target that was registered for it.
+pub fn target_of<'d>(prefix: &str, directives: &'d [Directive]) -> Option<&'d Target>
     ensures { option_map (λ target. target.now) result ≡ target_of prefix.now directives.now }
 {
     for directive in directives {

@@ -1,12 +1,13 @@
 -- What the directives of a tag file declare.
-use Rattle.std.specs.Prelude.{ℕ, true, false, List, [], ◌∷◌, ◌++◌, codes, Option, Some, None, if◌then◌else◌}
+use Rattle.std.specs.Prelude.{ℕ, false, not, List, [], ◌∷◌, ◌++◌, codes, Option, Some, None, if◌then◌else◌}
 use Rattle.std.specs.List.{find}
 use Rattle.std.specs.Option.{unwrap_or, option_or}
 use Rattle.std.specs.Str.{bytes_eq}
 use Rattle.page_pieces.specs.declared.attribute.Attribute.{Attribute}
+use Rattle.page_pieces.specs.Repeats.{has_name}
 use Rattle.page_pieces.specs.Settings.{value_of}
 use Rattle.page_directives.specs.Directive.{Directive, is_named, row_of}
-use Rattle.page_directives.specs.Settings.{given, decided, truth_or}
+use Rattle.page_directives.specs.Settings.{given, decided, is_value, truth_or}
 use Rattle.page_directives.specs.Tables.{tag_table}
 use Rattle.tag_decl.specs.declared.declaration.AttrDecl.{AttrDecl}
 use Rattle.tag_decl.specs.declared.declaration.VarDecl.{VarDecl}
@@ -35,14 +36,18 @@ abbrev pub named_or : {A : Type 0} → A → List (List ℕ × A) → Option (Li
 named_or other table None = other
 named_or other table (Some name) = unwrap_or (row_of name table) other
 
--- the attribute that an `attribute` directive with this name declares
+-- the type of an attribute: text where none is written, and where one is written that isn't known, any
+abbrev pub kind_in : List Attribute → AttrKind
+kind_in attributes = if has_name (codes "type") attributes then named_or kind.Any types (value_of (codes "type") attributes) else kind.Text
+
+-- the attribute that an `attribute` directive with this name declares; it takes expressions unless it says that it doesn't
 abbrev pub attribute_named : List Attribute → List ℕ → AttrDecl
 attribute_named attributes name = record {
   name = name;
   required = truth_or false (value_of (codes "required") attributes);
   fragment = truth_or false (value_of (codes "fragment") attributes);
-  expression = truth_or true (value_of (codes "rtexprvalue") attributes);
-  kind = named_or kind.Text types (value_of (codes "type") attributes);
+  expression = not (is_value (codes "false") (value_of (codes "rtexprvalue") attributes));
+  kind = kind_in attributes;
 }
 
 abbrev pub attribute_in : List Attribute → Option (List ℕ) → List AttrDecl

@@ -87,7 +87,7 @@ declaring_faults decls before d =
 
 -- the faults of a directive for which a call isn't checked
 abbrev pub any_faults : List AttrDecl → List Directive → Directive → List TranslationFault
-any_faults decls before d = if is_named (codes "tag") d then setting_faults true false before d else declaring_faults decls before d
+any_faults decls before d = if is_named (codes "tag") d then setting_faults true [] before d else declaring_faults decls before d
 
 abbrev pub are_good : List AttrDecl → List Directive → List Directive → Bool
 are_good decls before [] = true

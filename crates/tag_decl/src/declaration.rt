@@ -1,10 +1,8 @@
-ghost use Rattle.std.specs.Prelude.{◌≡◌, ◌++◌, ◌∷◌, [], OnErr, OnOk};
+ghost use Rattle.std.specs.Prelude.{◌≡◌};
 ghost use Rattle.std.specs.Option.{option_map};
 ghost use Rattle.tag_decl.specs.Declare.{declared};
 
-use pg_text::Text;
-use std::alloc::{AllocError, Global};
-use std::marker::Model;
+use pg_text::{Listed, Text};
 
 /// The type of an attribute of a tag file.
 #[derive(Clone, Copy, Debug, PartialEq, Eq)]
@@ -52,92 +50,11 @@ pub struct VarDecl {
     pub scope: VarScope,
 }
 
-/// Declarations of attributes in the order written. Contracts see the list of them.
-#[derive(Drop)]
-pub struct AttrDecls {
-    items: Vec<AttrDecl>,
-}
+/// Declarations of attributes, in the order written.
+pub type AttrDecls = Listed<AttrDecl>;
 
-impl Model for AttrDecls {
-    ghost use Rattle.std.specs.Prelude.{List};
-    ghost use Rattle.tag_decl.specs.declared.declaration.AttrDecl.{AttrDecl};
-
-    ghost Value = { List AttrDecl };
-
-    ghost view = { λ d. d.items.items };
-}
-
-impl AttrDecls {
-    /// No declaration.
-    pub fn new(alloc: Global) -> Self
-        ensures { result ≡ [] }
-    {
-        AttrDecls {
-            items: Vec::new(alloc),
-        }
-    }
-
-    pub fn push(&mut self, attribute: AttrDecl) -> Result<(), AllocError>
-        ensures ok { OnOk result (self.new ≡ self.old ++ attribute ∷ []) }
-        ensures err { OnErr result (self.new ≡ self.old) }
-    {
-        self.items.push(attribute)?;
-        Ok(())
-    }
-
-    pub fn as_slice(&self) -> &[AttrDecl]
-        ensures { result.now ≡ self.now }
-    {
-        &self.items
-    }
-
-    /// The declaration of an attribute.
-    pub fn named(&self, name: &str) -> Option<&AttrDecl>
-        ensures { option_map (λ decl. decl.now) result ≡ declared name.now self.now }
-    {
-        find_named(&self.items, name)
-    }
-}
-
-/// Declarations of variables in the order written. Contracts see the list of them.
-#[derive(Drop)]
-pub struct VarDecls {
-    items: Vec<VarDecl>,
-}
-
-impl Model for VarDecls {
-    ghost use Rattle.std.specs.Prelude.{List};
-    ghost use Rattle.tag_decl.specs.declared.declaration.VarDecl.{VarDecl};
-
-    ghost Value = { List VarDecl };
-
-    ghost view = { λ d. d.items.items };
-}
-
-impl VarDecls {
-    /// No declaration.
-    pub fn new(alloc: Global) -> Self
-        ensures { result ≡ [] }
-    {
-        VarDecls {
-            items: Vec::new(alloc),
-        }
-    }
-
-    pub fn push(&mut self, variable: VarDecl) -> Result<(), AllocError>
-        ensures ok { OnOk result (self.new ≡ self.old ++ variable ∷ []) }
-        ensures err { OnErr result (self.new ≡ self.old) }
-    {
-        self.items.push(variable)?;
-        Ok(())
-    }
-
-    pub fn as_slice(&self) -> &[VarDecl]
-        ensures { result.now ≡ self.now }
-    {
-        &self.items
-    }
-}
+/// Declarations of variables, in the order written.
+pub type VarDecls = Listed<VarDecl>;
 
 /// What the directives of a tag file declare.
 #[derive(Drop)]
@@ -149,11 +66,11 @@ pub struct TagDecl {
     pub dynamic: Option<Text>,
 }
 
-// The first declaration of that name.
-fn find_named<'a>(decls: &'a [AttrDecl], name: &str) -> Option<&'a AttrDecl>
+/// The declaration of an attribute: the first of that name.
+pub fn declared<'a>(decls: &'a AttrDecls, name: &str) -> Option<&'a AttrDecl>
     ensures { option_map (λ decl. decl.now) result ≡ declared name.now decls.now }
 {
-    for decl in decls {
+    for decl in decls.as_slice() {
         if decl.name.as_str() == name {
             return Some(decl);
         }

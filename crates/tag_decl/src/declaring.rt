@@ -6,10 +6,10 @@ ghost use Rattle.page_directives.specs.Tables.{tag_table};
 ghost use Rattle.tag_decl.specs.Declare.{attribute_in, attribute_named, attributes_of, declaration, variable_in, variable_name, variables_of};
 
 use crate::declaration::{AttrDecl, AttrDecls, TagDecl, VarDecl, VarDecls};
-use crate::named::{body_or_scriptless, kind_or_text, scope_or_nested};
-use page_directives::{Directive, decided, tag_table, truth_or};
+use crate::named::{body_or_scriptless, kind_in, scope_or_nested};
+use page_directives::{Directive, decided, is_value, tag_table, truth_or};
 use page_pieces::Attributes;
-use pg_text::Text;
+use pg_text::{Listed, Text};
 use std::alloc::{AllocError, Global};
 
 // A copy of a text, where there is one.
@@ -34,8 +34,8 @@ fn attribute_named(
         name: Text::copy_of(alloc, name)?,
         required: truth_or(false, attributes.plain("required")),
         fragment: truth_or(false, attributes.plain("fragment")),
-        expression: truth_or(true, attributes.plain("rtexprvalue")),
-        kind: kind_or_text(attributes.plain("type")),
+        expression: !is_value("false", attributes.plain("rtexprvalue")),
+        kind: kind_in(attributes),
     })
 }
 
@@ -57,7 +57,7 @@ fn push_attribute(
 fn attributes_of(alloc: Global, directives: &[Directive]) -> Result<AttrDecls, AllocError>
     ensures { IfOk result (λ decls. decls ≡ attributes_of directives.now) }
 {
-    let mut decls = AttrDecls::new(alloc);
+    let mut decls = Listed::empty(alloc);
     for directive in directives {
         if directive.is_named("attribute") {
             push_attribute(alloc, &mut decls, directive.attributes())?;
@@ -98,7 +98,7 @@ fn push_variable(
 fn variables_of(alloc: Global, directives: &[Directive]) -> Result<VarDecls, AllocError>
     ensures { IfOk result (λ decls. decls ≡ variables_of directives.now) }
 {
-    let mut decls = VarDecls::new(alloc);
+    let mut decls = Listed::empty(alloc);
     for directive in directives {
         if directive.is_named("variable") {
             push_variable(alloc, &mut decls, directive.attributes())?;

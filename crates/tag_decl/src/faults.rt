@@ -8,7 +8,7 @@ ghost use Rattle.page_directives.specs.Rows.{rows_of};
 ghost use Rattle.tag_decl.specs.Declare.{declared};
 ghost use Rattle.tag_decl.specs.Faults.{any_faults, are_good, attribute_directive_faults, attribute_table, clash_faults, declared_names, declaring_faults, has_one_name, is_named_well, is_text, may_name, variable_directive_faults, variable_table};
 
-use crate::declaration::{AttrDecl, AttrDecls, AttrKind};
+use crate::declaration::{AttrDecl, AttrDecls, AttrKind, declared};
 use crate::names::{declared_name, is_declared};
 use page_directives::{
     Check, Directive, Faults, TRUTHS, Table, attribute_faults, is_value, setting_faults,
@@ -117,7 +117,7 @@ fn is_named_well(decls: &AttrDecls, name: Option<&str>) -> bool
     ensures { result ≡ is_named_well decls.now (option_map (λ name. name.now) name.entry) }
 {
     match name {
-        Some(name) => may_name(decls.named(name)),
+        Some(name) => may_name(declared(decls, name)),
         None => false,
     }
 }
@@ -176,7 +176,7 @@ fn any_faults<'a>(decls: &AttrDecls, before: &[Directive<'a>], directive: &Direc
     ensures { result ≡ in_order (any_faults decls.now before.now directive.now) }
 {
     if directive.is_named("tag") {
-        setting_faults(true, false, before, directive)
+        setting_faults(true, &[], before, directive)
     } else {
         declaring_faults(decls, before, directive)
     }

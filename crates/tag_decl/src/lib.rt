@@ -9,7 +9,7 @@ mod named;
 mod names;
 
 pub use declaration::{
-    AttrDecl, AttrDecls, AttrKind, BodyKind, TagDecl, VarDecl, VarDecls, VarScope,
+    AttrDecl, AttrDecls, AttrKind, BodyKind, TagDecl, VarDecl, VarDecls, VarScope, declared,
 };
 pub use declaring::declare;
 pub use faults::{declaring_faults, is_good};

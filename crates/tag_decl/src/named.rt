@@ -1,9 +1,10 @@
 ghost use Rattle.std.specs.Prelude.{◌≡◌, map};
 ghost use Rattle.std.specs.Option.{option_map};
-ghost use Rattle.tag_decl.specs.Declare.{bodies, named_or, types, var_scopes};
+ghost use Rattle.tag_decl.specs.Declare.{bodies, kind_in, named_or, types, var_scopes};
 ghost use Rattle.page_directives.specs.Directive.{row_of};
 
 use crate::declaration::{AttrKind, BodyKind, VarScope};
+use page_pieces::{Attributes, has_name};
 
 static TYPES: [(&str, AttrKind); 8] = [
     ("java.lang.String", AttrKind::Text),
@@ -35,13 +36,24 @@ fn row_of(name: &str, table: &[(&str, AttrKind)]) -> Option<AttrKind>
     None
 }
 
-// The type that a value names, or else text.
-pub(crate) fn kind_or_text(value: Option<&str>) -> AttrKind
-    ensures { result ≡ named_or AttrKind.Text types (option_map (λ text. text.now) value.entry) }
+// The type that a value names, or else any.
+fn kind_or_any(value: Option<&str>) -> AttrKind
+    ensures { result ≡ named_or AttrKind.Any types (option_map (λ text. text.now) value.entry) }
 {
     match value {
-        Some(name) => row_of(name, types()).unwrap_or(AttrKind::Text),
-        None => AttrKind::Text,
+        Some(name) => row_of(name, types()).unwrap_or(AttrKind::Any),
+        None => AttrKind::Any,
+    }
+}
+
+// The type of an attribute.
+pub(crate) fn kind_in(attributes: &Attributes) -> AttrKind
+    ensures { result ≡ kind_in attributes.now }
+{
+    if has_name(attributes.as_slice(), "type") {
+        kind_or_any(attributes.plain("type"))
+    } else {
+        AttrKind::Text
     }
 }
 
