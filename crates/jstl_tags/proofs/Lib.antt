@@ -1,0 +1,5 @@
+pub mod AroundLemmas
+pub mod NameLemmas
+pub mod NamesFaults
+pub mod RowLemmas
+pub mod StandingLemmas

@@ -1,0 +1,12 @@
+pub mod Rows
+pub mod Core
+pub mod Content
+pub mod Standing
+pub mod Around
+pub mod Hosts
+pub mod Elements
+pub mod Given
+pub mod Check
+pub mod ReadStanding
+pub mod ReadSorts
+pub mod ReadCheck

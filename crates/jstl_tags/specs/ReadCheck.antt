@@ -1,0 +1,69 @@
+-- The faults of an action by what stands in its body. No public contract speaks of it: that it is what the definition says is proved.
+use Rattle.std.specs.Prelude.{ℕ, Bool, false, not, ◌&&◌, List, [], ◌∷◌, ◌++◌, codes, if◌then◌else◌}
+use Rattle.pg_text.specs.declared.translation_fault.TranslationFault.{TranslationFault}
+use Rattle.pg_text.specs.declared.translation_fault.TranslationFault.TheVariants as fault
+use Rattle.page_pieces.specs.declared.piece.Tag.{Tag}
+use Rattle.page_pieces.specs.Settings.{contains_text}
+use Rattle.page_reader.specs.declared.node.Closing.{Closing}
+use Rattle.page_reader.specs.Trees.{Opened}
+use Rattle.page_directives.specs.Faults.{fault_if}
+use Rattle.jstl_tags.specs.declared.core_name.CoreName.{CoreName}
+use Rattle.jstl_tags.specs.declared.core_name.CoreName.TheVariants as core
+use Rattle.jstl_tags.specs.declared.rows.Holds.{Holds}
+use Rattle.jstl_tags.specs.declared.rows.Holds.TheVariants as holds
+use Rattle.jstl_tags.specs.Check.{are_set_well, given_faults, is_core, is_param, is_whole, lacks}
+use Rattle.jstl_tags.specs.Content.{attribute_names, is_part, is_standard, takes_parts}
+use Rattle.jstl_tags.specs.Rows.{Row}
+use Rattle.jstl_tags.specs.Standing.{Standing, part_names_in}
+use Rattle.jstl_tags.specs.ReadStanding.{element_stands, nothing_stands, other_stands, two_stand}
+
+-- beside parts nothing else stands, and one `jsp:body` at most
+abbrev pub split_by : (split : Bool) → List Standing → List TranslationFault
+split_by split standing =
+    if split then fault_if (other_stands is_part standing) fault.BadBody ++ fault_if (two_stand (is_standard (codes "body")) standing) fault.BadNesting else []
+
+-- whether there is a body, where there may be none
+abbrev pub stands_as_body : (split : Bool) → List Standing → Bool
+stands_as_body split standing = if split then element_stands (is_standard (codes "body")) standing else not (nothing_stands standing)
+
+-- the faults of what a body holds
+abbrev pub holds_by : (List ℕ → Bool) → Holds → Closing → (split : Bool) → (standing body : List Standing) → List TranslationFault
+holds_by library holds.Anything closing split standing body = []
+holds_by library holds.Nothing closing split standing body = fault_if (stands_as_body split standing) fault.BadBody
+holds_by library holds.Params closing split standing body = fault_if (other_stands (is_param library) body) fault.BadBody
+holds_by library holds.Branches closing split standing body = fault_if (is_whole closing && not (element_stands (is_core library (codes "when")) body)) fault.BadBody
+
+-- the faults of an action by its row
+abbrev pub row_by : (List ℕ → Bool) → Row → Closing → (split : Bool) → (standing body : List Standing) → (given : List (List ℕ)) → List TranslationFault
+row_by library row closing split standing body given = given_faults row closing given ++ (split_by split standing ++ holds_by library row.holds closing split standing body)
+
+-- what a row doesn't say
+abbrev pub own_by : CoreName → Closing → (body : List Standing) → (given : List (List ℕ)) → List TranslationFault
+own_by core.Set closing body given =
+    fault_if (contains_text (codes "var") given && contains_text (codes "target") given) fault.BadAttribute
+    ++ (fault_if (is_whole closing && not (are_set_well (contains_text (codes "var") given) (contains_text (codes "target") given) (contains_text (codes "property") given))) fault.BadAttribute
+    ++ fault_if (is_whole closing && (contains_text (codes "value") given && other_stands (λ t. false) body)) fault.BadBody)
+own_by core.ForEach closing body given =
+    fault_if (is_whole closing && (not (contains_text (codes "items") given) && lacks (codes "begin" ∷ codes "end" ∷ []) given)) fault.BadAttribute
+own_by _ closing body given = []
+
+-- the attributes or the body are given by parts
+abbrev pub split_in : Tag → List Standing → Bool
+split_in t standing = takes_parts t && element_stands is_part standing
+
+-- what stands in the body of an element, which may be given by `jsp:body`
+abbrev pub body_in : Tag → (standing within : List Standing) → List Standing
+body_in t standing within = if split_in t standing then within else standing
+
+-- the names of all attributes that are given
+abbrev pub names_in : Tag → List Standing → List (List ℕ)
+names_in t standing = attribute_names t.attributes ++ (if takes_parts t then part_names_in standing else [])
+
+-- the faults of an action by its row and what stands in its body
+abbrev pub action_by : (List ℕ → Bool) → Row → Opened → (standing within : List Standing) → List TranslationFault
+action_by library row opened standing within =
+    row_by library row opened.closing (split_in opened.tag standing) standing (body_in opened.tag standing within) (names_in opened.tag standing)
+
+-- the faults of a core tag that its row doesn't say
+abbrev pub own_of : CoreName → Opened → (standing within : List Standing) → List TranslationFault
+own_of name opened standing within = own_by name opened.closing (body_in opened.tag standing within) (names_in opened.tag standing)
