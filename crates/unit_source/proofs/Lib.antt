@@ -1,0 +1,11 @@
+pub mod AgreeFirst
+pub mod AgreeSplice
+pub mod FileLemmas
+pub mod FillLemmas
+pub mod FirstLemmas
+pub mod OrderLemmas
+pub mod OwnLemmas
+pub mod PlacedLemmas
+pub mod PlacingLemmas
+pub mod SpliceLemmas
+pub mod StepLemmas

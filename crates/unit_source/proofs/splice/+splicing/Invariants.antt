@@ -1,0 +1,33 @@
+use Rattle.std.proofs.Common.{◌≡◌, ◌+◌, ◌*◌, drop, map}
+use Rattle.unit_source.specs.Files.{text_in}
+use Rattle.unit_source.specs.ReadSplice.{reads, step_of, taken_of}
+use Rattle.unit_source.specs.ReadSteps.{both_taken, taken}
+use Rattle.unit_source.proofs.splice.+splicing.Given as goal
+
+abbrev pub decreases-read_file : goal.decreases-read_file
+decreases-read_file l = 8 * l.deep
+
+abbrev pub decreases-read_nodes : goal.decreases-read_nodes
+decreases-read_nodes l = 8 * l.file.now.deep + 6
+
+abbrev pub decreases-take_steps : goal.decreases-take_steps
+decreases-take_steps l = 8 * l.file.now.deep + 5
+
+abbrev pub decreases-take_step : goal.decreases-take_step
+decreases-take_step l = 8 * l.file.now.deep + 4
+
+abbrev pub decreases-enter : goal.decreases-enter
+decreases-enter l = 8 * l.file.now.deep + 3
+
+abbrev pub decreases-enter_path : goal.decreases-enter_path
+decreases-enter_path l = 8 * l.file.now.deep + 2
+
+abbrev pub decreases-enter_source : goal.decreases-enter_source
+decreases-enter_source l = 8 * l.file.now.deep + 1
+
+abbrev pub invariant-take_steps-loop-step : goal.invariant-take_steps-loop-step
+invariant-take_steps-loop-step l = record {
+  files : l.files ≡ l.fn.files;
+  taken : both_taken (taken_of l.found.items l.progress) (taken (reads (text_in l.fn.files) l.file) l.file.brought (map step_of (drop l.step-index l.steps)) l.progress.going)
+      ≡ both_taken (taken_of l.fn.found.items l.fn.progress) (taken (reads (text_in l.fn.files) l.file) l.file.brought (map step_of l.steps) l.fn.progress.going);
+}

@@ -1,0 +1,12 @@
+pub mod Files
+pub mod First
+pub mod InPlace
+pub mod Laws
+pub mod Placed
+pub mod ReadFiles
+pub mod ReadFirst
+pub mod ReadPlacing
+pub mod ReadSplice
+pub mod ReadSteps
+pub mod Root
+pub mod Splice

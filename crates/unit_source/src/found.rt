@@ -1,0 +1,25 @@
+ghost use Rattle.std.specs.Prelude.{◌≡◌};
+ghost use Rattle.unit_source.specs.InPlace.{done};
+ghost use Rattle.unit_source.specs.ReadSplice.{found_of};
+
+use crate::{Entry, PlacedNode};
+use std::alloc::Global;
+
+// What an include directive came to, and the nodes of its file.
+#[derive(Drop)]
+pub(crate) struct FoundNodes {
+    pub entry: Entry,
+    pub nodes: Vec<PlacedNode>,
+}
+
+impl FoundNodes {
+    // Nothing is read.
+    pub fn nothing(alloc: Global, entry: Entry) -> Self
+        ensures { found_of result ≡ record { entry = entry; nodes = done } }
+    {
+        FoundNodes {
+            entry,
+            nodes: Vec::new(alloc),
+        }
+    }
+}

@@ -1,0 +1,33 @@
+//! The files of a page's unit: a page or a tag file of a tree, read twice, with its static includes in place.
+#![tactic(auto)]
+
+mod brought;
+mod chain;
+mod directive;
+mod entry;
+mod files;
+mod fill;
+mod first;
+mod found;
+mod laws;
+mod own;
+mod placed;
+mod placing;
+mod prefixes;
+mod progress;
+mod reading_order;
+mod root;
+mod second;
+mod source_file;
+mod splice;
+mod steps;
+
+pub use directive::WrittenDirective;
+pub use entry::Entry;
+pub use files::UnitFiles;
+pub use first::MAX_UNIT_FILES;
+pub use laws::same_root;
+pub use placed::{PlacedElement, PlacedInclude, PlacedNode};
+pub use progress::{MAX_NESTING, MAX_UNIT_BYTES};
+pub use reading_order::{directives, first_directives};
+pub use root::Root;

@@ -1,0 +1,140 @@
+ghost use Rattle.std.specs.Prelude.{◌≡◌, ◌∷◌, ◌≤◌, [], true, IfOk, OnOk};
+ghost use Rattle.page_pieces.specs.Settings.{brought_at};
+ghost use Rattle.unit_source.specs.Files.{text_in};
+ghost use Rattle.unit_source.specs.First.{brought_by, brought_names, firsts_by};
+ghost use Rattle.unit_source.specs.ReadSplice.{gone, with_more};
+ghost use Rattle.unit_source.specs.Splice.{full, has_room, with_file, with_prefixes};
+
+use crate::WrittenDirective;
+use crate::brought::read_brought;
+use crate::files::UnitFiles;
+use crate::first::MAX_UNIT_FILES;
+use crate::prefixes::{push_all, push_brought};
+use page_pieces::{Brought, BroughtPrefixes, Prefixes};
+use pg_text::{Listed, Path, Text};
+use std::alloc::{AllocError, Global};
+use std::marker::Model;
+
+/// The most bytes of a unit.
+pub const MAX_UNIT_BYTES: usize = 1_048_576;
+/// The most elements in which an element of a unit stands.
+pub const MAX_NESTING: usize = 64;
+
+// How the second reading of a page or a tag file goes on: the names of the files that were included so far, the prefixes that
+// are registered, and the files and bytes that were read.
+#[derive(Drop)]
+pub(crate) struct Progress {
+    names: Listed<Path>,
+    prefixes: Prefixes,
+    files: usize,
+    bytes: usize,
+}
+
+impl Model for Progress {
+    ghost use Rattle.std.specs.Prelude.{◌≤◌};
+    ghost use Rattle.unit_source.specs.ReadSplice.{Gone};
+
+    ghost Value = { Gone };
+
+    ghost view = { λ p. record { names = p.names; going = record { prefixes = p.prefixes; files = p.files; bytes = p.bytes } } };
+
+    ghost invariant = { λ p. p.bytes ≤ 1048576 };
+}
+
+impl Progress {
+    // A file of so many bytes is read, and nothing else yet.
+    pub fn new(alloc: Global, bytes: usize) -> Self
+        requires { bytes ≤ MAX_UNIT_BYTES }
+        ensures { result ≡ gone [] (record { prefixes = []; files = 1; bytes = bytes }) }
+    {
+        Progress {
+            names: Listed::empty(alloc),
+            prefixes: Prefixes::new(alloc),
+            files: 1,
+            bytes,
+        }
+    }
+
+    pub fn prefixes(&self) -> &Prefixes
+        ensures { result.now ≡ self.now.going.prefixes }
+    {
+        &self.prefixes
+    }
+
+    // The names of the files that were included.
+    pub fn names(&self) -> &[Path]
+        ensures { result.now ≡ self.now.names }
+    {
+        self.names.as_slice()
+    }
+
+    // A name more.
+    pub fn push_name(&mut self, name: &Path) -> Result<(), AllocError>
+        ensures { OnOk result (self.new ≡ with_more (name.now ∷ []) self.old) }
+    {
+        self.names.push(name.copy()?)
+    }
+
+    // What the include directives of a file bring, and the names of the files that are read for it.
+    pub fn read_brought(
+        &mut self,
+        files: &mut UnitFiles,
+        chain: &[Path],
+        own: &[WrittenDirective],
+    ) -> Result<Brought, AllocError>
+        ensures brought { IfOk result (λ brought. brought ≡ brought_by (firsts_by (text_in files.old) chain.now own.now)) }
+        ensures names { OnOk result (self.new ≡ with_more (brought_names (firsts_by (text_in files.old) chain.now own.now)) self.old) }
+        ensures files { files.new ≡ files.old }
+    {
+        read_brought(files, chain, own, &mut self.names)
+    }
+
+    // Prefixes are registered.
+    pub fn register(&mut self, prefixes: &[Text]) -> Result<(), AllocError>
+        ensures { OnOk result (self.new ≡ gone self.old.names (with_prefixes prefixes.now self.old.going)) }
+    {
+        push_all(&mut self.prefixes, prefixes)
+    }
+
+    // The prefixes are registered that the include directive with this first byte brings.
+    pub fn register_brought(
+        &mut self,
+        brought: &[BroughtPrefixes],
+        byte: u32,
+    ) -> Result<(), AllocError>
+        ensures { OnOk result (self.new ≡ gone self.old.names (with_prefixes (brought_at byte brought.now) self.old.going)) }
+    {
+        push_brought(&mut self.prefixes, brought, byte)
+    }
+
+    // These prefixes are registered and no others.
+    pub fn set_prefixes(&mut self, prefixes: Prefixes)
+        ensures { self.new ≡ gone self.old.names (record { prefixes = prefixes; files = self.old.going.files; bytes = self.old.going.bytes }) }
+    {
+        self.prefixes = prefixes;
+    }
+
+    // Whether a file of so many bytes may be read within so many open elements.
+    pub fn has_room(&self, around: usize, bytes: usize) -> bool
+        requires { bytes ≤ MAX_UNIT_BYTES }
+        ensures { result ≡ has_room around bytes self.now.going }
+    {
+        around <= MAX_NESTING && self.files < MAX_UNIT_FILES && self.bytes + bytes <= MAX_UNIT_BYTES
+    }
+
+    // A file of so many bytes is read, within so many open elements.
+    pub fn count_file(&mut self, around: usize, bytes: usize)
+        requires { has_room around bytes self.old.going ≡ true }
+        ensures { self.new ≡ gone self.old.names (with_file bytes self.old.going) }
+    {
+        self.files += 1;
+        self.bytes += bytes;
+    }
+
+    // No file more is read.
+    pub fn fill(&mut self)
+        ensures { self.new ≡ gone self.old.names (full self.old.going) }
+    {
+        self.files = MAX_UNIT_FILES;
+    }
+}

@@ -1,0 +1,76 @@
+ghost use Rattle.std.specs.Prelude.{◌≡◌, ◌≤◌, length, IfOk};
+ghost use Rattle.unit_source.specs.First.{own_directives};
+ghost use Rattle.unit_source.specs.ReadFiles.{source};
+
+use crate::WrittenDirective;
+use crate::own::read_own;
+use page_reader::MAX_PAGE_BYTES;
+use pg_text::{Listed, Path, Text};
+use std::alloc::{AllocError, Global};
+use std::marker::Model;
+use std::sync::Arc;
+
+// A file of a tree with its first reading. Its copies share both.
+#[derive(Drop)]
+pub(crate) struct SourceFile {
+    path: Path,
+    text: Text,
+    own: Arc<Listed<WrittenDirective>>,
+}
+
+impl Model for SourceFile {
+    ghost use Rattle.std.specs.Prelude.{◌≡◌, ◌≤◌, length};
+    ghost use Rattle.unit_source.specs.First.{own_directives};
+    ghost use Rattle.unit_source.specs.ReadFiles.{Source, source};
+
+    ghost Value = { Source };
+
+    ghost view = { λ f. source f.path f.text };
+
+    ghost invariant = { λ f. (f.own.value ≡ own_directives f.path f.text) × (length f.text ≤ 1048576) };
+}
+
+impl SourceFile {
+    // The file, which is read.
+    pub fn read(alloc: Global, path: Path, text: Text) -> Result<Self, AllocError>
+        requires { length text ≤ MAX_PAGE_BYTES }
+        ensures { IfOk result (λ file. file ≡ source path text) }
+    {
+        let own = read_own(alloc, &path, text.as_str())?;
+        Ok(SourceFile {
+            path,
+            text,
+            own: Arc::new(alloc, own)?,
+        })
+    }
+
+    pub fn copy(&self) -> Result<Self, AllocError>
+        ensures { IfOk result (λ copy. copy ≡ self.now) }
+    {
+        Ok(SourceFile {
+            path: self.path.copy()?,
+            text: self.text.copy()?,
+            own: Arc::try_clone(&self.own)?,
+        })
+    }
+
+    pub fn path(&self) -> &Path
+        ensures { result.now ≡ self.now.path }
+    {
+        &self.path
+    }
+
+    pub fn text(&self) -> &str
+        ensures text { result.now ≡ self.now.text }
+        ensures within { length self.now.text ≤ MAX_PAGE_BYTES }
+    {
+        self.text.as_str()
+    }
+
+    // The directives of the file by itself.
+    pub fn own(&self) -> &[WrittenDirective]
+        ensures { result.now ≡ own_directives self.now.path self.now.text }
+    {
+        self.own.as_slice()
+    }
+}

@@ -1,0 +1,216 @@
+ghost use Rattle.std.specs.Prelude.{◌≡◌, ◌≤◌, ◌∷◌, [], true, Some, length, map, IfOk, OnOk};
+ghost use Rattle.unit_source.specs.Files.{text_in};
+ghost use Rattle.unit_source.specs.Placed.{in_place};
+ghost use Rattle.unit_source.specs.ReadSplice.{behind_file, behind_inner, found_of, reads, step_of, taken_of, with_more};
+ghost use Rattle.unit_source.specs.ReadSteps.{both_taken, found_in, taken};
+ghost use Rattle.unit_source.specs.Splice.{file_nodes, nodes_read, spliced_within, target_read, text_read};
+
+use crate::chain::{chain_with, contains, included_path};
+use crate::files::UnitFiles;
+use crate::fill::fill_nodes;
+use crate::found::FoundNodes;
+use crate::progress::Progress;
+use crate::second::read_alone;
+use crate::source_file::SourceFile;
+use crate::steps::{Step, add_steps};
+use crate::{Entry, PlacedNode, WrittenDirective};
+use page_pieces::Brought;
+use pg_text::{Listed, Path};
+use pg_value::PageSettings;
+use std::alloc::{AllocError, Global};
+use std::collections::VecDeque;
+
+// A file that is read: under what settings, within which files, with what its include directives bring, and how many files deep
+// reading may still go.
+#[derive(Drop)]
+pub(crate) struct InFile<'f> {
+    settings: &'f PageSettings,
+    chain: Listed<Path>,
+    brought: Brought,
+    deep: usize,
+}
+
+// Reads a file with its includes in place, within the files of the chain and so many open elements, so many files deep at most.
+#[cycle(splicing)]
+#[tactic(auto, using(crate::proofs::SpliceLemmas::file_end_nodes, crate::proofs::SpliceLemmas::file_end_gone))]
+pub(crate) fn read_file(
+    files: &mut UnitFiles,
+    settings: &PageSettings,
+    chain: &[Path],
+    deep: usize,
+    around: usize,
+    source: &SourceFile,
+    progress: &mut Progress,
+) -> Result<Vec<PlacedNode>, AllocError>
+    ensures nodes { IfOk result (λ nodes. in_place nodes.items ≡ (spliced_within deep (text_in files.old) settings.now chain.now around source.now.path source.now.text progress.old.going).nodes) }
+    ensures progress { OnOk result (progress.new ≡ behind_file progress.old (spliced_within deep (text_in files.old) settings.now chain.now around source.now.path source.now.text progress.old.going)) }
+    ensures files { files.new ≡ files.old }
+{
+    let alloc = files.alloc();
+    if deep == 0 {
+        return Ok(Vec::new(alloc));
+    }
+    let longer = chain_with(alloc, source.path(), chain)?;
+    let alone = read_alone(files, settings, longer.as_slice(), source, progress)?;
+    let file = InFile {
+        settings,
+        chain: longer,
+        brought: alone.brought,
+        deep: deep - 1,
+    };
+    read_nodes(files, &file, around, alone.nodes, progress)
+}
+
+// Reads the nodes of a file with its includes in place.
+#[cycle(splicing)]
+fn read_nodes(
+    files: &mut UnitFiles,
+    file: &InFile,
+    around: usize,
+    nodes: Vec<PlacedNode>,
+    progress: &mut Progress,
+) -> Result<Vec<PlacedNode>, AllocError>
+    ensures nodes { IfOk result (λ all. in_place all.items ≡ (nodes_read (reads (text_in files.old) file.now) file.now.brought around (in_place nodes.items) progress.old.going).nodes) }
+    ensures progress { OnOk result (progress.new ≡ behind_file progress.old (nodes_read (reads (text_in files.old) file.now) file.now.brought around (in_place nodes.items) progress.old.going)) }
+    ensures files { files.new ≡ files.old }
+{
+    let alloc = files.alloc();
+    let mut steps = Vec::new(alloc);
+    add_steps(alloc, &nodes, around, &mut steps)?;
+    let mut found = VecDeque::new(alloc);
+    take_steps(files, file, &steps, progress, &mut found)?;
+    fill_nodes(alloc, nodes, &mut found)
+}
+
+// Takes steps of a file.
+#[cycle(splicing)]
+fn take_steps(
+    files: &mut UnitFiles,
+    file: &InFile,
+    steps: &[Step],
+    progress: &mut Progress,
+    found: &mut VecDeque<FoundNodes>,
+) -> Result<(), AllocError>
+    ensures taken { OnOk result (taken_of found.new.items progress.new
+        ≡ both_taken (taken_of found.old.items progress.old) (taken (reads (text_in files.old) file.now) file.now.brought (map step_of steps.now) progress.old.going)) }
+    ensures files { files.new ≡ files.old }
+{
+    for step in steps {
+        take_step(files, file, step, progress, found)?;
+    }
+    Ok(())
+}
+
+#[cycle(splicing)]
+#[tactic(auto, using(crate::proofs::StepLemmas::registers_taken, crate::proofs::StepLemmas::includes_taken))]
+fn take_step(
+    files: &mut UnitFiles,
+    file: &InFile,
+    step: &Step,
+    progress: &mut Progress,
+    found: &mut VecDeque<FoundNodes>,
+) -> Result<(), AllocError>
+    ensures taken { OnOk result (taken_of found.new.items progress.new
+        ≡ both_taken (taken_of found.old.items progress.old) (taken (reads (text_in files.old) file.now) file.now.brought (step_of step.now ∷ []) progress.old.going)) }
+    ensures files { files.new ≡ files.old }
+{
+    match step {
+        Step::Registers(prefixes) => progress.register(prefixes.as_slice()),
+        Step::Includes(around, directive) => {
+            let inner = enter(files, file, *around, directive, progress)?;
+            found.push_back(inner)?;
+            progress.register_brought(file.brought.as_slice(), directive.place().byte)
+        }
+    }
+}
+
+// What an include directive comes to within so many open elements.
+#[cycle(splicing)]
+fn enter(
+    files: &mut UnitFiles,
+    file: &InFile,
+    around: usize,
+    directive: &WrittenDirective,
+    progress: &mut Progress,
+) -> Result<FoundNodes, AllocError>
+    ensures found { IfOk result (λ found. found_of found ≡ found_in (reads (text_in files.old) file.now around directive.now progress.old.going)) }
+    ensures progress { OnOk result (progress.new ≡ behind_inner progress.old (reads (text_in files.old) file.now around directive.now progress.old.going)) }
+    ensures files { files.new ≡ files.old }
+{
+    let alloc = files.alloc();
+    if directive.attributes().plain("file").is_none() {
+        return Ok(FoundNodes::nothing(alloc, Entry::Unnamed));
+    }
+    match included_path(alloc, directive)? {
+        Some(path) => enter_path(files, file, around, &path, progress),
+        None => Ok(FoundNodes::nothing(alloc, Entry::Absent)),
+    }
+}
+
+// The same of an include directive that names this path.
+#[cycle(splicing)]
+fn enter_path(
+    files: &mut UnitFiles,
+    file: &InFile,
+    around: usize,
+    path: &Path,
+    progress: &mut Progress,
+) -> Result<FoundNodes, AllocError>
+    ensures found { IfOk result (λ found. found_of found
+        ≡ found_in (target_read (spliced_within file.now.deep (text_in files.old) file.now.settings.now file.now.chain) (text_in files.old) file.now.chain around true (Some path.now) progress.old.going)) }
+    ensures progress { OnOk result (progress.new
+        ≡ behind_inner progress.old (target_read (spliced_within file.now.deep (text_in files.old) file.now.settings.now file.now.chain) (text_in files.old) file.now.chain around true (Some path.now) progress.old.going)) }
+    ensures files { files.new ≡ files.old }
+{
+    let alloc = files.alloc();
+    if contains(file.chain.as_slice(), path) {
+        progress.push_name(path)?;
+        return Ok(FoundNodes::nothing(alloc, Entry::Cycle));
+    }
+    match files.file(path)? {
+        Some(source) => enter_source(files, file, around, &source, progress),
+        None => {
+            progress.push_name(path)?;
+            Ok(FoundNodes::nothing(alloc, Entry::Absent))
+        }
+    }
+}
+
+// The same of an include directive that names this file, which isn't being read.
+#[cycle(splicing)]
+fn enter_source(
+    files: &mut UnitFiles,
+    file: &InFile,
+    around: usize,
+    source: &SourceFile,
+    progress: &mut Progress,
+) -> Result<FoundNodes, AllocError>
+    ensures found { IfOk result (λ found. found_of found
+        ≡ found_in (text_read (spliced_within file.now.deep (text_in files.old) file.now.settings.now file.now.chain) around source.now.path (Some source.now.text) progress.old.going)) }
+    ensures progress { OnOk result (progress.new
+        ≡ behind_inner progress.old (text_read (spliced_within file.now.deep (text_in files.old) file.now.settings.now file.now.chain) around source.now.path (Some source.now.text) progress.old.going)) }
+    ensures files { files.new ≡ files.old }
+{
+    let bytes = source.text().len();
+    progress.push_name(source.path())?;
+    if !progress.has_room(around, bytes) {
+        progress.fill();
+        return Ok(FoundNodes::nothing(files.alloc(), Entry::Entered(bytes)));
+    }
+    let prefixes = progress.prefixes().copy()?;
+    progress.count_file(around, bytes);
+    let nodes = read_file(
+        files,
+        file.settings,
+        file.chain.as_slice(),
+        file.deep,
+        around,
+        source,
+        progress,
+    )?;
+    progress.set_prefixes(prefixes);
+    Ok(FoundNodes {
+        entry: Entry::Entered(bytes),
+        nodes,
+    })
+}

@@ -1,0 +1,7 @@
+//! Tests of pages and tag files that are read twice.
+#![tactic(auto)]
+
+#[cfg(test)]
+mod rooting;
+#[cfg(test)]
+mod show;
