@@ -1,0 +1,9 @@
+mod Actions
+mod Answering
+mod Chains
+mod EveryLaw
+mod EveryPart
+mod Nested
+mod Orderly
+mod Values
+mod Words

@@ -1,0 +1,51 @@
+-- What a run adds to a request's state, and what it does under more answers.
+use Rattle.std.specs.Prelude.{◌≡◌, ◌<◌, ℕ, List, [], ◌∷◌, ◌++◌}
+use Rattle.edges.specs.History.{IsFront}
+use Rattle.site_words.specs.Law.{Answer}
+use Rattle.page_meaning.specs.State.{State}
+use Rattle.page_meaning.specs.Step.{Step}
+use Rattle.page_meaning.specs.Went.{Went, Well, Raised, Ended, Awaits, Leaving, forwards, redirects}
+
+-- the state in which a part went or waits
+abbrev pub state_of : {A : Type 0} → Went A → State
+state_of (Well a s) = s
+state_of (Raised fault place s) = s
+state_of (Ended leaving s) = s
+state_of (Awaits step s) = s
+
+-- with more answers behind those that are still to be used
+abbrev pub with_more : List Answer → State → State
+with_more more s = record s { answers = s.answers ++ more }
+
+-- with one step asked more
+abbrev pub with_asked : Step → State → State
+with_asked step s = record s { asked = s.asked ++ step ∷ [] }
+
+-- the steps asked and the committed pieces of the first state stand at the front of those of the second
+pub record Grows (s t : State) : Type 0 where
+  pub asked : IsFront s.asked t.asked
+  pub pieces : IsFront s.writer.pieces t.writer.pieces
+
+-- what waited for a step waits for it still, or, where there is an answer, has asked it and gone on
+abbrev pub AsksOn : {A : Type 0} → Step → State → List Answer → Went A → Type 0
+AsksOn step s [] w = w ≡ Awaits step (with_more [] s)
+AsksOn step s (answer ∷ rest) w = Grows (with_asked step s) (state_of w)
+
+-- under more answers a part goes as it went, and leaves these answers; where it waited for a step, none was left, and it goes on from there
+abbrev pub GoesOn : {A : Type 0} → List Answer → Went A → Went A → Type 0
+GoesOn more (Well a s) w = w ≡ Well a (with_more more s)
+GoesOn more (Raised fault place s) w = w ≡ Raised fault place (with_more more s)
+GoesOn more (Ended leaving s) w = w ≡ Ended leaving (with_more more s)
+GoesOn more (Awaits step s) w = (s.answers ≡ []) × AsksOn step s more w
+
+-- a forward leaves fewer levels, and nothing was committed before a forward or a redirect
+abbrev pub LeavesBy : (left : ℕ) → Leaving → State → Type 0
+LeavesBy left (forwards path params l) s = (l < left) × (s.writer.pieces ≡ [])
+LeavesBy left (redirects location) s = s.writer.pieces ≡ []
+
+-- where a part ended the page, it left so
+abbrev pub Leaves : {A : Type 0} → (left : ℕ) → Went A → Type 0
+Leaves left (Well a s) = Unit {0}
+Leaves left (Raised fault place s) = Unit {0}
+Leaves left (Ended leaving s) = LeavesBy left leaving s
+Leaves left (Awaits step s) = Unit {0}

@@ -1,0 +1,21 @@
+ghost use Rattle.page_meaning.specs.Laws.{AnswersAreUnused, ChainsEnd, ForwardsLeaveFewer, HundredLevels, MoreAnswersGoOn, PiecesAreCommitted, RequestsGoOn, StepsAndPiecesGrow};
+
+/// Every part of a page only adds steps and pieces, and a missing answer has no other effect than that it is waited for.
+pub fn parts()
+    ensures grow { StepsAndPiecesGrow }
+    ensures more { MoreAnswersGoOn }
+{}
+
+/// A page goes 100 levels deep, forwards among them.
+pub fn depth()
+    ensures levels { HundredLevels }
+    ensures forwards { ForwardsLeaveFewer }
+    ensures chains { ChainsEnd }
+{}
+
+/// A request under more answers to its steps is answered as under fewer.
+pub fn requests()
+    ensures more { RequestsGoOn }
+    ensures pieces { PiecesAreCommitted }
+    ensures unused { AnswersAreUnused }
+{}

@@ -1,0 +1,44 @@
+-- Each case is as its definition computes it.
+use Rattle.std.proofs.Common.{refl}
+use Rattle.el_coercion.specs.Text.{null_text, true_text, false_text, separator}
+use Rattle.form_urlencoded.specs.Form.{raw_pairs, split, byte_serialize}
+use Rattle.http_in.specs.Params.{params_in}
+use Rattle.http_in.specs.Request.{request_of}
+use Rattle.http_in.specs.Target.{path_of}
+use Rattle.httparse.specs.Grammar.{trim_ows}
+use Rattle.out_buffer.specs.Writer.{put_limit}
+use Rattle.page_meaning.specs.Respond.{level_limit}
+use Rattle.page_meaning.specs.Work.{visit_limit, charge_limit}
+use Rattle.percent_encoding.specs.Percent.{percent_encode_byte, percent_decode}
+use Rattle.pg_text.specs.Escape.{escape_of}
+use Rattle.pg_text.specs.Path.{segments}
+use Rattle.std.specs.Fmt.{digits}
+use Rattle.std.specs.Int.{int_wrap}
+use Rattle.std.specs.Str.{is_utf8, chars}
+use Rattle.std.specs.Str.Lossy.{utf8_lossy, utf8_valid_len, utf8_error_len}
+use lib.Utf8.{encode}
+use Rattle.page_meaning_tests.specs.Includes.{Forward, Include, IncludeFault, IncludeRedirect, IncludeForward, ForwardLoop}
+
+pub forward : Forward
+unfolding put_limit visit_limit charge_limit level_limit escape_of null_text true_text false_text separator segments raw_pairs split byte_serialize int_wrap is_utf8 chars utf8_lossy digits encode percent_encode_byte percent_decode utf8_valid_len utf8_error_len trim_ows params_in path_of request_of
+forward = refl
+
+pub include : Include
+unfolding put_limit visit_limit charge_limit level_limit escape_of null_text true_text false_text separator segments raw_pairs split byte_serialize int_wrap is_utf8 chars utf8_lossy digits encode percent_encode_byte percent_decode utf8_valid_len utf8_error_len trim_ows params_in path_of request_of
+include = refl
+
+pub include_fault : IncludeFault
+unfolding put_limit visit_limit charge_limit level_limit escape_of null_text true_text false_text separator segments raw_pairs split byte_serialize int_wrap is_utf8 chars utf8_lossy digits encode percent_encode_byte percent_decode utf8_valid_len utf8_error_len trim_ows params_in path_of request_of
+include_fault = refl
+
+pub include_redirect : IncludeRedirect
+unfolding put_limit visit_limit charge_limit level_limit escape_of null_text true_text false_text separator segments raw_pairs split byte_serialize int_wrap is_utf8 chars utf8_lossy digits encode percent_encode_byte percent_decode utf8_valid_len utf8_error_len trim_ows params_in path_of request_of
+include_redirect = refl
+
+pub include_forward : IncludeForward
+unfolding put_limit visit_limit charge_limit level_limit escape_of null_text true_text false_text separator segments raw_pairs split byte_serialize int_wrap is_utf8 chars utf8_lossy digits encode percent_encode_byte percent_decode utf8_valid_len utf8_error_len trim_ows params_in path_of request_of
+include_forward = refl
+
+pub forward_loop : ForwardLoop
+unfolding put_limit visit_limit charge_limit level_limit escape_of null_text true_text false_text separator segments raw_pairs split byte_serialize int_wrap is_utf8 chars utf8_lossy digits encode percent_encode_byte percent_decode utf8_valid_len utf8_error_len trim_ows params_in path_of request_of
+forward_loop = refl

@@ -1,0 +1,14 @@
+pub mod AddressesCases
+pub mod AttributesCases
+pub mod BeansCases
+pub mod BodiesCases
+pub mod BuffersCases
+pub mod CallsCases
+pub mod CoreCases
+pub mod FaultsCases
+pub mod FunctionsCases
+pub mod IncludesCases
+pub mod LoopsCases
+pub mod ObjectsCases
+pub mod OperatorsCases
+pub mod RequestsCases

@@ -1,0 +1,15 @@
+pub mod Addresses
+pub mod Attributes
+pub mod Beans
+pub mod Bodies
+pub mod Buffers
+pub mod Calls
+pub mod Core
+pub mod Faults
+pub mod Functions
+pub mod Includes
+pub mod Loops
+pub mod Objects
+pub mod Operators
+pub mod Pages
+pub mod Requests
