@@ -1,0 +1,9 @@
+pub mod Counts
+pub mod Conditions
+pub mod Next
+pub mod CallLemmas
+pub mod PictureLemmas
+pub mod SoloLemmas
+pub mod Lasts
+pub mod ReplyLemmas
+pub mod Items

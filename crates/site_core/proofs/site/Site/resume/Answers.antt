@@ -1,0 +1,13 @@
+use Rattle.std.specs.Vec.{vec_capacity, vec_len}
+use Rattle.site_state.specs.Parts.{parts_of}
+use Rattle.site_core.proofs.Conditions.{opened_tree}
+use Rattle.site_core.proofs.Next.{starts}
+use Rattle.site_core.proofs.site.Site.resume.Goals as goal
+
+pub start-requires : goal.start-requires
+start-requires g c = opened_tree c.args.opening c.requires
+
+pub invariant_of-result : goal.invariant_of-result
+invariant_of-result g c =
+    starts g.P.Compiled.needs g.P.Compiled.made c.args.opening c.new.result.items (parts_of c.in_ok-held.held) (vec_len c.new.result) (vec_capacity c.new.result) c.requires c.new.ensures.items
+    c.in_ok-held.ensures.state c.in_ok-held.ensures.kept c.in_ok-held.ensures.there c.new.ensures.len

@@ -1,0 +1,125 @@
+ghost use Rattle.std.specs.Prelude.{◌≡◌, ◌==◌, not, map, nat_le};
+ghost use Rattle.std.specs.List.{list_all, list_any};
+ghost use Rattle.pg_value.specs.Limits.{is_over};
+ghost use Rattle.pg_value.specs.Value.{entry_of};
+ghost use Rattle.site_words.specs.declared.words.KeptSession.{KeptSession as TheSession};
+ghost use Rattle.site_words.specs.Opening.{are_distinct, is_sound_session, sound_app, sound_counts, sound_sessions, sound_tree};
+ghost use Rattle.site_words.specs.Trees.{every};
+ghost use Rattle.site_core.specs.Lived.{can_open};
+
+use pg_text::Text;
+use pg_value::{Value, is_too_large};
+use site_words::{KeptSession, Opening};
+use source_tree::Tree;
+
+/// The most passes of a site.
+pub const MAX_PASSES: u8 = 64;
+
+/// The first number that a version, a count of requests or a count of sessions of an opening doesn't reach.
+const COUNT_END: u64 = 1 << 63;
+
+/// How many sessions there are at most.
+const MAX_SESSIONS: usize = 4_096;
+
+/// The greatest weight of a session's attributes.
+const MAX_ATTRIBUTES_WEIGHT: u64 = 65_536;
+
+/// Whether a site may have the opening. It takes no memory.
+pub fn sound(opening: &Opening) -> bool
+    ensures { result ≡ can_open opening.now }
+{
+    sound_counts(opening)
+        && sound_tree(opening)
+        && sound_app(opening)
+        && sound_sessions(opening)
+        && opening.limit < u64::MAX
+}
+
+// Whether there are 1 to 64 passes, and the counts leave room.
+fn sound_counts(opening: &Opening) -> bool
+    ensures { result ≡ sound_counts opening.now }
+{
+    opening.passes >= 1
+        && opening.passes <= MAX_PASSES
+        && opening.version < COUNT_END
+        && opening.begins < COUNT_END
+        && opening.freshes < COUNT_END
+}
+
+// Whether the tree keeps its limits, and no stamp is later than the version.
+fn sound_tree(opening: &Opening) -> bool
+    ensures { result ≡ sound_tree opening.now }
+{
+    opening.tree.fault().is_none() && stamps_up_to(&opening.tree, opening.version)
+}
+
+// Whether no stamp is later than the version.
+fn stamps_up_to(tree: &Tree, version: u64) -> bool
+    ensures { result ≡ list_all (λ file. nat_le file.stamp version) tree.now }
+{
+    tree.iter().all(|file| file.stamp <= version)
+}
+
+// Whether each application value keeps the limits of a value.
+fn sound_app(opening: &Opening) -> bool
+    ensures { result ≡ sound_app opening.now }
+{
+    are_light(opening.app.as_slice())
+}
+
+fn are_light(entries: &[(Text, Value)]) -> bool
+    ensures { result ≡ list_all (λ e. not (is_over e.1)) (map entry_of entries.now) }
+{
+    for (_, value) in entries {
+        if is_too_large(value) {
+            return false;
+        }
+    }
+    true
+}
+
+// Whether the sessions are few enough, distinct, and each as it should be.
+fn sound_sessions(opening: &Opening) -> bool
+    ensures { result ≡ sound_sessions opening.now }
+{
+    let sessions = opening.sessions.as_slice();
+    sessions.len() <= MAX_SESSIONS && are_distinct(sessions) && are_sound(opening, sessions)
+}
+
+// Whether each session is as it should be.
+fn are_sound(opening: &Opening, sessions: &[KeptSession]) -> bool
+    ensures { result ≡ every (is_sound_session opening.now) sessions.now }
+{
+    for session in sessions {
+        if !is_sound_session(opening, session) {
+            return false;
+        }
+    }
+    true
+}
+
+// Whether no two sessions have one number.
+fn are_distinct(sessions: &[KeptSession]) -> bool
+    ensures { result ≡ are_distinct sessions.now }
+{
+    for index in 0..sessions.len() {
+        if has_number(&sessions[index + 1..], sessions[index].number) {
+            return false;
+        }
+    }
+    true
+}
+
+fn has_number(sessions: &[KeptSession], number: u64) -> bool
+    ensures { result ≡ list_any (λ (other : TheSession). other.number == number) sessions.now }
+{
+    sessions.iter().any(|session| session.number == number)
+}
+
+fn is_sound_session(opening: &Opening, session: &KeptSession) -> bool
+    ensures { result ≡ is_sound_session opening.now session.now }
+{
+    session.number < opening.freshes
+        && session.used <= opening.moment
+        && session.attrs.weight() <= MAX_ATTRIBUTES_WEIGHT
+}

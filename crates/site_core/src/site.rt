@@ -1,0 +1,172 @@
+ghost use Rattle.std.specs.Prelude.{◌≡◌, ◌==◌, ◌<◌, ◌^◌, [], length, true, IfOk};
+ghost use Rattle.edges.specs.Acted.{IsDid};
+ghost use Rattle.site_words.specs.Fits.{at_rest, fits};
+ghost use Rattle.site_words.specs.Ids.{id_of};
+ghost use Rattle.site_words.specs.Law.{Legal, May, Sure, own, run_of};
+ghost use Rattle.site_words.specs.Opening.{is_sound};
+ghost use Rattle.site_words.specs.State.{after};
+ghost use Rattle.site_state.specs.Gifts.{IsMade, value_in};
+ghost use Rattle.site_core.specs.Applies.{Applies};
+ghost use Rattle.site_core.specs.Lived.{can_open, first_opening};
+
+use crate::condition;
+use pg_text::Text;
+use pg_value::Attrs;
+use site_state::{Act, Done, Given, Held, session_id};
+use site_words::{Acted, Compiled, Entry, KeptSessions, Op, Opening, Refusal};
+use source_tree::Tree;
+use std::alloc::{AllocError, Global};
+use std::marker::Model;
+
+/// A site. Contracts see its opening and its history.
+#[derive(Drop)]
+pub struct Site<P: Compiled> {
+    alloc: Global,
+    opening: Opening,
+    history: Vec<Entry>,
+    held: Held<P>,
+}
+
+impl<P: Compiled> Model for Site<P> {
+    ghost use Rattle.site_core.specs.Lived.{Lived};
+    ghost use Rattle.site_core.specs.ReadSite.{IsSite};
+    ghost use Rattle.site_state.specs.Parts.{parts_of};
+    ghost use Rattle.std.specs.Vec.{vec_len, vec_capacity};
+
+    ghost Value = { Lived };
+
+    ghost use Rattle.pg_value.specs.DatumCode.{data_code, datum_code, entries_code};
+    ghost use Rattle.std.specs.Coded.{codes};
+
+    ghost coded = { Prim.hlevel (codes, entries_code, data_code, datum_code) };
+
+    ghost view = { λ s. record { opening = s.opening; history = s.history.items } };
+
+    ghost invariant = { λ s. IsSite P.needs P.made s.opening s.history.items (parts_of s.held) (vec_len s.history) (vec_capacity s.history) };
+}
+
+/// A new site of these application attributes and this tree, whose journal weighs at most `limit`, for as many passes, whose
+/// sessions end once they weren't used for more than `idle` seconds.
+pub fn start<P: Compiled>(
+    alloc: Global,
+    seed: [u8; 32],
+    app: Attrs,
+    tree: Tree,
+    limit: u64,
+    passes: u8,
+    idle: u64,
+) -> Result<Site<P>, AllocError>
+    requires { can_open (first_opening seed app tree limit passes idle) ≡ true }
+    ensures { IfOk result (λ site. (site.opening ≡ first_opening seed app tree limit passes idle) × (site.history ≡ [])) }
+{
+    Site::resume(
+        alloc,
+        Opening {
+            seed,
+            limit,
+            passes,
+            idle,
+            version: 0,
+            begins: 0,
+            freshes: 0,
+            moment: 0,
+            app,
+            tree,
+            sessions: KeptSessions::empty(alloc),
+        },
+    )
+}
+
+impl<P: Compiled> Site<P> {
+    /// The site of this opening, with an empty history.
+    pub fn resume(alloc: Global, opening: Opening) -> Result<Self, AllocError>
+        requires { can_open opening ≡ true }
+        ensures { IfOk result (λ site. (site.opening ≡ opening) × (site.history ≡ [])) }
+    {
+        let held = Held::start(alloc, &opening)?;
+        Ok(Site {
+            alloc,
+            opening,
+            history: Vec::new(alloc),
+            held,
+        })
+    }
+
+    /// The history is legal, its opening is sound, and it is shorter than 2^63, always.
+    pub fn law(&self)
+        ensures legal { Legal P.needs self.now.opening self.now.history }
+        ensures sound { is_sound self.now.opening ≡ true }
+        ensures short { length self.now.history < 2 ^ 63 }
+    {
+        let _ = &self.history;
+    }
+
+    /// The length of the history.
+    pub fn len(&self) -> u64
+        ensures { result ≡ length self.now.history }
+    {
+        self.history.len() as u64
+    }
+
+    pub fn is_empty(&self) -> bool
+        ensures { result ≡ (length self.now.history == 0) }
+    {
+        self.history.is_empty()
+    }
+
+    pub fn history(&self) -> &[Entry]
+        ensures { result.now ≡ self.now.history }
+    {
+        &self.history
+    }
+
+    pub fn opening(&self) -> &Opening
+        ensures { result.now ≡ self.now.opening }
+    {
+        &self.opening
+    }
+
+    /// Whether no request is under way.
+    pub fn at_rest(&self) -> bool
+        ensures { result ≡ at_rest (after P.needs self.now.opening self.now.history).runs }
+    {
+        condition::at_rest(&self.held.runs)
+    }
+
+    /// Whether the operation meets the condition of a step. It takes no memory.
+    pub fn fits(&self, pass: u8, op: &Op) -> bool
+        ensures { result ≡ fits self.now.opening (after P.needs self.now.opening self.now.history) pass op.now }
+    {
+        condition::fits(&self.opening, &self.held, pass, op)
+    }
+
+    /// The id of the session with this number.
+    pub fn session_id(&self, number: u64) -> Result<Text, AllocError>
+        ensures { IfOk result (λ id. id ≡ id_of self.now.opening.seed number) }
+    {
+        session_id(self.alloc, self.opening.seed, number)
+    }
+
+    /// Does one operation of a pass, which adds one entry; or refuses it or finds no memory, which leaves all as it was. The
+    /// last operation of a request takes no memory and is never refused.
+    pub fn apply(&mut self, pass: u8, act: Act<P>) -> Acted<Given<P>, Refusal>
+        requires may { May self.old.opening self.old.history pass (own pass self.old.history) act.op }
+        requires made { IsMade P.made self.old.opening self.old.history (run_of (own pass self.old.history)) act.op (value_in act.made) }
+        ensures applies { Applies P.needs P.made self.old self.new pass act.op result }
+        ensures sure { Sure self.old.opening self.old.history pass (own pass self.old.history) act.op → IsDid result }
+    {
+        let Act { op, made } = act;
+        let Ok(()) = self.held.reserve(&mut self.history, &op) else {
+            return Acted::NoMemory;
+        };
+        match self.held.act(&self.opening, &self.history, pass, &op, made) {
+            Acted::Did(done) => {
+                let Done { reply, given } = done;
+                self.history.push_reserved(Entry { pass, op, reply });
+                Acted::Did(given)
+            }
+            Acted::Refused(refusal) => Acted::Refused(refusal),
+            Acted::NoMemory => Acted::NoMemory,
+        }
+    }
+}

@@ -1,0 +1,10 @@
+pub mod Digits
+pub mod SessionLemmas
+pub mod AttributeLemmas
+pub mod Moving
+pub mod Keeping
+pub mod Steps
+pub mod ValueSteps
+pub mod RequestSteps
+pub mod JournalSteps
+pub mod Arms

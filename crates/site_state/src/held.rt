@@ -1,0 +1,32 @@
+mod app;
+mod begin;
+mod end;
+mod fresh;
+mod publish;
+mod snapshot;
+mod start;
+mod values;
+
+use crate::request::Request;
+use crate::session::Session;
+use pg_value::Attrs;
+use program_store::Store;
+use source_tree::Tree;
+use std::alloc::Global;
+use std::sync::Arc;
+
+/// All that a site holds beside its opening and its history.
+#[derive(Drop)]
+pub struct Held<P> {
+    pub alloc: Global,
+    pub tree: Arc<Tree>,
+    pub version: u64,
+    pub app: Attrs,
+    pub sessions: Vec<Session>,
+    pub runs: Vec<Option<Request>>,
+    pub store: Store<P>,
+    pub begins: u64,
+    pub freshes: u64,
+    pub moment: u64,
+    pub weight: u64,
+}
