@@ -29,7 +29,7 @@ use Rattle.page_meaning.specs.Page.{Variable, Property, every, one, Attributes}
 use Rattle.page_meaning.specs.Request.{first_values}
 use Rattle.page_meaning.specs.Rounds.{Round, status_record, given_items, rounds_of, token_items}
 use Rattle.page_meaning.specs.State.{State}
-use Rattle.page_meaning.specs.Step.{tells_created}
+use Rattle.site_words.specs.PageSteps.{tells_created}
 use Rattle.page_meaning.specs.Variables.{set_held, assign, assign_variable, look_up, with_page_variable, without_page_variable}
 use Rattle.page_meaning.specs.Went.{Went, Did, Well, Raised, then_do, either, result_of}
 use Rattle.page_meaning.specs.Work.{visit, ask}

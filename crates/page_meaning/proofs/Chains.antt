@@ -15,7 +15,7 @@ use Rattle.page_meaning.specs.Page.{Page}
 use Rattle.page_meaning.specs.Respond.{at_start, first_run, OnFault, run_answer, target_answer, chain_answer}
 use Rattle.page_meaning.specs.Response.{Answered, end_state, whole, plain_line, file_type, page_response}
 use Rattle.page_meaning.specs.State.{State}
-use Rattle.page_meaning.specs.Step.{Step}
+use Rattle.site_words.specs.PageSteps.{Step}
 use Rattle.page_meaning.specs.Went.{Did, Well, Raised, Ended, Awaits, forwards, redirects}
 use Rattle.out_buffer.specs.Writer.{has_committed}
 use Rattle.page_meaning.proofs.Nested.{page_run_orderly, uncommitted}

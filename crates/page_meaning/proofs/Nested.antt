@@ -22,7 +22,7 @@ use Rattle.page_meaning.specs.Includes.{target_path, target_params, is_page_path
 use Rattle.page_meaning.specs.Loops.{with_named}
 use Rattle.page_meaning.specs.Page.{Page, Nodes, Attributes, Body, TagFile}
 use Rattle.page_meaning.specs.State.{State, in_scopes, in_writer}
-use Rattle.page_meaning.specs.Step.{Step, fresh, fetch}
+use Rattle.site_words.specs.PageSteps.{Step, fresh, fetch}
 use Rattle.page_meaning.specs.Tags.{first_frame, with_frame_of, call_ended, call_run, call_of, call_mean, tag_mean, tag_coercion}
 use Rattle.page_meaning.specs.Variables.{back_to}
 use Rattle.page_meaning.specs.Went.{Went, Did, Well, Raised, Ended, Awaits, Leaving, forwards, redirects, then_do, either, result_of}

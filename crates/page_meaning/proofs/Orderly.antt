@@ -6,7 +6,7 @@ use Rattle.pg_value.specs.declared.fault.RunFault.{RunFault}
 use Rattle.site_words.specs.Law.{Answer}
 use Rattle.page_meaning.specs.Growth.{state_of, with_more, with_asked, Grows, AsksOn, GoesOn, LeavesBy, Leaves}
 use Rattle.page_meaning.specs.State.{State}
-use Rattle.page_meaning.specs.Step.{Step}
+use Rattle.site_words.specs.PageSteps.{Step}
 use Rattle.page_meaning.specs.Went.{Went, Well, Raised, Ended, Awaits, Leaving, forwards, redirects, then_do, tidied, either, result_of}
 
 front_same : {E : Type 0} (a : List E) → IsFront a a

@@ -22,7 +22,7 @@ use Rattle.page_meaning.specs.Expressions.{found_nowhere, variable_or_step, name
 use Rattle.page_meaning.specs.Implicit.{Keyed, held_scope, application_scope, header, header_values, Implicit, keyed, page_context, param, param_values, cookie, init_param, implicit_named, page_context_record, scope_entries, whole_application, keyed_value, implicit_value, entry_under, entry_of_object}
 use Rattle.page_meaning.specs.Page.{Part, words, expression, Attributes}
 use Rattle.page_meaning.specs.State.{State}
-use Rattle.page_meaning.specs.Step.{told_value, tells_large}
+use Rattle.site_words.specs.PageSteps.{told_value, tells_large}
 use Rattle.page_meaning.specs.Went.{Went, Did, Well, Raised, then_do, either, result_of}
 use Rattle.page_meaning.specs.Work.{ask}
 use Rattle.page_meaning.proofs.Orderly.{Orderly, well, raised, result, thens, eithers}

@@ -21,7 +21,7 @@ use Rattle.page_meaning.specs.Bodies.{put_text, taken, keeping, kept_value, give
 use Rattle.page_meaning.specs.Growth.{state_of, with_more, with_asked, AsksOn}
 use Rattle.page_meaning.specs.Page.{Variable}
 use Rattle.page_meaning.specs.State.{State, in_scopes, in_writer}
-use Rattle.page_meaning.specs.Step.{app, fetch, told_value}
+use Rattle.site_words.specs.PageSteps.{app, fetch, told_value}
 use Rattle.page_meaning.specs.Variables.{set_held, set_application, set_in, assign, remove_in, unassign, unassign_in, assign_variable, scope_or_page, without_inner, inner_found, look_up_else, look_up, back_to}
 use Rattle.page_meaning.specs.Went.{Went, Did, Well, Raised, then_do, either, result_of}
 use Rattle.page_meaning.specs.Work.{visit_limit, visit, visited, is_spent, answer_from, ask, fetched}

@@ -20,7 +20,7 @@ use Rattle.page_meaning.specs.Bodies.{put_text}
 use Rattle.page_meaning.specs.Page.{Property, every, one, Attributes, no_attributes, written, given}
 use Rattle.page_meaning.specs.Request.{first_values}
 use Rattle.page_meaning.specs.State.{State}
-use Rattle.page_meaning.specs.Step.{tells_created}
+use Rattle.site_words.specs.PageSteps.{tells_created}
 use Rattle.page_meaning.specs.Variables.{set_held, assign, look_up}
 use Rattle.page_meaning.specs.Went.{Did, Went, Well, Raised, then_do, either, result_of}
 use Rattle.page_meaning.specs.Work.{ask}

@@ -21,7 +21,7 @@ use Rattle.site_words.specs.declared.words.AppStep.TheVariants as step
 use Rattle.page_meaning.specs.Context.{Served, Here, is_strict}
 use Rattle.page_meaning.specs.Implicit.{Keyed, keyed, Implicit, implicit_named, implicit_value, entry_of_object}
 use Rattle.page_meaning.specs.State.{State}
-use Rattle.page_meaning.specs.Step.{told_value}
+use Rattle.site_words.specs.PageSteps.{told_value}
 use Rattle.page_meaning.specs.Went.{Went, Well, Raised, then_do, either, result_of}
 use Rattle.page_meaning.specs.Work.{visited, ask}
 

@@ -3,7 +3,7 @@ use Rattle.std.specs.Prelude.{◌≡◌, ◌<◌, ℕ, List, [], ◌∷◌, ◌+
 use Rattle.edges.specs.History.{IsFront}
 use Rattle.site_words.specs.Law.{Answer}
 use Rattle.page_meaning.specs.State.{State}
-use Rattle.page_meaning.specs.Step.{Step}
+use Rattle.site_words.specs.PageSteps.{Step}
 use Rattle.page_meaning.specs.Went.{Went, Well, Raised, Ended, Awaits, Leaving, forwards, redirects}
 
 -- the state in which a part went or waits

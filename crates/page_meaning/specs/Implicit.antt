@@ -19,7 +19,7 @@ use Rattle.page_meaning.specs.Context.{Served, Here, run_of}
 use Rattle.page_meaning.specs.Faults.{Raise, fault_record}
 use Rattle.page_meaning.specs.Request.{first_values, all_values, header_texts, cookie_records, request_record}
 use Rattle.page_meaning.specs.State.{State}
-use Rattle.page_meaning.specs.Step.{told_value, tells_large}
+use Rattle.site_words.specs.PageSteps.{told_value, tells_large}
 use Rattle.page_meaning.specs.Went.{Went, Well, Raised, then_do, either, result_of}
 use Rattle.page_meaning.specs.Work.{ask}
 

@@ -14,7 +14,7 @@ use Rattle.page_meaning.specs.Bodies.{put_text}
 use Rattle.page_meaning.specs.Context.{Served, Run, Here, in_page, Paged, absent, plain, bad, good, Deeper, no_deeper, deeper}
 use Rattle.page_meaning.specs.Page.{Page, Nodes}
 use Rattle.page_meaning.specs.State.{State, in_scopes, in_writer}
-use Rattle.page_meaning.specs.Step.{fresh, told_id}
+use Rattle.site_words.specs.PageSteps.{fresh, told_id}
 use Rattle.page_meaning.specs.Variables.{back_to}
 use Rattle.page_meaning.specs.Went.{Did, Went, Well, Raised, Ended, Awaits, forwards, redirects, then_do, either}
 use Rattle.page_meaning.specs.Work.{is_spent, fetched}

@@ -21,7 +21,7 @@ use Rattle.page_meaning.specs.Page.{Page, Node, Nodes, Attributes, Params, Branc
 use Rattle.page_meaning.specs.Respond.{OnFault, FoundSession, chain_answer, level_limit, respond}
 use Rattle.page_meaning.specs.Response.{Answered, responds, awaits, end_state}
 use Rattle.page_meaning.specs.State.{State}
-use Rattle.page_meaning.specs.Step.{Step}
+use Rattle.site_words.specs.PageSteps.{Step}
 use Rattle.page_meaning.specs.Tags.{call_run}
 use Rattle.page_meaning.specs.Went.{Went, Raised}
 

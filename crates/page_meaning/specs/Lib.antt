@@ -21,7 +21,6 @@ pub mod Respond
 pub mod Response
 pub mod Rounds
 pub mod State
-pub mod Step
 pub mod Tags
 pub mod Variables
 pub mod Went

@@ -7,7 +7,7 @@ use Rattle.http_out.specs.declared.status.Status.{Status}
 use Rattle.http_out.specs.declared.status.Status.TheVariants as status_is
 use Rattle.page_meaning.specs.Page.{Page}
 use Rattle.page_meaning.specs.State.{State}
-use Rattle.page_meaning.specs.Step.{Step}
+use Rattle.site_words.specs.PageSteps.{Step}
 
 -- what a request is answered, with the state in which it ends; or the step that has no answer yet
 pub data Answered : Type 0 where

@@ -2,7 +2,7 @@
 use Rattle.std.specs.Prelude.{ℕ, Bool, List, Option}
 use Rattle.scopes.specs.Scopes.{ScopeState}
 use Rattle.site_words.specs.Law.{Answer}
-use Rattle.page_meaning.specs.Step.{Step}
+use Rattle.site_words.specs.PageSteps.{Step}
 use Rattle.out_buffer.specs.Writer.{Writer}
 
 -- the variables, the writer, the visits and the charge so far, the id of the session and whether this request made it, the answers

@@ -14,7 +14,7 @@ use Rattle.scopes.specs.declared.held_scope.HeldScope.TheVariants as held
 use Rattle.site_words.specs.declared.words.AppStep.TheVariants as step
 use Rattle.page_meaning.specs.Page.{Variable}
 use Rattle.page_meaning.specs.State.{State, in_scopes}
-use Rattle.page_meaning.specs.Step.{told_value}
+use Rattle.site_words.specs.PageSteps.{told_value}
 use Rattle.page_meaning.specs.Went.{Did, Went, Well, Raised, then_do, either, result_of}
 use Rattle.page_meaning.specs.Work.{ask}
 

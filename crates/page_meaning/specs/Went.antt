@@ -4,7 +4,7 @@ use Rattle.http_in.specs.declared.params.Param.{Param}
 use Rattle.pg_text.specs.declared.place.Place.{Place}
 use Rattle.pg_value.specs.declared.fault.RunFault.{RunFault}
 use Rattle.page_meaning.specs.State.{State}
-use Rattle.page_meaning.specs.Step.{Step}
+use Rattle.site_words.specs.PageSteps.{Step}
 
 -- why a page ended before its end: a forward to a path with parameters, below which so many levels are left, or a redirect
 pub data Leaving : Type 0 where

@@ -5,7 +5,7 @@ use Rattle.pg_value.specs.declared.fault.RunFault.TheVariants as fault
 use Rattle.site_words.specs.Law.{Answer}
 use Rattle.site_words.specs.declared.words.AppStep.{AppStep}
 use Rattle.page_meaning.specs.State.{State}
-use Rattle.page_meaning.specs.Step.{app, fetch, step_charge, page_charge}
+use Rattle.site_words.specs.PageSteps.{app, fetch, step_charge, page_charge}
 use Rattle.page_meaning.specs.Went.{Went, Did, Well, Raised, Awaits, then_do, either}
 
 -- how many visits a request has

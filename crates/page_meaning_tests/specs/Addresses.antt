@@ -4,7 +4,7 @@ use Rattle.http_out.specs.declared.status.Status.TheVariants as status_is
 use Rattle.page_meaning.specs.Context.{Paged, good}
 use Rattle.page_meaning.specs.Page.{words, expression, template, shown, catch, import, url, redirect, no_nodes, no_attributes, written, no_params, param}
 use Rattle.page_meaning.specs.Respond.{respond}
-use Rattle.page_meaning.specs.Step.{fetch}
+use Rattle.site_words.specs.PageSteps.{fetch}
 use Rattle.page_meaning_tests.specs.Pages.{at, column, in_order, variable, plain_page, paged_in, get, response, html, line, seen, alone}
 use Rattle.pg_value.specs.Datum.{text}
 use Rattle.std.specs.Prelude.{◌≡◌, ℕ, List, [], ◌∷◌, codes, false, Some, None}

@@ -3,7 +3,7 @@ use Rattle.el_reader.specs.Tree as tree
 use Rattle.page_meaning.specs.Context.{Paged}
 use Rattle.page_meaning.specs.Page.{words, expression, template, shown, out, group, no_nodes, no_attributes, written, given}
 use Rattle.page_meaning.specs.Respond.{respond}
-use Rattle.page_meaning.specs.Step.{fetch}
+use Rattle.site_words.specs.PageSteps.{fetch}
 use Rattle.page_meaning_tests.specs.Pages.{column, in_order, paged_in, get, html, seen, alone}
 use Rattle.pg_value.specs.Datum.{null, number}
 use Rattle.std.specs.Prelude.{◌≡◌, ℕ, List, [], ◌∷◌, codes, true, false, Some, None, pos}

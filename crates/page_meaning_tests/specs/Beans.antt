@@ -3,7 +3,7 @@ use Rattle.el_reader.specs.Tree as tree
 use Rattle.page_meaning.specs.Context.{Paged, plain, good}
 use Rattle.page_meaning.specs.Page.{every, one, words, template, shown, catch, use_bean, get_property, set_property, no_nodes, no_attributes, written}
 use Rattle.page_meaning.specs.Respond.{respond}
-use Rattle.page_meaning.specs.Step.{app, fetch}
+use Rattle.site_words.specs.PageSteps.{app, fetch}
 use Rattle.page_meaning_tests.specs.Pages.{column, in_order, plain_settings, page, paged_in, get, tells, tells_done, tells_made, html, seen}
 use Rattle.pg_value.specs.Datum.{null, truth, number, text, list, rec, no_items, item, no_entries, entry}
 use Rattle.pg_value.specs.Value.{value_of}

@@ -3,7 +3,7 @@ use Rattle.el_reader.specs.Tree as tree
 use Rattle.page_meaning.specs.Context.{Paged, plain, good}
 use Rattle.page_meaning.specs.Page.{words, expression, template, shown, set, catch, when_true, each, do_body, invoke, call, no_nodes, no_attributes, written, given, no_body, given_body}
 use Rattle.page_meaning.specs.Respond.{respond}
-use Rattle.page_meaning.specs.Step.{app, fetch}
+use Rattle.site_words.specs.PageSteps.{app, fetch}
 use Rattle.page_meaning_tests.specs.Pages.{at, column, in_order, variable, plain_settings, with_session, page, tag_file, paged_in, get, tells, html, seen}
 use Rattle.pg_value.specs.Datum.{null, number, text}
 use Rattle.pg_value.specs.declared.operators.BinOp.TheVariants as binary_op

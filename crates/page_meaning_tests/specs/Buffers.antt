@@ -4,7 +4,7 @@ use Rattle.http_out.specs.declared.status.Status.TheVariants as status_is
 use Rattle.page_meaning.specs.Context.{Paged, plain, good}
 use Rattle.page_meaning.specs.Page.{words, template, shown, set, catch, redirect, forward, no_attributes, written, no_params}
 use Rattle.page_meaning.specs.Respond.{respond}
-use Rattle.page_meaning.specs.Step.{fetch}
+use Rattle.site_words.specs.PageSteps.{fetch}
 use Rattle.page_meaning_tests.specs.Pages.{column, in_order, variable, settings, page, paged_in, get, response, html, seen}
 use Rattle.pg_value.specs.Datum.{null, number, text}
 use Rattle.pg_value.specs.declared.operators.BinOp.TheVariants as binary_op

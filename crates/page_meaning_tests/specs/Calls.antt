@@ -4,7 +4,7 @@ use Rattle.http_out.specs.declared.status.Status.TheVariants as status_is
 use Rattle.page_meaning.specs.Context.{Paged, plain, good}
 use Rattle.page_meaning.specs.Page.{words, expression, template, shown, set, catch, forward, do_body, call, no_nodes, no_attributes, written, no_params, no_body, given_body}
 use Rattle.page_meaning.specs.Respond.{respond}
-use Rattle.page_meaning.specs.Step.{app, fetch}
+use Rattle.site_words.specs.PageSteps.{app, fetch}
 use Rattle.page_meaning_tests.specs.Pages.{at, column, in_order, variable, plain_settings, with_session, page, tag_file, paged_in, get, tells, response, html, line, seen}
 use Rattle.pg_value.specs.Datum.{null, number}
 use Rattle.pg_value.specs.declared.operators.BinOp.TheVariants as binary_op

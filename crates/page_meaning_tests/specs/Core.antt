@@ -3,7 +3,7 @@ use Rattle.el_reader.specs.Tree as tree
 use Rattle.page_meaning.specs.Context.{Paged}
 use Rattle.page_meaning.specs.Page.{words, expression, template, shown, out, set, set_entry, remove, catch, when_true, choose, no_nodes, no_attributes, written, no_branches, when, otherwise}
 use Rattle.page_meaning.specs.Respond.{respond}
-use Rattle.page_meaning.specs.Step.{app, fetch}
+use Rattle.site_words.specs.PageSteps.{app, fetch}
 use Rattle.page_meaning_tests.specs.Pages.{column, in_order, variable, paged_in, get, tells, tells_done, html, seen, awaited, alone}
 use Rattle.pg_value.specs.Datum.{null, number, text}
 use Rattle.pg_value.specs.declared.operators.BinOp.TheVariants as binary_op

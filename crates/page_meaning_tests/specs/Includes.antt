@@ -4,7 +4,7 @@ use Rattle.http_out.specs.declared.status.Status.TheVariants as status_is
 use Rattle.page_meaning.specs.Context.{Paged, plain, bad, good}
 use Rattle.page_meaning.specs.Page.{words, template, shown, set, catch, import, redirect, include, forward, no_nodes, no_attributes, written, no_params, param}
 use Rattle.page_meaning.specs.Respond.{respond}
-use Rattle.page_meaning.specs.Step.{app, fetch}
+use Rattle.site_words.specs.PageSteps.{app, fetch}
 use Rattle.page_meaning_tests.specs.Pages.{at, column, in_order, variable, plain_page, paged_in, get, tells, response, html, line, seen, alone}
 use Rattle.pg_text.specs.declared.translation_fault.TranslationFault.TheVariants as page_fault
 use Rattle.pg_value.specs.Datum.{null, number, text}

@@ -3,7 +3,7 @@ use Rattle.el_reader.specs.Tree as tree
 use Rattle.page_meaning.specs.Context.{Paged}
 use Rattle.page_meaning.specs.Page.{words, expression, template, shown, catch, each, each_token, no_attributes, written}
 use Rattle.page_meaning.specs.Respond.{respond}
-use Rattle.page_meaning.specs.Step.{app, fetch}
+use Rattle.site_words.specs.PageSteps.{app, fetch}
 use Rattle.page_meaning_tests.specs.Pages.{column, in_order, paged_in, get, tells, html, seen, alone}
 use Rattle.pg_value.specs.Datum.{null, number, text}
 use Rattle.pg_value.specs.declared.operators.BinOp.TheVariants as binary_op

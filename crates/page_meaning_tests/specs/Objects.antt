@@ -5,7 +5,7 @@ use Rattle.http_out.specs.declared.status.Status.TheVariants as status_is
 use Rattle.page_meaning.specs.Context.{Paged, good}
 use Rattle.page_meaning.specs.Page.{words, expression, shown, set, catch, no_nodes, no_attributes, written}
 use Rattle.page_meaning.specs.Respond.{respond}
-use Rattle.page_meaning.specs.Step.{app, fresh, fetch}
+use Rattle.site_words.specs.PageSteps.{app, fresh, fetch}
 use Rattle.page_meaning_tests.specs.Pages.{at, column, in_order, variable, settings, with_session, page, paged_in, get, field, tells, tells_done, response, html, seen, awaited, alone}
 use Rattle.pg_value.specs.Datum.{null, number, text, list, rec, no_items, item, no_entries, entry}
 use Rattle.pg_value.specs.Value.{value_of}

@@ -4,7 +4,7 @@ use Rattle.http_out.specs.declared.status.Status.TheVariants as status_is
 use Rattle.page_meaning.specs.Context.{Paged, bad}
 use Rattle.page_meaning.specs.Page.{shown}
 use Rattle.page_meaning.specs.Respond.{respond}
-use Rattle.page_meaning.specs.Step.{fetch}
+use Rattle.site_words.specs.PageSteps.{fetch}
 use Rattle.page_meaning_tests.specs.Pages.{at, column, paged_in, get, html, line, seen, alone}
 use Rattle.pg_text.specs.declared.translation_fault.TranslationFault.TheVariants as page_fault
 use Rattle.pg_value.specs.Datum.{null, truth, number, text}

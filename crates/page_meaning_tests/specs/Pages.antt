@@ -21,7 +21,7 @@ use Rattle.tag_decl.specs.declared.declaration.TagDecl.{TagDecl}
 use Rattle.page_meaning.specs.Context.{Paged, absent, good}
 use Rattle.page_meaning.specs.Page.{Node, Nodes, no_nodes, more_nodes, Page, TagFile, Variable}
 use Rattle.page_meaning.specs.Response.{Answered, responds, awaits}
-use Rattle.page_meaning.specs.Step.{Step}
+use Rattle.site_words.specs.PageSteps.{Step}
 
 -- a place, whose byte no fault tells
 abbrev pub at : (file : List ℕ) → (line column : ℕ) → Place

@@ -4,7 +4,7 @@ use Rattle.http_out.specs.declared.status.Status.TheVariants as status_is
 use Rattle.page_meaning.specs.Context.{Paged, plain, good}
 use Rattle.page_meaning.specs.Page.{words, template, shown, include, forward, no_attributes, written, no_params}
 use Rattle.page_meaning.specs.Respond.{respond}
-use Rattle.page_meaning.specs.Step.{fresh, fetch}
+use Rattle.site_words.specs.PageSteps.{fresh, fetch}
 use Rattle.page_meaning_tests.specs.Pages.{at, column, in_order, settings, with_session, page, plain_page, paged_in, get, response, line, seen, awaited}
 use Rattle.pg_value.specs.Datum.{number, text}
 use Rattle.pg_value.specs.declared.operators.BinOp.TheVariants as binary_op

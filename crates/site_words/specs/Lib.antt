@@ -14,6 +14,7 @@ pub mod Calls
 pub mod History
 pub mod Answers
 pub mod Running
+pub mod PageSteps
 pub mod Copies
 pub mod Invariants
 pub mod Laws

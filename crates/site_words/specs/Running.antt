@@ -59,11 +59,16 @@ abbrev pub IsGivenSession : Asking → Asking → {E : Type 0} → Result Fresh 
 IsGivenSession old new (Ok fresh) = (new.answers ≡ old.answers ++ id fresh.id ∷ []) × (new.has_session ≡ true) × (new.left + 64 ≡ old.left)
 IsGivenSession old new (Err e) = new ≡ old
 
--- a page was looked for, which is no step of the request
-pub record HasLooked (old new : Asking) (path : List ℕ) : Type 0 where
+-- what a look takes of the promise at most: nothing where no file stands
+abbrev pub look_claim : List ℕ → Option File → ℕ
+look_claim path None = 0
+look_claim path (Some file) = page_claim path
+
+-- what stands at a path was looked for, which is no step of the request
+pub record HasLooked (old new : Asking) (path : List ℕ) (found : Option File) : Type 0 where
   pub answers : new.answers ≡ old.answers
   pub has_session : new.has_session ≡ old.has_session
-  pub left : old.left ≤ new.left + page_claim path
+  pub left : old.left ≤ new.left + look_claim path found
 
 -- a file that isn't a page is answered by its text
 abbrev pub IsPlain : List ℕ → Option File → List ℕ → Type 0

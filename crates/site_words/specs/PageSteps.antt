@@ -1,4 +1,4 @@
--- The steps that a run asks of the site, what their answers tell, and what they charge.
+-- The steps that pages ask of the site, what their answers tell, and what they charge.
 use Rattle.std.specs.Prelude.{ℕ, ◌+◌, Bool, true, false, List, []}
 use Rattle.pg_value.specs.Datum.{Datum, null}
 use Rattle.pg_value.specs.Value.{datum_of}
