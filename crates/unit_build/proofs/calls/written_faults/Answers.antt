@@ -1,0 +1,18 @@
+use Rattle.std.proofs.Common.{◌≡◌, ◌∙◌, ◌<◌, ◌∷◌, [], length, take, ap, arith}
+use Rattle.page_directives.specs.Faults.{in_order}
+use Rattle.jstl_tags.specs.Content.{attribute_names}
+use Rattle.unit_build.specs.Calls.{names_faults}
+use Rattle.unit_build.proofs.CallLemmas.{written_joined}
+use Rattle.unit_build.proofs.MoreLemmas.{one_more}
+use Rattle.unit_build.proofs.calls.written_faults.Goals as goal
+
+pub loop-attribute-preserved : goal.loop-attribute-preserved
+loop-attribute-preserved c =
+    let attributes = c.args.attributes.now in
+    let a = c.attribute-item.result in
+    let i = c.loop-attribute.attribute-index in
+    let decl = c.args.decl.now in
+    let within : i < length attributes = grind arith in
+    let one : c.given_faults.result ≡ in_order (names_faults decl (attribute_names attributes) (a.name ∷ [])) = c.given_faults.ensures ∙ ap (λ name. in_order (names_faults decl (attribute_names attributes) (name ∷ []))) c.as_str.ensures in
+    c.and-faults.ensures.of (names_faults decl (attribute_names attributes) (attribute_names (take i attributes))) (names_faults decl (attribute_names attributes) (a.name ∷ [])) c.loop-attribute.invariant one
+    ∙ ap in_order (one_more (λ xs. names_faults decl (attribute_names attributes) (attribute_names xs)) (written_joined decl (attribute_names attributes)) attributes i a within c.attribute-item.is)

@@ -1,0 +1,14 @@
+use Rattle.unit_source.specs.Files.{text_in}
+use Rattle.jstl_tags.specs.Elements.{opened_of}
+use Rattle.unit_build.specs.Counts.{counts_within}
+use Rattle.unit_build.specs.Made.{kind_made}
+use Rattle.unit_build.specs.Walk.{file_met}
+use Rattle.unit_build.proofs.CalledLemmas.{called_from}
+use Rattle.unit_build.proofs.OkLemmas.{if_ok}
+use Rattle.unit_build.proofs.start.meet_nested.Goals as goal
+
+pub returns : goal.returns
+returns c =
+    let old = c.args.found.now in
+    if_ok c.meet_file.result c.meet_file.ensures
+    (λ answer is before. called_from (file_met (text_in old.site) (kind_made c.args.kind.now) (opened_of c.args.head.now).tag) before c.nest.new.self (counts_within c.args.here.deep old.counts) c.nest.ensures (is before))

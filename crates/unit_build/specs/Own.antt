@@ -1,0 +1,12 @@
+-- The directives that decide what a tag file declares: those of the first reading that stand in the file itself.
+use Rattle.std.specs.Prelude.{ℕ, Bool, List, filter}
+use Rattle.std.specs.Str.{bytes_eq}
+use Rattle.page_directives.specs.Directive.{Directive}
+use Rattle.unit_source.specs.Root.{Root}
+
+-- a directive stands in that file
+abbrev pub stands_in : List ℕ → Directive → Bool
+stands_in path d = bytes_eq d.place.file path
+
+abbrev pub root_directives : Root → List Directive
+root_directives root = filter (stands_in root.path) root.first

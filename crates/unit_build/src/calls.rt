@@ -1,0 +1,203 @@
+ghost use Rattle.std.specs.Prelude.{◌≡◌, ◌∷◌, [], map, Some, if◌then◌else◌};
+ghost use Rattle.std.specs.Option.{is_some, option_map, option_to_list};
+ghost use Rattle.page_pieces.specs.Settings.{contains_text, plain_text};
+ghost use Rattle.page_reader.specs.Trees.{Tree};
+ghost use Rattle.page_directives.specs.Faults.{in_order};
+ghost use Rattle.tag_decl.specs.Declare.{declared};
+ghost use Rattle.jstl_tags.specs.Check.{is_whole};
+ghost use Rattle.jstl_tags.specs.Content.{attribute_names, given_names, takes_parts};
+ghost use Rattle.jstl_tags.specs.Elements.{opened_of};
+ghost use Rattle.jstl_tags.specs.Given.{names_made};
+ghost use Rattle.jstl_tags.specs.Standing.{IsBody, part_names_in, standing_made};
+ghost use Rattle.unit_build.specs.Calls.{call_faults, call_value_faults, declared_faults, is_empty_kind, lacks_required, name_faults, names_faults, takes_none};
+
+use crate::here::takes_parts;
+use jstl_tags::{Body, Given, Standing, is_bodiless, split_faults};
+use page_directives::Faults;
+use page_pieces::{Attribute, has_name, plain_text};
+use page_reader::{Closing, Element};
+use pg_text::TranslationFault;
+use tag_decl::{AttrDecl, BodyKind, TagDecl, declared};
+
+// The faults of a name that is given.
+fn name_faults(dynamic: bool, is_written: bool, decl: Option<&AttrDecl>) -> Faults
+    ensures { result ≡ in_order (name_faults dynamic is_written (option_map (λ decl. decl.now) decl.entry)) }
+{
+    match decl {
+        None => Faults::one_if(!dynamic, TranslationFault::BadAttribute),
+        Some(decl) => Faults::one_if(decl.fragment && is_written, TranslationFault::BadAttribute),
+    }
+}
+
+// The faults of a name that is given beside these attributes, by the declaration.
+#[tactic(auto, using(crate::proofs::CallLemmas::written))]
+fn given_faults(decl: &TagDecl, attributes: &[Attribute], name: &str) -> Faults
+    ensures { result ≡ in_order (names_faults decl.now (attribute_names attributes.now) (name.now ∷ [])) }
+{
+    name_faults(
+        decl.dynamic.is_some(),
+        has_name(attributes, name),
+        declared(&decl.attributes, name),
+    )
+}
+
+// The faults of the names that are written.
+fn written_faults(decl: &TagDecl, attributes: &[Attribute]) -> Faults
+    ensures { result ≡ in_order (names_faults decl.now (attribute_names attributes.now) (attribute_names attributes.now)) }
+{
+    let mut faults = Faults::none();
+    for attribute in attributes {
+        faults = faults.and(given_faults(decl, attributes, attribute.name.as_str()));
+    }
+    faults
+}
+
+// The faults of a name that is given beside these attributes, where there is one.
+fn named_faults(decl: &TagDecl, attributes: &[Attribute], name: Option<&str>) -> Faults
+    ensures { result ≡ in_order (names_faults decl.now (attribute_names attributes.now) (option_to_list (option_map (λ name. name.now) name.entry))) }
+{
+    match name {
+        Some(name) => given_faults(decl, attributes, name),
+        None => Faults::none(),
+    }
+}
+
+// The faults of the name that `jsp:attribute` gives.
+fn part_faults(decl: &TagDecl, attributes: &[Attribute], part: Standing) -> Faults
+    ensures { result ≡ in_order (names_faults decl.now (attribute_names attributes.now) (part_names_in (standing_made part.entry ∷ []))) }
+{
+    match part {
+        Standing::Element {
+            prefix: "jsp",
+            name: "attribute",
+            attributes: part,
+        } => named_faults(decl, attributes, part.plain("name")),
+        _ => Faults::none(),
+    }
+}
+
+// The faults of the names that `jsp:attribute` gives.
+fn parts_faults(decl: &TagDecl, attributes: &[Attribute], parts: &[Standing]) -> Faults
+    ensures { result ≡ in_order (names_faults decl.now (attribute_names attributes.now) (part_names_in (map standing_made parts.now))) }
+{
+    let mut faults = Faults::none();
+    for part in parts {
+        faults = faults.and(part_faults(decl, attributes, *part));
+    }
+    faults
+}
+
+// The faults of the names that are given.
+#[tactic(auto, using(crate::proofs::CallLemmas::names_joined))]
+fn names_faults(decl: &TagDecl, given: Given) -> Faults
+    ensures { result ≡ in_order (names_faults decl.now (attribute_names given.entry.attributes.now) (names_made given.entry)) }
+{
+    let attributes = given.attributes.as_slice();
+    written_faults(decl, attributes).and(parts_faults(decl, attributes, given.parts))
+}
+
+// Whether a declared attribute is required and not given.
+fn lacks_required(decls: &[AttrDecl], given: Given) -> bool
+    ensures { result ≡ lacks_required decls.now (names_made given.entry) }
+{
+    for decl in decls {
+        if decl.required && !given.contains(decl.name.as_str()) {
+            return true;
+        }
+    }
+    false
+}
+
+fn is_whole(closing: Closing) -> bool
+    ensures { result ≡ is_whole closing }
+{
+    match closing {
+        Closing::Open => false,
+        _ => true,
+    }
+}
+
+fn is_empty_kind(kind: BodyKind) -> bool
+    ensures { result ≡ is_empty_kind kind }
+{
+    kind == BodyKind::Empty
+}
+
+// What stands in the body of an element, where parts may stand there.
+fn parts_in<'b>(head: &Element, standing: &'b [Standing<'b>]) -> &'b [Standing<'b>]
+    ensures { map standing_made result.now ≡ (if takes_parts (opened_of head.now).tag then map standing_made standing.now else []) }
+{
+    if takes_parts(head) {
+        standing
+    } else {
+        &standing[..0]
+    }
+}
+
+// The attributes that are given to an element with this body.
+#[tactic(auto, using(crate::proofs::CallLemmas::given_parts))]
+fn given_to<'b>(head: &'b Element, body: Body<'b>) -> Given<'b>
+    ensures attributes { result.attributes.now ≡ head.now.attributes }
+    ensures names { (tree : Tree) → IsBody body.entry tree → names_made result ≡ given_names (opened_of head.now).tag tree }
+{
+    Given {
+        attributes: &head.attributes,
+        parts: parts_in(head, body.standing),
+    }
+}
+
+// The faults of a call by what the tag file declares.
+fn declared_faults(decl: &TagDecl, head: &Element, body: Body) -> Faults
+    ensures { (tree : Tree) → IsBody body.entry tree → result ≡ in_order (declared_faults (Some decl.now) (opened_of head.now) tree (given_names (opened_of head.now).tag tree)) }
+{
+    let given = given_to(head, body);
+    let lacks = is_whole(head.closing) && lacks_required(decl.attributes.as_slice(), given);
+    let bad_body = is_empty_kind(decl.body) && !is_bodiless(head, body);
+    names_faults(decl, given).and(Faults::one_if(lacks, TranslationFault::BadAttribute).and(
+        Faults::one_if(bad_body, TranslationFault::BadBody),
+    ))
+}
+
+// The same, where its declarations have no fault.
+fn faults_by(decl: Option<&TagDecl>, head: &Element, body: Body) -> Faults
+    ensures { (tree : Tree) → IsBody body.entry tree
+        → result ≡ in_order (declared_faults (option_map (λ decl. decl.now) decl.entry) (opened_of head.now) tree (given_names (opened_of head.now).tag tree)) }
+{
+    match decl {
+        None => Faults::none(),
+        Some(decl) => declared_faults(decl, head, body),
+    }
+}
+
+/// The faults of a call at its beginning, by the declaration where it has no fault.
+pub(crate) fn call_faults(decl: Option<&TagDecl>, head: &Element, body: Body) -> Faults
+    ensures { (tree : Tree) → IsBody body.entry tree → result ≡ in_order (call_faults (option_map (λ decl. decl.now) decl.entry) (opened_of head.now) tree) }
+{
+    let repeats = Given::of(head, body).repeats();
+    Faults::one_if(repeats, TranslationFault::BadAttribute).and(split_faults(head, body).and(
+        faults_by(decl, head, body),
+    ))
+}
+
+fn takes_none(decl: Option<&AttrDecl>) -> bool
+    ensures { result ≡ takes_none (option_map (λ decl. decl.now) decl.entry) }
+{
+    match decl {
+        None => false,
+        Some(decl) => !decl.expression && !decl.fragment,
+    }
+}
+
+/// The fault of an expression for an attribute that takes none.
+pub(crate) fn call_value_faults(decl: Option<&TagDecl>, attribute: &Attribute) -> Faults
+    ensures { result ≡ in_order (call_value_faults (option_map (λ decl. decl.now) decl.entry) attribute.now) }
+{
+    match decl {
+        None => Faults::none(),
+        Some(decl) => Faults::one_if(
+            takes_none(declared(&decl.attributes, attribute.name.as_str()))
+                && plain_text(attribute.parts.as_slice()).is_none(),
+            TranslationFault::BadAttribute,
+        ),
+    }
+}

@@ -1,0 +1,86 @@
+ghost use Rattle.std.specs.Prelude.{◌≡◌, ◌∷◌, ◌++◌, [], IfOk, OnOk};
+ghost use Rattle.page_directives.specs.Faults.{in_order};
+ghost use Rattle.page_directives.specs.Meet.{nothing_before};
+ghost use Rattle.page_directives.specs.Taglibs.{prefixes_in_text};
+ghost use Rattle.unit_source.specs.First.{directive};
+ghost use Rattle.unit_source.specs.Placed.{root_view};
+ghost use Rattle.unit_build.specs.Directives.{directive_faults, tag_file_faults};
+ghost use Rattle.unit_build.specs.ReadWalk.{IsOwn};
+
+use crate::decided::Decided;
+use page_directives::{Before, Directive, Faults, Where};
+use page_pieces::Attributes;
+use pg_text::Place;
+use std::alloc::{AllocError, Global};
+use unit_source::Root;
+
+/// A page or a tag file that is being read, what stood before in it, and of that the directives of the file itself.
+#[derive(Drop)]
+pub(crate) struct Course<'r> {
+    pub root: Decided<'r>,
+    pub before: Before<'r>,
+    pub own: Vec<Directive<'r>>,
+}
+
+impl<'r> Course<'r> {
+    /// Nothing of it was read.
+    pub fn new(alloc: Global, root: &'r Root) -> Result<Self, AllocError>
+        ensures root { IfOk result (λ course. course.root ≡ root.now) }
+        ensures before { IfOk result (λ course. course.before ≡ nothing_before) }
+        ensures own { IfOk result (λ course. IsOwn course) }
+    {
+        Ok(Course {
+            root: Decided::new(alloc, root)?,
+            before: Before::new(alloc),
+            own: Vec::new(alloc),
+        })
+    }
+
+    // The faults of what a directive declares in a tag file itself.
+    fn declaring(&self, stands: Where, directive: &Directive) -> Faults
+        requires { IsOwn self.now }
+        ensures { result ≡ in_order (tag_file_faults stands (root_view self.now.root) self.now.before directive.now) }
+    {
+        match stands {
+            Where::TagFile => self.root.declaring_faults(&self.own, directive),
+            _ => Faults::none(),
+        }
+    }
+
+    /// Meets a directive: its faults, and from now on it stands before.
+    pub fn meet(
+        &mut self,
+        alloc: Global,
+        name: &'r str,
+        attributes: &'r Attributes,
+        place: &'r Place,
+    ) -> Result<Faults, AllocError>
+        requires { IsOwn self.now }
+        ensures faults { IfOk result (λ faults. faults ≡ in_order (directive_faults (root_view self.old.root) self.old.before (directive name.now attributes.now place.now))) }
+        ensures root { OnOk result (self.new.root ≡ self.old.root) }
+        ensures before { OnOk result (self.new.before
+            ≡ record { directives = self.old.before.directives ++ directive name.now attributes.now place.now ∷ []; prefixes = self.old.before.prefixes }) }
+        ensures own { OnOk result (IsOwn self.new) }
+    {
+        let directive = Directive::new(alloc, name, attributes, place)?;
+        let stands = self.root.where_stands(&directive);
+        let declaring = self.declaring(stands, &directive);
+        if self.root.has_own(place) {
+            self.own
+                .push(Directive::new(alloc, name, attributes, place)?)?;
+        }
+        let faults = self.root.meet(stands, &mut self.before, directive)?;
+        Ok(faults.and(declaring))
+    }
+
+    /// Meets template text.
+    pub fn meet_text(&mut self, text: &str) -> Result<(), AllocError>
+        requires { IsOwn self.now }
+        ensures root { OnOk result (self.new.root ≡ self.old.root) }
+        ensures before { OnOk result (self.new.before
+            ≡ record { directives = self.old.before.directives; prefixes = self.old.before.prefixes ++ prefixes_in_text text.now }) }
+        ensures own { OnOk result (IsOwn self.new) }
+    {
+        self.before.meet_text(text)
+    }
+}

@@ -1,0 +1,157 @@
+ghost use Rattle.std.specs.Prelude.{◌≡◌, ◌∷◌, map, codes, IfOk};
+ghost use Rattle.jstl_tags.specs.Check.{child_faults};
+ghost use Rattle.std.specs.Option.{option_map};
+ghost use Rattle.page_pieces.specs.Settings.{contains_text, value_of};
+ghost use Rattle.page_reader.specs.Trees.{Tree};
+ghost use Rattle.page_directives.specs.Faults.{in_order};
+ghost use Rattle.jstl_tags.specs.Elements.{opened_of};
+ghost use Rattle.jstl_tags.specs.Hosts.{host_made};
+ghost use Rattle.jstl_tags.specs.Rows.{row_made};
+ghost use Rattle.jstl_tags.specs.Standing.{IsBody};
+ghost use Rattle.unit_source.specs.InPlace.{flat};
+ghost use Rattle.unit_source.specs.Placed.{in_place};
+ghost use Rattle.unit_build.specs.Elements.{Here as Around, element_faults, is_text_alone, kind_faults, own_faults, takes_text_alone, value_faults};
+ghost use Rattle.unit_build.specs.Made.{around_made, here_made, kind_made};
+
+use crate::JspName;
+use crate::body::{push_inner, push_standing};
+use crate::calls::{call_faults, call_value_faults};
+use crate::here::Here;
+use crate::kind::Kind;
+use jstl_tags::{
+    Body, Given, Host, Row, Takes, child_faults, core_faults, place_faults, row_faults,
+    taken_faults, takes_of,
+};
+use page_directives::Faults;
+use page_pieces::{Attribute, Prefixes};
+use page_reader::Element;
+use pg_text::TranslationFault;
+use std::alloc::{AllocError, Global};
+use tag_decl::TagDecl;
+use unit_source::{MAX_NESTING, PlacedElement};
+
+// Whether an attribute takes text alone.
+fn takes_text_alone(takes: Option<Takes>) -> bool
+    ensures { result ≡ takes_text_alone takes }
+{
+    match takes {
+        None => false,
+        Some(Takes::AnyValue) => false,
+        Some(Takes::LeftOut) => false,
+        Some(_) => true,
+    }
+}
+
+// Whether the attribute of that name takes text alone in this row.
+fn is_text_alone(name: Option<&str>, row: Option<Row>) -> bool
+    ensures { result ≡ is_text_alone (option_map (λ name. name.now) name.entry) (option_map row_made row) }
+{
+    match (name, row) {
+        (Some(name), Some(row)) => takes_text_alone(takes_of(name, row.attributes)),
+        _ => false,
+    }
+}
+
+// The faults of a standard action that its row doesn't say.
+fn own_faults(action: JspName, row: Option<Row>, head: &Element, body: Body) -> Faults
+    ensures { (tree : Tree) (here : Around) → IsBody body.entry tree → here.row ≡ option_map row_made row
+        → result ≡ in_order (own_faults action here (opened_of head.now) tree) }
+{
+    match action {
+        JspName::Attribute => Faults::one_if(
+            is_text_alone(head.attributes.plain("name"), row),
+            TranslationFault::BadAttribute,
+        ),
+        JspName::SetProperty => {
+            let given = Given::of(head, body);
+            let both = given.contains("value") && given.contains("param");
+            Faults::one_if(both, TranslationFault::BadAttribute)
+        }
+        _ => Faults::none(),
+    }
+}
+
+// The faults of an element that has this one.
+fn refused_faults(fault: TranslationFault, hosts: &[Host]) -> Faults
+    ensures { result ≡ in_order (fault ∷ child_faults (map host_made hosts.now)) }
+{
+    Faults::one(fault).and(child_faults(hosts))
+}
+
+// The faults of an element by its kind.
+fn kind_faults(
+    core: &Prefixes,
+    in_tag: bool,
+    decl: Option<&TagDecl>,
+    kind: &Kind,
+    hosts: &[Host],
+    row: Option<Row>,
+    head: &Element,
+    body: Body,
+) -> Faults
+    ensures { (tree : Tree) (here : Around) → IsBody body.entry tree → here.around ≡ map host_made hosts.now → here.row ≡ option_map row_made row
+        → result ≡ in_order (kind_faults (λ prefix. contains_text prefix core.now) in_tag (option_map (λ decl. decl.now) decl.entry) (kind_made kind.now) here (opened_of head.now) tree) }
+{
+    match kind {
+        Kind::Core(tag, row) => core_faults(core, (*tag, *row), hosts, head, body),
+        Kind::Standard(action, standard) => place_faults(in_tag, standard.stands, hosts).and(
+            row_faults(core, standard, head, body).and(own_faults(*action, row, head, body)),
+        ),
+        Kind::Call(_) => child_faults(hosts).and(call_faults(decl, head, body)),
+        Kind::Refused(fault) => refused_faults(*fault, hosts),
+    }
+}
+
+/// The faults of an element at its beginning. `core` are the prefixes of the core library.
+pub(crate) fn element_faults(
+    alloc: Global,
+    core: &Prefixes,
+    in_tag: bool,
+    decl: Option<&TagDecl>,
+    kind: &Kind,
+    here: Here,
+    element: &PlacedElement,
+) -> Result<Faults, AllocError>
+    ensures { IfOk result (λ faults. faults ≡ in_order (element_faults (λ prefix. contains_text prefix core.now) in_tag (option_map (λ decl. decl.now) decl.entry)
+        (kind_made kind.now) (here_made here.entry) (opened_of element.now.head) (flat (in_place element.now.body.items)))) }
+{
+    let mut standing = Vec::new(alloc);
+    push_standing(&element.body, &mut standing)?;
+    let mut inner = Vec::new(alloc);
+    push_inner(&element.body, &mut inner)?;
+    let body = Body {
+        standing: &standing,
+        inner: &inner,
+    };
+    let hosts = here.around.hosts(alloc)?;
+    let deep = Faults::one_if(here.deep >= MAX_NESTING, TranslationFault::TooLarge);
+    Ok(deep.and(kind_faults(
+        core,
+        in_tag,
+        decl,
+        kind,
+        &hosts,
+        here.row,
+        &element.head,
+        body,
+    )))
+}
+
+/// The faults of a value by its element's kind.
+pub(crate) fn value_faults(
+    alloc: Global,
+    decl: Option<&TagDecl>,
+    kind: &Kind,
+    attribute: &Attribute,
+) -> Result<Faults, AllocError>
+    ensures { IfOk result (λ faults. faults ≡ in_order (value_faults (option_map (λ decl. decl.now) decl.entry) (kind_made kind.now) attribute.now)) }
+{
+    let name = attribute.name.as_str();
+    let parts = attribute.parts.as_slice();
+    match kind {
+        Kind::Core(_, row) => taken_faults(alloc, takes_of(name, row.attributes), parts),
+        Kind::Standard(_, row) => taken_faults(alloc, takes_of(name, row.attributes), parts),
+        Kind::Call(_) => Ok(call_value_faults(decl, attribute)),
+        _ => Ok(Faults::none()),
+    }
+}

@@ -1,0 +1,72 @@
+ghost use Rattle.std.specs.Prelude.{◌≡◌, OnOk};
+ghost use Rattle.page_directives.specs.Faults.{in_order};
+ghost use Rattle.unit_source.specs.Placed.{root_view};
+ghost use Rattle.unit_build.specs.Made.{here_made};
+ghost use Rattle.unit_build.specs.ReadFound.{IsRead, state_in};
+ghost use Rattle.unit_build.specs.ReadWalk.{IsOwn};
+ghost use Rattle.unit_build.specs.Walk.{leaf_met, nesting_faults, text_faults};
+
+use crate::body::is_white;
+use crate::course::Course;
+use crate::found::Found;
+use crate::here::Here;
+use crate::values::expression_faults;
+use page_directives::Faults;
+use page_pieces::Leaf;
+use pg_text::{Place, TranslationFault};
+use std::alloc::{AllocError, Global};
+
+// The fault of what stands in a choice.
+fn nesting_faults(here: Here) -> Faults
+    ensures { result ≡ in_order (nesting_faults (here_made here.entry)) }
+{
+    Faults::one_if(here.in_choose(), TranslationFault::BadNesting)
+}
+
+// The fault of text that stands in a choice.
+fn text_faults(here: Here, text: &[u8]) -> Faults
+    ensures { result ≡ in_order (text_faults (here_made here.entry) text.now) }
+{
+    if is_white(text) {
+        Faults::none()
+    } else {
+        nesting_faults(here)
+    }
+}
+
+/// Meets a leaf.
+#[tactic(auto, using(crate::proofs::FoundLemmas::read_met, crate::proofs::FoundLemmas::read_none))]
+pub(crate) fn meet_leaf<'r>(
+    alloc: Global,
+    course: &mut Course<'r>,
+    here: Here,
+    leaf: &'r Leaf,
+    place: &'r Place,
+    found: &mut Found,
+) -> Result<(), AllocError>
+    requires { IsOwn course.now }
+    ensures root { OnOk result (course.new.root ≡ course.old.root) }
+    ensures own { OnOk result (IsOwn course.new) }
+    ensures met { OnOk result (IsRead found.old found.new (state_in course.new.before found.new)
+        (leaf_met (root_view course.old.root) (here_made here.entry) leaf.now place.now (state_in course.old.before found.old))) }
+{
+    match leaf {
+        Leaf::Text(text) => {
+            found.meet(place, text_faults(here, text.as_bytes()))?;
+            course.meet_text(text.as_str())
+        }
+        Leaf::Comment => Ok(()),
+        Leaf::Expr(text) => {
+            let faults = expression_faults(alloc, &course.before, text.as_str())?;
+            found.meet(place, nesting_faults(here).and(faults))
+        }
+        Leaf::Hash => {
+            let hash = Faults::one(TranslationFault::ElNotHere);
+            found.meet(place, nesting_faults(here).and(hash))
+        }
+        Leaf::Directive(name, attributes) => {
+            let faults = course.meet(alloc, name.as_str(), attributes, place)?;
+            found.meet(place, faults)
+        }
+    }
+}

@@ -1,0 +1,39 @@
+//! The unit of a page: the page with its includes in place, its settings, its tag files and its beans, or the first of its faults in
+//! reading order; and the files on which it depends.
+#![tactic(auto)]
+
+mod beans;
+mod body;
+mod building;
+mod calling;
+mod calls;
+mod counts;
+mod course;
+mod decided;
+mod element;
+mod found;
+mod functions;
+mod here;
+mod include;
+mod jsp_name;
+mod kind;
+mod laws;
+mod leaf;
+mod nodes;
+mod page;
+mod site;
+mod standard;
+mod start;
+mod steps;
+mod tag;
+mod unit;
+mod values;
+mod walk;
+
+pub use building::build;
+pub use jsp_name::JspName;
+pub use laws::unit_laws;
+pub use unit::{
+    Action, ActionKind, Page, TagFile, Unit, UnitAttribute, UnitAttributes, UnitBody, UnitNode,
+    UnitPart, UnitParts,
+};

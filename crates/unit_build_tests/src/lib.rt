@@ -1,0 +1,15 @@
+//! Tests of the units of pages.
+#![tactic(auto)]
+
+#[cfg(test)]
+mod faults;
+#[cfg(test)]
+mod limits;
+#[cfg(test)]
+mod pages;
+#[cfg(test)]
+mod places;
+#[cfg(test)]
+mod show;
+#[cfg(test)]
+mod worked;

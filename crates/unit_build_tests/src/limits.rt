@@ -1,0 +1,83 @@
+use crate::show::told;
+use std::alloc::Global;
+use std::test::Fail;
+
+// A text so many times.
+fn repeated(alloc: Global, text: &str, count: usize) -> Result<String, Fail> {
+    let mut all = String::new(alloc);
+    for _ in 0..count {
+        all.push_str(text)?;
+    }
+    Ok(all)
+}
+
+// What is told of a page that includes a file within one element, where that nests so many.
+fn nested(alloc: Global, levels: usize) -> Result<String, Fail> {
+    let mut text = repeated(alloc, "<c:if test=\"true\">", levels)?;
+    text.push_str(repeated(alloc, "</c:if>", levels)?.as_str())?;
+    let files = [
+        (
+            "/a.jsp",
+            "<%@ taglib prefix=\"c\" uri=\"jakarta.tags.core\" %><c:if test=\"true\"><%@ include file=\"i\" %></c:if>",
+        ),
+        ("/i", text.as_str()),
+    ];
+    told(alloc, &files)
+}
+
+#[test]
+fn elements_nest_64_deep_through_an_include(rt: HostRuntime) -> Result<(), Fail> {
+    let within = nested(rt.alloc(), 63)?;
+    assert_eq!(rt; within.as_str(), "ok /a.jsp /i");
+    let beyond = nested(rt.alloc(), 64)?;
+    assert_eq!(rt; beyond.as_str(), "E20 TooLarge /i:1:1135 /a.jsp /i");
+    Ok(())
+}
+
+// What is told of a page that includes one file so many times, each time on a line of its own.
+fn included(alloc: Global, count: usize) -> Result<String, Fail> {
+    let text = repeated(alloc, "<%@ include file=\"i\" %>\n", count)?;
+    let files = [("/a.jsp", text.as_str()), ("/i", "x")];
+    told(alloc, &files)
+}
+
+#[test]
+fn a_unit_has_256_files(rt: HostRuntime) -> Result<(), Fail> {
+    for (count, wanted) in [
+        (20, "ok /a.jsp /i"),
+        (255, "ok /a.jsp /i"),
+        (256, "E20 TooLarge /a.jsp:256:1 /a.jsp /i"),
+    ] {
+        let told = included(rt.alloc(), count)?;
+        assert_eq!(rt; told.as_str(), wanted);
+    }
+    Ok(())
+}
+
+#[test]
+fn an_included_file_does_not_include_itself(rt: HostRuntime) -> Result<(), Fail> {
+    let files = [
+        ("/a.jsp", "<%@ include file=\"d/i\" %>"),
+        ("/d/i", "\n<%@ include file=\"../d/i\" %>"),
+    ];
+    let told = told(rt.alloc(), &files)?;
+    assert_eq!(rt; told.as_str(), "E9 IncludeCycle /d/i:2:1 /a.jsp /d/i");
+    Ok(())
+}
+
+// What is told of a page that includes a file, where both together have so many bytes.
+fn sized(alloc: Global, bytes: usize) -> Result<String, Fail> {
+    let page = "<%@ include file=\"i\" %>";
+    let text = repeated(alloc, "x", bytes.saturating_sub(page.len()))?;
+    let files = [("/a.jsp", page), ("/i", text.as_str())];
+    told(alloc, &files)
+}
+
+#[test]
+fn a_unit_has_1048576_bytes(rt: HostRuntime) -> Result<(), Fail> {
+    let within = sized(rt.alloc(), 1_048_576)?;
+    assert_eq!(rt; within.as_str(), "ok /a.jsp /i");
+    let beyond = sized(rt.alloc(), 1_048_577)?;
+    assert_eq!(rt; beyond.as_str(), "E20 TooLarge /a.jsp:1:1 /a.jsp /i");
+    Ok(())
+}
