@@ -1,0 +1,4 @@
+pub mod Kinds
+pub mod Named
+pub mod Shape
+pub mod Worked

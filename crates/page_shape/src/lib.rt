@@ -1,0 +1,6 @@
+//! The page that a unit is, as its meaning reads it.
+#![tactic(auto)]
+
+mod laws;
+
+pub use laws::worked;
