@@ -1,0 +1,5 @@
+pub mod Words
+pub mod Input
+pub mod Page
+pub mod Check
+pub mod ReadInput
