@@ -1,0 +1,5 @@
+pub mod Calls
+pub mod Fits
+pub mod Names
+pub mod Ops
+pub mod Shapes

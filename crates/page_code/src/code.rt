@@ -1,0 +1,88 @@
+ghost use Rattle.std.specs.Prelude.{◌≡◌, ◌++◌, ◌∷◌, [], length, slice_get, option_map, OnOk, OnErr};
+ghost use Rattle.page_code.specs.Shapes.{cell};
+
+use crate::instr::Instr;
+use crate::shape::Shape;
+use pg_text::Place;
+use std::alloc::{AllocError, Global};
+use std::marker::Model;
+
+/// An instruction, the place in a file at which its faults stand, and how much stands open before it.
+#[derive(Drop)]
+pub struct Cell {
+    pub instr: Instr,
+    pub place: Place,
+    pub shape: Shape,
+}
+
+/// The code of a page or of a tag file. Contracts see the list of its cells.
+#[derive(Drop)]
+pub struct Code {
+    cells: Vec<Cell>,
+}
+
+impl Model for Code {
+    ghost use Rattle.std.specs.Prelude.{List};
+    ghost use Rattle.page_code.specs.declared.code.Cell.{Cell};
+
+    ghost Value = { List Cell };
+
+    ghost use Rattle.pg_value.specs.DatumCode.{data_code, datum_code, entries_code};
+    ghost use Rattle.std.specs.Coded.{codes};
+
+    ghost coded = { Prim.hlevel (codes, entries_code, data_code, datum_code) };
+
+    ghost view = { λ c. c.cells.items };
+}
+
+impl Code {
+    pub fn new(alloc: Global) -> Self
+        ensures { result ≡ [] }
+    {
+        Code {
+            cells: Vec::new(alloc),
+        }
+    }
+
+    /// One more cell behind these.
+    pub fn put(&mut self, shape: &Shape, place: &Place, instr: Instr) -> Result<(), AllocError>
+        ensures ok { OnOk result (self.new ≡ self.old ++ cell shape.now place.now instr ∷ []) }
+        ensures err { OnErr result (self.new ≡ self.old) }
+    {
+        let cell = Cell {
+            instr,
+            place: place.copy()?,
+            shape: shape.copy()?,
+        };
+        self.cells.push(cell)?;
+        Ok(())
+    }
+
+    /// The cells of another code behind these.
+    pub fn join(&mut self, other: Code) -> Result<(), AllocError>
+        ensures ok { OnOk result (self.new ≡ self.old ++ other) }
+        ensures err { OnErr result (self.new ≡ self.old) }
+    {
+        let mut cells = other.cells;
+        self.cells.append(&mut cells)?;
+        Ok(())
+    }
+
+    pub fn len(&self) -> usize
+        ensures { result ≡ length self.now }
+    {
+        self.cells.len()
+    }
+
+    pub fn get(&self, at: usize) -> Option<&Cell>
+        ensures { option_map (λ cell. cell.now) result ≡ slice_get self.now at }
+    {
+        self.cells.get(at)
+    }
+
+    pub fn as_slice(&self) -> &[Cell]
+        ensures { result.now ≡ self.now }
+    {
+        &self.cells
+    }
+}
