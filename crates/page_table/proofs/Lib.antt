@@ -1,0 +1,19 @@
+mod Agreeing
+pub mod Ends
+pub mod Finding
+pub mod Fitting
+pub mod GivenFits
+pub mod Growing
+pub mod Objects
+pub mod OneEnd
+pub mod Onward
+pub mod Operating
+pub mod Pages
+pub mod Records
+pub mod Rounds
+pub mod Rows
+pub mod Standing
+pub mod Tame
+pub mod Turns
+pub mod Weights
+pub mod Words

@@ -1,0 +1,107 @@
+-- A part is tame that only adds steps and pieces, keeps as many bodies, and takes no visit back; and how such parts are joined.
+use Rattle.std.proofs.Common.{◌≡◌, ◌≤◌, ℕ, Bool, true, false, List, [], ◌++◌, length, Result, Ok, Err, refl, sym, ap, ◌∙◌, arith, append_assoc, append-nil}
+use Rattle.edges.specs.History.{IsFront}
+use Rattle.pg_text.specs.declared.place.Place.{Place}
+use Rattle.pg_value.specs.declared.fault.RunFault.{RunFault}
+use Rattle.scopes.specs.Scopes.{ScopeState}
+use Rattle.page_meaning.specs.Growth.{state_of, Grows}
+use Rattle.page_meaning.specs.State.{State, in_scopes}
+use Rattle.page_meaning.specs.Went.{Went, Well, Raised, Ended, Awaits, then_do, either, result_of}
+
+front_same : {E : Type 0} (a : List E) → IsFront a a
+front_same a = ([], sym (append-nil a))
+
+front_both : {E : Type 0} (a b c : List E) → IsFront a b → IsFront b c → IsFront a c
+front_both a b c f g = (f.0 ++ g.0, g.1 ∙ (ap (λ z. z ++ g.0) f.1 ∙ append_assoc a f.0 g.0))
+
+pub same : (s : State) → Grows s s
+same s = record { asked = front_same s.asked; pieces = front_same s.writer.pieces }
+
+pub both : (s t u : State) → Grows s t → Grows t u → Grows s u
+both s t u g k = record { asked = front_both s.asked t.asked u.asked g.asked k.asked; pieces = front_both s.writer.pieces t.writer.pieces u.writer.pieces g.pieces k.pieces }
+
+-- a change of neither steps nor pieces
+pub quiet : (s t : State) → t.asked ≡ s.asked → t.writer.pieces ≡ s.writer.pieces → Grows s t
+quiet s t e f = record { asked = ([], e ∙ sym (append-nil s.asked)); pieces = ([], f ∙ sym (append-nil s.writer.pieces)) }
+
+abbrev pub kept : State → ℕ
+kept s = length s.writer.kept
+
+-- from one state to another
+pub record Keeps (s t : State) : Type 0 where
+  pub grows : Grows s t
+  pub bodies : kept t ≡ kept s
+  pub visits : s.visits ≤ t.visits
+
+pub keeps_same : (s : State) → Keeps s s
+keeps_same s = record { grows = same s; bodies = refl; visits = omega arith }
+
+pub keeps_both : (s t u : State) → Keeps s t → Keeps t u → Keeps s u
+keeps_both s t u g k = record { grows = both s t u g.grows k.grows; bodies = k.bodies ∙ g.bodies; visits = omega (arith, g.visits, k.visits) }
+
+-- a change of neither the steps nor the writer nor the visits
+pub keeps_quiet : (s t : State) → t.asked ≡ s.asked → t.writer ≡ s.writer → t.visits ≡ s.visits → Keeps s t
+keeps_quiet s t asked writer visits =
+    record { grows = quiet s t asked (ap (λ w. w.pieces) writer); bodies = ap (λ w. length w.kept) writer; visits = omega (arith, visits) }
+
+pub keeps_scopes : (s : State) (scopes : ScopeState) → Keeps s (in_scopes scopes s)
+keeps_scopes s scopes = keeps_quiet s (in_scopes scopes s) refl refl refl
+
+-- how a part goes from a state
+pub record TameAt (s : State) {A : Type 0} (w : Went A) : Type 0 where
+  pub grows : Grows s (state_of w)
+  pub bodies : kept (state_of w) ≡ kept s
+  pub visits : s.visits ≤ (state_of w).visits
+
+pub keeps_at : {A : Type 0} (s : State) (w : Went A) → TameAt s w → Keeps s (state_of w)
+keeps_at s w h = record { grows = h.grows; bodies = h.bodies; visits = h.visits }
+
+-- from every state
+abbrev pub Tame : {A : Type 0} → (State → Went A) → Type 0
+Tame part = (s : State) → TameAt s (part s)
+
+-- a change of the state
+abbrev pub Calm : (State → State) → Type 0
+Calm change = (s : State) → Keeps s (change s)
+
+pub scopes_calm : (change : ScopeState → ScopeState) → Calm (λ s. in_scopes (change s.scopes) s)
+scopes_calm change s = keeps_scopes s (change s.scopes)
+
+pub well : {A : Type 0} (a : A) → Tame (Well a)
+well a s = record { grows = same s; bodies = refl; visits = omega arith }
+
+pub raised : {A : Type 0} (f : RunFault) (place : Place) → Tame (λ s. let w : Went A = Raised f place s in w)
+raised f place s = record { grows = same s; bodies = refl; visits = omega arith }
+
+pub result : {A : Type 0} (place : Place) (r : Result A RunFault) → Tame (result_of place r)
+result place (Ok a) s = record { grows = same s; bodies = refl; visits = omega arith }
+result place (Err f) s = record { grows = same s; bodies = refl; visits = omega arith }
+
+pub changed : {A : Type 0} (a : A) (change : State → State) → Calm change → Tame (λ s. Well a (change s))
+changed a change calm s = let h = calm s in record { grows = h.grows; bodies = h.bodies; visits = h.visits }
+
+-- behind what keeps
+pub keeps_then : {A : Type 0} (s t : State) (w : Went A) → Keeps s t → TameAt t w → TameAt s w
+keeps_then s t w h g =
+    let k = keeps_both s t (state_of w) h (keeps_at t w g) in
+    record { grows = k.grows; bodies = k.bodies; visits = k.visits }
+
+pub behind : {A : Type 0} (part : State → Went A) (change : State → State) → Calm change → Tame part → Tame (λ s. part (change s))
+behind part change calm h s = keeps_then s (change s) (part (change s)) (calm s) (h (change s))
+
+pub then_at : {A B : Type 0} (s : State) (w : Went A) (go : A → State → Went B) → TameAt s w → ((a : A) → Tame (go a)) → TameAt s (then_do w go)
+then_at s (Well a t) go h next = keeps_then s t (go a t) (keeps_at s (Well a t) h) (next a t)
+then_at s (Raised f place t) go h next = record { grows = h.grows; bodies = h.bodies; visits = h.visits }
+then_at s (Ended leaving t) go h next = record { grows = h.grows; bodies = h.bodies; visits = h.visits }
+then_at s (Awaits step t) go h next = record { grows = h.grows; bodies = h.bodies; visits = h.visits }
+
+-- one part after the other
+pub thens : {A B : Type 0} (part : State → Went A) (go : A → State → Went B) → Tame part → ((a : A) → Tame (go a)) → Tame (λ s. then_do (part s) go)
+thens part go h next s = then_at s (part s) go (h s) next
+
+pub either_at : {A : Type 0} (b : Bool) (one other : State → Went A) (s : State) → TameAt s (one s) → TameAt s (other s) → TameAt s (either b one other s)
+either_at true one other s h k = h
+either_at false one other s h k = k
+
+pub eithers : {A : Type 0} (b : Bool) (one other : State → Went A) → Tame one → Tame other → Tame (either b one other)
+eithers b one other h k s = either_at b one other s (h s) (k s)

@@ -1,0 +1,17 @@
+pub mod Operands
+pub mod Program
+pub mod Seat
+pub mod Open
+pub mod Finds
+pub mod Landing
+pub mod Move
+pub mod Operations
+pub mod Calls
+pub mod Pages
+pub mod LoopMoves
+pub mod Act
+pub mod Runs
+pub mod Checked
+pub mod Measure
+pub mod Agreement
+pub mod Laws
