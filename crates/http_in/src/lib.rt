@@ -25,7 +25,7 @@ pub use fault::HttpFault;
 pub use fields::Field;
 pub use law::one_cut;
 pub use limits::{MAX_BODY_BYTES, MAX_FIELDS, MAX_HEAD_BYTES, MAX_PIECE_BYTES, SESSION_ID_BYTES};
-pub use params::Param;
+pub use params::{Param, query_params};
 pub use read::read_request;
 pub use request::Request;
 pub use rest::Rest;

@@ -41,12 +41,19 @@ pub fn params_of(
 ) -> Result<Listed<Param>, AllocError>
     ensures { IfOk result (λ params. params ≡ params_of method.now target.now fields.now body.now) }
 {
-    let query = query_of(target).unwrap_or("");
-    let mut params = Listed::empty(alloc);
-    add_params(&mut params, alloc, query.as_bytes())?;
+    let mut params = query_params(alloc, query_of(target).unwrap_or(""))?;
     if has_form(method, fields) {
         add_params(&mut params, alloc, body)?;
     }
+    Ok(params)
+}
+
+/// The parameters in a query, in their order, as [`read_request`](crate::read_request) reads those of a request.
+pub fn query_params(alloc: Global, query: &str) -> Result<Listed<Param>, AllocError>
+    ensures { IfOk result (λ params. params ≡ params_in query.now) }
+{
+    let mut params = Listed::empty(alloc);
+    add_params(&mut params, alloc, query.as_bytes())?;
     Ok(params)
 }
 

@@ -8,7 +8,7 @@ use Rattle.pg_text.specs.declared.resolution.BadPath.{BadPath}
 use Rattle.pg_value.specs.Datum.{Datum}
 use Rattle.pg_value.specs.declared.fault.RunFault.{RunFault}
 use Rattle.pg_value.specs.declared.fault.RunFault.TheVariants as fault
-use Rattle.scopes.specs.Scopes.{Entries, ScopeState, with_frame, turned_to}
+use Rattle.scopes.specs.Scopes.{Entries, ScopeState, with_frame, with_frame_of, turned_to}
 use Rattle.site_words.specs.Law.{Answer}
 use Rattle.page_meaning.specs.Addresses.{is_control, redirect_mean}
 use Rattle.page_meaning.specs.Attributes.{Values, Coercion}
@@ -23,7 +23,7 @@ use Rattle.page_meaning.specs.Loops.{with_named}
 use Rattle.page_meaning.specs.Page.{Page, Nodes, Attributes, Body, TagFile}
 use Rattle.page_meaning.specs.State.{State, in_scopes, in_writer}
 use Rattle.site_words.specs.PageSteps.{Step, fresh, fetch}
-use Rattle.page_meaning.specs.Tags.{first_frame, with_frame_of, call_ended, call_run, call_of, call_mean, tag_mean, tag_coercion}
+use Rattle.page_meaning.specs.Tags.{first_frame, call_ended, call_run, call_of, call_mean, tag_mean, tag_coercion}
 use Rattle.page_meaning.specs.Variables.{back_to}
 use Rattle.page_meaning.specs.Went.{Went, Did, Well, Raised, Ended, Awaits, Leaving, forwards, redirects, then_do, either, result_of}
 use Rattle.page_meaning.specs.Work.{is_spent, fetched}

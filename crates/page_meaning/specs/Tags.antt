@@ -1,5 +1,5 @@
 -- The call of a tag file.
-use Rattle.std.specs.Prelude.{ℕ, Bool, true, false, List, [], ◌∷◌, ◌++◌, length, filter, not, Option, Some, None, Result, Ok}
+use Rattle.std.specs.Prelude.{ℕ, Bool, true, false, List, [], ◌∷◌, ◌++◌, filter, not, Option, Some, None, Result, Ok}
 use Rattle.std.specs.List.{find}
 use Rattle.std.specs.Option.{is_some, option_and_then}
 use Rattle.std.specs.Str.{bytes_eq}
@@ -10,7 +10,7 @@ use Rattle.pg_value.specs.Attrs.{of_entries, with_entry}
 use Rattle.pg_value.specs.Datum.{Datum, rec, entries_of}
 use Rattle.pg_value.specs.declared.fault.RunFault.{RunFault}
 use Rattle.pg_value.specs.declared.fault.RunFault.TheVariants as fault
-use Rattle.scopes.specs.Scopes.{Entries, ScopeState}
+use Rattle.scopes.specs.Scopes.{Entries, ScopeState, with_frame_of}
 use Rattle.tag_decl.specs.Declare.{declared}
 use Rattle.tag_decl.specs.declared.declaration.AttrDecl.{AttrDecl}
 use Rattle.tag_decl.specs.declared.declaration.AttrKind.{AttrKind}
@@ -58,10 +58,6 @@ with_dynamic (Some name) undeclared frame = answered (λ d. with_entry frame nam
 -- the frame that a call begins with
 abbrev pub first_frame : TagDecl → Values → Result Entries RunFault
 first_frame decl values = with_dynamic decl.dynamic (filter (λ v. not (is_declared decl v)) values) (of_entries (filter (is_declared decl) values))
-
--- with one more frame, which has these entries and is current
-abbrev pub with_frame_of : Entries → ScopeState → ScopeState
-with_frame_of entries scopes = record scopes { frames = scopes.frames ++ entries ∷ []; current = length scopes.frames }
 
 -- the fragments among the attributes of a call
 abbrev pub fragments_of : TagDecl → Attributes → List Fragment

@@ -1,7 +1,7 @@
 ghost use Rattle.std.specs.Prelude.{◌≡◌, ◌<◌, [], length, option_map, unwrap_or, IsNone, OnOk, OnErr, IfOk};
 ghost use Rattle.pg_text.specs.Failure.{Answers};
 ghost use Rattle.pg_value.specs.Value.{datum_of};
-ghost use Rattle.scopes.specs.Scopes.{starting, entries_in, found_in, found, with_variable, without_variable, set_answer, record_answer, with_frame, without_frame, turned_to, with_session};
+ghost use Rattle.scopes.specs.Scopes.{starting, entries_in, found_in, found, with_variable, without_variable, set_answer, record_answer, with_frame, with_frame_of, without_frame, turned_to, with_session};
 
 use crate::attributes;
 use crate::held_scope::HeldScope;
@@ -131,16 +131,33 @@ impl Scopes {
         self.frames.len() as u64
     }
 
+    /// The number of the current frame, counted from 0.
+    pub fn current(&self) -> u32
+        ensures current { result ≡ self.now.current }
+        ensures there { result < length self.now.frames }
+    {
+        self.current
+    }
+
     /// Puts an empty frame behind the others, and makes it current. A frame whose number is over the greatest `u32` is
     /// refused as for want of memory.
     pub fn push_frame(&mut self) -> Result<(), AllocError>
         ensures ok { OnOk result (self.new ≡ with_frame self.old) }
         ensures err { OnErr result (self.new ≡ self.old) }
     {
+        let frame = Attrs::empty(*self.frames.allocator());
+        self.push_frame_of(frame)
+    }
+
+    /// Puts a frame with these entries behind the others, as [`push_frame`](Self::push_frame) does an empty one.
+    pub fn push_frame_of(&mut self, entries: Attrs) -> Result<(), AllocError>
+        ensures ok { OnOk result (self.new ≡ with_frame_of entries self.old) }
+        ensures err { OnErr result (self.new ≡ self.old) }
+    {
         let Ok(number) = u32::try_from(self.frames.len()) else {
             return Err(AllocError);
         };
-        self.frames.push(Attrs::empty(*self.frames.allocator()))?;
+        self.frames.push(entries)?;
         self.current = number;
         Ok(())
     }

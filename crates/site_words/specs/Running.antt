@@ -15,10 +15,12 @@ use Rattle.site_words.specs.declared.words.AppStep.TheVariants as step
 use Rattle.site_words.specs.declared.words.AppReply.{AppReply}
 use Rattle.site_words.specs.declared.words.AppReply.TheVariants as answer
 use Rattle.site_words.specs.Law.{Answer, told, id}
+use Rattle.site_words.specs.PageSteps as asks
 use Rattle.site_words.specs.Weights.{answer_weight, step_weight}
 
--- what a request's asking depends on: the answers to its steps so far, whether it has a session, and what is left of its promise
+-- what a request's asking depends on: its steps so far and their answers, whether it has a session, and what is left of its promise
 pub record Asking : Type 0 where
+  pub asked : List asks.Step
   pub answers : List Answer
   pub has_session : Bool
   pub left : ℕ
@@ -50,13 +52,14 @@ keeps_limits other = ⊤
 -- a step was answered; without memory all is as it was
 abbrev pub IsTold : Asking → Asking → AppStep → {E : Type 0} → Result AppReply E → Type 0
 IsTold old new step (Ok reply) =
-    (new.answers ≡ old.answers ++ told reply ∷ []) × (new.has_session ≡ old.has_session) × (new.left + (64 + step_weight step + answer_weight reply) ≡ old.left)
+    (new.asked ≡ old.asked ++ asks.app step ∷ []) × (new.answers ≡ old.answers ++ told reply ∷ []) × (new.has_session ≡ old.has_session) × (new.left + (64 + step_weight step + answer_weight reply) ≡ old.left)
     × (fits_step_reply step reply ≡ true) × keeps_limits reply
 IsTold old new step (Err e) = new ≡ old
 
 -- the request has a session; without memory all is as it was
 abbrev pub IsGivenSession : Asking → Asking → {E : Type 0} → Result Fresh E → Type 0
-IsGivenSession old new (Ok fresh) = (new.answers ≡ old.answers ++ id fresh.id ∷ []) × (new.has_session ≡ true) × (new.left + 64 ≡ old.left)
+IsGivenSession old new (Ok fresh) =
+    (new.asked ≡ old.asked ++ asks.fresh ∷ []) × (new.answers ≡ old.answers ++ id fresh.id ∷ []) × (new.has_session ≡ true) × (new.left + 64 ≡ old.left)
 IsGivenSession old new (Err e) = new ≡ old
 
 -- what a look takes of the promise at most: nothing where no file stands
@@ -64,8 +67,14 @@ abbrev pub look_claim : List ℕ → Option File → ℕ
 look_claim path None = 0
 look_claim path (Some file) = page_claim path
 
--- what stands at a path was looked for, which is no step of the request
+-- the step that a look is: the fetch of a page, where one stands there
+abbrev pub look_steps : List ℕ → Option File → List asks.Step
+look_steps path None = []
+look_steps path (Some file) = if is_page path then asks.fetch path ∷ [] else []
+
+-- what stands at a path was looked for; the fetch of a page has no answer among those of steps
 pub record HasLooked (old new : Asking) (path : List ℕ) (found : Option File) : Type 0 where
+  pub asked : new.asked ≡ old.asked ++ look_steps path found
   pub answers : new.answers ≡ old.answers
   pub has_session : new.has_session ≡ old.has_session
   pub left : old.left ≤ new.left + look_claim path found
