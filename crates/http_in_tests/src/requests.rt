@@ -38,8 +38,10 @@ fn a_target_has_a_path_and_parameters(rt: HostRuntime) -> Result<(), Fail> {
     for (count, fits) in [(1_023, true), (1_024, false)] {
         let name = "%61".repeat(rt.alloc(), count)?;
         let text = format!(in rt.alloc(); "GET /{name} HTTP/1.1\r\nHost: h\r\n\r\n")?;
-        let request = only_request(rt.alloc(), text.as_bytes(), 1)?;
-        assert_eq!(rt; request.path.is_some(), fits, "{count}");
+        for piece in [1, 65_536] {
+            let request = only_request(rt.alloc(), text.as_bytes(), piece)?;
+            assert_eq!(rt; request.path.is_some(), fits, "{count}");
+        }
     }
     Ok(())
 }
@@ -69,13 +71,15 @@ fn a_form_adds_its_parameters(rt: HostRuntime) -> Result<(), Fail> {
         let text = format!(in rt.alloc();
             "{method} /a?x=1 HTTP/1.1\r\nHost: h\r\nContent-Type: {kind}\r\nContent-Length: 9\r\n\r\ny=2+3&x=4"
         )?;
-        let request = only_request(rt.alloc(), text.as_bytes(), 1)?;
         let wanted = format!(in rt.alloc(); "/a|x=1|{wanted}||")?;
-        assert_eq!(rt;
-            parts(rt.alloc(), &request)?.as_str(),
-            wanted.as_str(),
-            "{method} {kind}"
-        );
+        for piece in [1, 65_536] {
+            let request = only_request(rt.alloc(), text.as_bytes(), piece)?;
+            assert_eq!(rt;
+                parts(rt.alloc(), &request)?.as_str(),
+                wanted.as_str(),
+                "{method} {kind}"
+            );
+        }
     }
     Ok(())
 }
@@ -116,8 +120,10 @@ fn the_first_session_cookie_decides(rt: HostRuntime) -> Result<(), Fail> {
     ] {
         let fields = fields.replace(rt.alloc(), "@", ID)?;
         let text = format!(in rt.alloc(); "GET /a HTTP/1.1\r\nHost: h\r\n{fields}\r\n\r\n")?;
-        let request = only_request(rt.alloc(), text.as_bytes(), 65_536)?;
-        assert_eq!(rt; request.cookie.as_str(), wanted, "{fields}");
+        for piece in [1, 65_536] {
+            let request = only_request(rt.alloc(), text.as_bytes(), piece)?;
+            assert_eq!(rt; request.cookie.as_str(), wanted, "{fields}");
+        }
     }
     Ok(())
 }

@@ -55,6 +55,17 @@ fn first_request(alloc: Global, bytes: Vec<u8>) -> Result<Option<Request>, Failu
     read_request(alloc, &mut source, &mut Rest::new(alloc))
 }
 
+// The same where each read gives one byte.
+fn first_request_by_bytes(
+    alloc: Global,
+    bytes: Vec<u8>,
+) -> Result<Option<Request>, Failure<HttpFault>>
+    ensures { IfFault result (λ fault. fault ≢ HttpFault.ReadFault) }
+{
+    let mut source = MemSource::new(bytes, 1, Vec::new(alloc));
+    read_request(alloc, &mut source, &mut Rest::new(alloc))
+}
+
 #[test]
 fn a_body_has_its_limit(rt: HostRuntime) -> Result<(), Fail> {
     let body = "y".repeat(rt.alloc(), 2_097_152)?;
@@ -66,6 +77,11 @@ fn a_body_has_its_limit(rt: HostRuntime) -> Result<(), Fail> {
         match first_request(rt.alloc(), bytes) {
             Ok(Some(request)) => assert_eq!(rt; request.body.len(), size),
             _ => assert!(rt; false, "{size}"),
+        }
+        let bytes = Vec::from_slice(rt.alloc(), text.as_bytes())?;
+        match first_request_by_bytes(rt.alloc(), bytes) {
+            Ok(Some(request)) => assert_eq!(rt; request.body.len(), size),
+            _ => assert!(rt; false, "{size} by bytes"),
         }
     }
     Ok(())
