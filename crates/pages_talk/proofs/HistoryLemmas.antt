@@ -1,5 +1,6 @@
 -- One history of publishings.
 use Rattle.std.proofs.Common.{◌≡◌, ◌+◌, ℕ, Bool, true, false, cond, List, [], ◌∷◌, ◌++◌, length, Option, Some, None, refl, sym, ap, subst, ◌∙◌, arith, length-append}
+use Rattle.pg_text.specs.declared.place.PageFault.{PageFault}
 use Rattle.http_in.specs.declared.params.Param.{Param}
 use Rattle.http_in.specs.declared.request.Request.{Request}
 use Rattle.source_tree.specs.declared.edit.Edit.{Edit}
@@ -15,7 +16,7 @@ use Rattle.pages_talk.specs.Draft.{is_draft}
 use Rattle.pages_talk.specs.FirstPage.{first_page_body}
 use Rattle.pages_talk.specs.Law.{published_by, publishings, files_after, IsLegal, HasHistory, HasOneHistory}
 use Rattle.pages_talk.specs.Message.{message as message_of}
-use Rattle.pages_talk.specs.Effect.{Site, Effect, effect, effect_of, site_of, next_files, published, page_of, page_answer}
+use Rattle.pages_talk.specs.Effect.{Site, Effect, effect, effect_of, site_of, fault_at, file_answer, next_files, published, page_of, page_answer, page_or_refusal}
 use Rattle.pages_talk.specs.Serving.{after, after_all}
 
 -- one message does what its publishing does to the history, which is nothing where it publishes nothing
@@ -32,14 +33,18 @@ quiet site made none files version = record {
   version = rw none (omega (arith, version));
 }
 
--- an answer with a page publishes nothing
-quiet_page : (file : Option File) (parameters : List Param) (draft : List Edit) → published_by (page_answer file parameters) draft ≡ []
-quiet_page None parameters draft = refl
-quiet_page (Some file) parameters draft = go (first_page_body file.text parameters)
+-- an answer with a page or a refusal publishes nothing
+quiet_page : (files : List File) (path : List ℕ) (file : Option File) (parameters : List Param) (draft : List Edit) → published_by (file_answer files path file parameters) draft ≡ []
+quiet_page files path None parameters draft = refl
+quiet_page files path (Some file) parameters draft = go (fault_at files path file.text)
   where
-    go : (body : Option (List ℕ)) → published_by (page_of body) draft ≡ []
-    go None = refl
-    go (Some body) = refl
+    of : (body : Option (List ℕ)) → published_by (page_of body) draft ≡ []
+    of None = refl
+    of (Some body) = refl
+
+    go : (fault : Option PageFault) → published_by (page_or_refusal fault file.text parameters) draft ≡ []
+    go (Some fault) = refl
+    go None = of (first_page_body file.text parameters)
 
 history_step : (site : Site) (asked : Message) → IsHistoryStep site (effect site asked)
 history_step site (message.Put path text) = go (is_draft (site.draft ++ edit.Put path text ∷ []))
@@ -52,7 +57,7 @@ history_step site message.Publish = go (tree_fault (next_files site)) refl
     go : (fault : Option TreeFault) → tree_fault (next_files site) ≡ fault → IsHistoryStep site (published (unless fault (next_files site)) site)
     go (Some fault) is = quiet site (effect_of NotBuilt site) refl refl refl
     go None is = record { legal = (is, tt); files = refl; version = refl }
-history_step site (message.Get path parameters) = quiet site (effect site (message.Get path parameters)) (quiet_page (file_at path site.files) parameters site.draft) refl refl
+history_step site (message.Get path parameters) = quiet site (effect site (message.Get path parameters)) (quiet_page site.files path (file_at path site.files) parameters site.draft) refl refl
 history_step site message.Missing = quiet site (effect site message.Missing) refl refl refl
 history_step site message.OtherMethod = quiet site (effect site message.OtherMethod) refl refl refl
 history_step site message.Other = quiet site (effect site message.Other) refl refl refl
@@ -94,4 +99,4 @@ one_history start [] = record { legal = tt; files = refl; version = omega arith;
 one_history start (request ∷ requests) =
     let first = history_step start (message_of request) in
     let all = history_more start (after start request) (published_by (effect start (message_of request)).answer start.draft) requests first.legal first.files first.version (one_history (after start request) requests) in
-    record { legal = all.0; files = all.1; version = all.2; fresh = λ path parameters. ap (λ f. page_answer (file_at path f) parameters) all.1 }
+    record { legal = all.0; files = all.1; version = all.2; fresh = λ path parameters. ap (λ f. page_answer f path parameters) all.1 }

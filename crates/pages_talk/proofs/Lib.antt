@@ -4,3 +4,4 @@ pub mod HistoryLemmas
 pub mod ServingLemmas
 pub mod TargetLemmas
 pub mod WireLemmas
+mod RefusalLemmas

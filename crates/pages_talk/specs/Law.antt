@@ -1,5 +1,7 @@
 -- What holds of every conversation.
-use Rattle.std.specs.Prelude.{◌≡◌, ◌+◌, ℕ, List, [], ◌∷◌, ◌++◌, length, map, ⊤}
+use Rattle.std.specs.Prelude.{◌≡◌, ◌↔◌, ◌+◌, ℕ, List, [], ◌∷◌, ◌++◌, length, map, Some, ⊤}
+use Rattle.std.specs.Option.{option_and_then}
+use Rattle.pg_text.specs.declared.place.PageFault.{PageFault}
 use Rattle.http_in.specs.declared.params.Param.{Param}
 use Rattle.http_in.specs.declared.request.Request.{Request}
 use Rattle.http_in.specs.Requests.{Stop, Cut}
@@ -7,10 +9,12 @@ use Rattle.conversation.specs.Exchange.{Exchange, request_in}
 use Rattle.conversation.specs.Conversation.{EndsAt, Walked, texts}
 use Rattle.source_tree.specs.declared.edit.Edit.{Edit}
 use Rattle.source_tree.specs.declared.file.File.{File}
-use Rattle.source_tree.specs.Edits.{after_edits, file_at}
+use Rattle.source_tree.specs.Edits.{after_edits}
 use Rattle.source_tree.specs.Limits.{IsWithinLimits}
+use Rattle.unit_source.specs.Files.{text_in}
+use Rattle.unit_build.specs.Unit.{fault_in, unit_at}
 use Rattle.pages_talk.specs.declared.answer.Answer.{Answer}
-use Rattle.pages_talk.specs.declared.answer.Answer.TheVariants.{Published}
+use Rattle.pages_talk.specs.declared.answer.Answer.TheVariants.{Published, Refused}
 use Rattle.pages_talk.specs.declared.message.Message.TheVariants.{Get}
 use Rattle.pages_talk.specs.Message.{message}
 use Rattle.pages_talk.specs.Effect.{Site, page_answer, effect}
@@ -44,7 +48,7 @@ pub record HasHistory (start : Site) (requests : List Request) : Type 0 where
   pub version : (after_all start requests).version ≡ start.version + length (publishings start requests)
   -- a page that is asked for then is served from the files that the history made last
   pub fresh : (path : List ℕ) (parameters : List Param)
-      → (effect (after_all start requests) (Get path parameters)).answer ≡ page_answer (file_at path (files_after start.files start.version (publishings start requests))) parameters
+      → (effect (after_all start requests) (Get path parameters)).answer ≡ page_answer (files_after start.files start.version (publishings start requests)) path parameters
 
 -- whatever is asked of whatever site, it has one history
 abbrev pub HasOneHistory : Type 0
@@ -63,3 +67,9 @@ HasOneConversation =
     → Cut bytes (map request_in exchanges) stop → EndsAt stop 0 exchanges → Walked IsReply 0 start exchanges now
     → Cut bytes (map request_in others) other → EndsAt other 0 others → Walked IsReply 0 start others left
     → (exchanges ≡ others) × (stop ≡ other) × (now ≡ left)
+
+-- a page is refused exactly where the unit of the published files has that fault
+abbrev pub HasExactRefusals : Type 0
+HasExactRefusals =
+    (site : Site) (path : List ℕ) (parameters : List Param) (fault : PageFault)
+    → ((effect site (Get path parameters)).answer ≡ Refused fault) ↔ (option_and_then (λ unit. fault_in unit.body) (unit_at (text_in site.files) path) ≡ Some fault)

@@ -1,11 +1,12 @@
 -- The bytes of answers.
 use Rattle.std.specs.Prelude.{ℕ, Bool, false, List, [], ◌++◌, Some, None, codes, decimal}
+use Rattle.fault_line.specs.FaultLine.{page_fault_line}
 use Rattle.http_out.specs.declared.head.Head.{Head}
 use Rattle.http_out.specs.declared.status.Status.{Status}
 use Rattle.http_out.specs.declared.status.Status.TheVariants as status
 use Rattle.http_out.specs.Response.{plain, whole}
 use Rattle.pages_talk.specs.declared.answer.Answer.{Answer}
-use Rattle.pages_talk.specs.declared.answer.Answer.TheVariants.{Drafted, Published, Page, NotFound, MethodNotAllowed, NotBuilt}
+use Rattle.pages_talk.specs.declared.answer.Answer.TheVariants.{Drafted, Published, Page, Refused, NotFound, MethodNotAllowed, NotBuilt}
 
 -- the head of a page
 abbrev pub page_head : Bool → Head
@@ -16,6 +17,7 @@ abbrev pub status_of : Answer → Status
 status_of NotFound = status.NotFound
 status_of MethodNotAllowed = status.MethodNotAllowed
 status_of NotBuilt = status.NotImplemented
+status_of (Refused fault) = status.InternalServerError
 status_of answer = status.Ok
 
 -- the line of an answer; a page has none
@@ -23,6 +25,7 @@ abbrev pub line_of : Answer → List ℕ
 line_of (Drafted count) = codes "draft " ++ decimal count
 line_of (Published version) = codes "version " ++ decimal version
 line_of (Page body) = []
+line_of (Refused fault) = page_fault_line fault
 line_of NotFound = codes "NotFound"
 line_of MethodNotAllowed = codes "MethodNotAllowed"
 line_of NotBuilt = codes "NotBuilt"

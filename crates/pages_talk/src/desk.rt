@@ -89,11 +89,12 @@ fn answer(
     version: &mut u64,
     request: &Request,
 ) -> Result<Answer, AllocError>
-    requires { version.old < 2 ^ 32 }
+    requires limits { IsWithinLimits tree.old }
+    requires version { version.old < 2 ^ 32 }
     ensures answer { IfOk result (λ answer. answer ≡ (effect (site_of tree.old draft.old version.old) (message request.now)).answer) }
     ensures after { OnOk result (site_of tree.new draft.new version.new ≡ after (site_of tree.old draft.old version.old) request.now) }
     ensures err { OnErr result (site_of tree.new draft.new version.new ≡ site_of tree.old draft.old version.old) }
-    ensures limits { IsWithinLimits tree.old → IsWithinLimits tree.new }
+    ensures limits { IsWithinLimits tree.new }
     ensures version { version.new ≤ version.old + 1 }
 {
     let message = read_message(alloc, request)?;

@@ -1,5 +1,4 @@
 ghost use Rattle.std.specs.Prelude.{◌≡◌, ◌+◌, ◌^◌, ◌<◌, ◌≤◌, List, ℕ, IfOk, OnOk, OnErr};
-ghost use Rattle.std.specs.Option.{option_copied};
 ghost use Rattle.source_tree.specs.declared.edit.Edit.{Edit};
 ghost use Rattle.source_tree.specs.declared.file.File.{File};
 ghost use Rattle.source_tree.specs.Limits.{IsWithinLimits};
@@ -10,9 +9,10 @@ use crate::answer::Answer;
 use crate::draft::Draft;
 use crate::first_page::first_page_body;
 use crate::message::Message;
+use crate::refusal::fault_at;
 use http_in::Param;
 use pg_text::{Bytes, Failure, Path};
-use source_tree::{Edit, File, FileText, Tree};
+use source_tree::{Edit, FileText, Tree};
 use std::alloc::{AllocError, Global};
 
 /// Does what a message asks for, and says what it is answered.
@@ -23,18 +23,19 @@ pub(crate) fn carry_out(
     version: &mut u64,
     message: Message,
 ) -> Result<Answer, AllocError>
-    requires { version.old < 2 ^ 32 }
+    requires limits { IsWithinLimits tree.old }
+    requires version { version.old < 2 ^ 32 }
     ensures answer { IfOk result (λ answer. answer ≡ (effect (site_of tree.old draft.old version.old) message).answer) }
     ensures site { OnOk result (site_of tree.new draft.new version.new ≡ (effect (site_of tree.old draft.old version.old) message).site) }
 
     ensures err { OnErr result (site_of tree.new draft.new version.new ≡ site_of tree.old draft.old version.old) }
-    ensures limits { IsWithinLimits tree.old → IsWithinLimits tree.new }
+    ensures limits { IsWithinLimits tree.new }
     ensures version { version.new ≤ version.old + 1 }
 {
     match message {
         Message::Put(path, text) => put(draft, path, text),
         Message::Publish => publish(tree, draft, version),
-        Message::Get(path, parameters) => page(alloc, tree.get(&path), parameters.as_slice()),
+        Message::Get(path, parameters) => page(alloc, tree, &path, parameters.as_slice()),
         Message::Missing => Ok(Answer::NotFound),
         Message::OtherMethod => Ok(Answer::MethodNotAllowed),
         Message::Other => Ok(Answer::NotBuilt),
@@ -77,13 +78,17 @@ fn publish(tree: &mut Tree, draft: &mut Draft, version: &mut u64) -> Result<Answ
     }
 }
 
-// The answer to a message that asks for this file as a page, with these parameters.
-fn page(alloc: Global, file: Option<&File>, parameters: &[Param]) -> Result<Answer, AllocError>
-    ensures { IfOk result (λ answer. answer ≡ page_answer (option_copied file.entry) parameters.now) }
+// The answer to a message that asks for the page at a path, with these parameters.
+fn page(alloc: Global, tree: &Tree, path: &Path, parameters: &[Param]) -> Result<Answer, AllocError>
+    requires { IsWithinLimits tree.now }
+    ensures { IfOk result (λ answer. answer ≡ page_answer tree.now path.now parameters.now) }
 {
-    let Some(file) = file else {
+    let Some(file) = tree.get(path) else {
         return Ok(Answer::NotFound);
     };
+    if let Some(fault) = fault_at(alloc, tree, path)? {
+        return Ok(Answer::Refused(fault));
+    }
     match first_page_body(alloc, file.text.as_str(), parameters)? {
         Some(body) => Ok(Answer::Page(Bytes::new(body))),
         None => Ok(Answer::NotBuilt),

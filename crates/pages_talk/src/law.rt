@@ -1,4 +1,4 @@
-ghost use Rattle.pages_talk.specs.Law.{AreByRequests, HasOneConversation, HasOneHistory};
+ghost use Rattle.pages_talk.specs.Law.{AreByRequests, HasExactRefusals, HasOneConversation, HasOneHistory};
 
 /// What a connection publishes is one legal history, each publishing once and in order; a page is served from what the
 /// history made last. This call does nothing: its contract is the law.
@@ -16,4 +16,10 @@ pub fn by_requests()
 /// that they leave. This call does nothing: its contract is the law.
 pub fn one_conversation()
     ensures { HasOneConversation }
+{}
+
+/// A page is refused exactly where the unit of the files that were published last has that fault. This call does nothing: its
+/// contract is the law.
+pub fn exact_refusals()
+    ensures { HasExactRefusals }
 {}

@@ -11,10 +11,11 @@ mod first_page;
 mod law;
 mod limits;
 mod message;
+mod refusal;
 mod writing;
 
 pub use command::play;
 pub use connection::{Role, talk};
 pub use conversation::Ended;
-pub use law::{by_requests, one_conversation, one_history};
+pub use law::{by_requests, exact_refusals, one_conversation, one_history};
 pub use limits::{MAX_DRAFT_BYTES, MAX_DRAFT_EDITS, MAX_OUTPUT_BYTES};

