@@ -1,0 +1,188 @@
+// Codes in writing: cells between semicolons, each with what stands open before it, and its instruction. What stands open is
+// a digit for values, and k, l, t for a body that is kept, a loop and a catch, in the order in which they were opened; z drops all values.
+use crate::operations::operation;
+use code_check::CheckedCode;
+use page_code::{
+    Bean, CallBody, CallOut, Code, Fragment, Instr, Leave, LoopKind, Name, Over, ScopedName, Shape,
+    TagCall,
+};
+use pg_text::{Listed, Place, Text, resolve};
+use pg_value::{Scope, Value};
+use std::alloc::{AllocError, Global};
+use std::test::Fail;
+
+/// Whether the code can be run.
+pub fn is_accepted(alloc: Global, cells: &str) -> Result<bool, Fail> {
+    let mut code = Code::new(alloc);
+    if !cells.is_empty() {
+        for cell in cells.split(';') {
+            put(alloc, &mut code, cell)?;
+        }
+    }
+    Ok(CheckedCode::new(code).is_ok())
+}
+
+fn put(alloc: Global, code: &mut Code, cell: &str) -> Result<(), Fail> {
+    let Some((open, instruction)) = cell.split_once(' ') else {
+        return Err(Fail::new("a cell has no instruction"));
+    };
+    let shape = shape(alloc, open)?;
+    let instr = instruction_of(alloc, instruction)?;
+    code.put(&shape, &place(alloc)?, instr)?;
+    Ok(())
+}
+
+fn shape(alloc: Global, letters: &str) -> Result<Shape, AllocError> {
+    let mut shape = Shape::empty(alloc)?;
+    for letter in letters.as_bytes() {
+        shape = opened(&shape, *letter)?;
+    }
+    Ok(shape)
+}
+
+fn opened(shape: &Shape, letter: u8) -> Result<Shape, AllocError> {
+    match letter {
+        b'k' => shape.keeping(),
+        b'l' => shape.looping(),
+        b't' => shape.trying(),
+        b'z' => {
+            let mut low = shape.copy()?;
+            low.values = 0;
+            Ok(low)
+        }
+        digit => shape.up((digit % 16) as usize),
+    }
+}
+
+fn instruction_of(alloc: Global, words: &str) -> Result<Instr, Fail> {
+    let (word, count) = match words.split_once(' ') {
+        Some((word, count)) => (word, count.parse::<usize>().unwrap_or(0)),
+        None => (words, 0),
+    };
+    if let Some(instr) = jump(word, count) {
+        return Ok(instr);
+    }
+    if let Some(instr) = opening(alloc, word, count)? {
+        return Ok(instr);
+    }
+    if let Some(instr) = call(alloc, word, count)? {
+        return Ok(instr);
+    }
+    match operation(alloc, word)? {
+        Some(op) => Ok(Instr::Op(op)),
+        None => Err(Fail::new("there is no such instruction")),
+    }
+}
+
+fn jump(word: &str, count: usize) -> Option<Instr> {
+    match word {
+        "Take" => Some(Instr::Take(count)),
+        "Jump" => Some(Instr::Jump(count)),
+        "JumpIf" => Some(Instr::JumpIf(true, count)),
+        "JumpNull" => Some(Instr::JumpNull(count)),
+        "End" => Some(Instr::Leave(Leave::End)),
+        "Forward" => Some(Instr::Leave(Leave::Forward(count))),
+        "Redirect" => Some(Instr::Leave(Leave::Redirect)),
+        _ => None,
+    }
+}
+
+fn opening(alloc: Global, word: &str, count: usize) -> Result<Option<Instr>, Fail> {
+    match word {
+        "StartBody" => Ok(Some(Instr::StartBody)),
+        "TakeBody" => Ok(Some(Instr::TakeBody)),
+        "CatchStart" => Ok(Some(Instr::CatchStart(count))),
+        "CatchEnd" => Ok(Some(Instr::CatchEnd)),
+        "LoopStart" => Ok(Some(loop_start(alloc, count)?)),
+        "LoopNext" => Ok(Some(Instr::LoopNext(count))),
+        "Ensure" => Ok(Some(ensure(alloc, count)?)),
+        _ => Ok(None),
+    }
+}
+
+// A loop over items with so many names.
+fn loop_start(alloc: Global, names: usize) -> Result<Instr, Fail> {
+    Ok(Instr::LoopStart(LoopKind {
+        over: Over::Items,
+        names: texts(alloc, names)?,
+        variable: Some(name(alloc)?),
+        status: None,
+    }))
+}
+
+// A bean, with so many cells behind it that are passed over where it stands.
+fn ensure(alloc: Global, size: usize) -> Result<Instr, Fail> {
+    let Some(bean) = Bean::new(Value::Null) else {
+        return Err(Fail::new("the value is too large"));
+    };
+    let variable = ScopedName {
+        scope: Scope::Page,
+        name: name(alloc)?,
+    };
+    Ok(Instr::Ensure {
+        variable,
+        bean,
+        size,
+    })
+}
+
+fn call(alloc: Global, word: &str, count: usize) -> Result<Option<Instr>, Fail> {
+    let what = match word {
+        "Body" => CallOut::Body,
+        "Fragment" => CallOut::Fragment(text(alloc)?),
+        "Include" => CallOut::Include {
+            flush: true,
+            params: count,
+        },
+        "Import" => CallOut::Import,
+        "TagWithout" => tag_call(alloc, CallBody::Absent, count)?,
+        "TagOfText" => tag_call(alloc, CallBody::Source(text(alloc)?), count)?,
+        "TagOfOne" => tag_call(alloc, CallBody::Cells(1), count)?,
+        "TagOfTwo" => tag_call(alloc, CallBody::Cells(2), count)?,
+        "TagOfThree" => tag_call(alloc, CallBody::Cells(3), count)?,
+        "TagOfAll" => tag_call(alloc, CallBody::Cells(usize::MAX), count)?,
+        _ => return Ok(None),
+    };
+    Ok(Some(Instr::CallOut(what)))
+}
+
+// The call of a tag file with one attribute, and a fragment of so many cells.
+fn tag_call(alloc: Global, body: CallBody, size: usize) -> Result<CallOut, Fail> {
+    let name = text(alloc)?;
+    let mut fragments = Listed::empty(alloc);
+    fragments.push(Fragment { name, size })?;
+    Ok(CallOut::Tag(TagCall {
+        path: resolve(alloc, None, "/WEB-INF/tags/t.tag")?,
+        names: texts(alloc, 1)?,
+        body,
+        fragments,
+    }))
+}
+
+pub fn place(alloc: Global) -> Result<Place, Fail> {
+    Ok(Place {
+        file: resolve(alloc, None, "/p.jsp")?,
+        byte: 0,
+        line: 1,
+        column: 1,
+    })
+}
+
+pub fn text(alloc: Global) -> Result<Text, AllocError> {
+    Text::copy_of(alloc, "a")
+}
+
+fn texts(alloc: Global, count: usize) -> Result<Listed<Text>, AllocError> {
+    let mut texts = Listed::empty(alloc);
+    for _ in 0..count {
+        texts.push(text(alloc)?)?;
+    }
+    Ok(texts)
+}
+
+pub fn name(alloc: Global) -> Result<Name, Fail> {
+    match Name::new(text(alloc)?) {
+        Some(name) => Ok(name),
+        None => Err(Fail::new("the name is too long")),
+    }
+}
