@@ -4,8 +4,7 @@ ghost use Rattle.code_check.specs.ReadChecks.{begins_body, ends_call, fits_addre
 
 use crate::cells::{carries_nothing, carries_same};
 use crate::open::{Open, can_take_values, without};
-use crate::operations::with_address;
-use page_code::{CallBody, CallOut, Cell, Fragment, Leave, TagCall};
+use page_code::{CallBody, CallOut, Cell, Fragment, Leave, TagCall, values_of_address};
 
 /// A call finds the values that it takes, what it hands down begins with nothing open, and it goes on where what is left stands open.
 pub(crate) fn call_fits(code: &[Cell], next: usize, open: Open<'_>, call: &CallOut) -> bool
@@ -24,7 +23,7 @@ pub(crate) fn leave_fits(open: Open<'_>, leave: Leave) -> bool
     ensures { result ≡ fits_leave open.entry.values open.entry.bodies open.entry.loops open.entry.catches.now leave }
 {
     match leave {
-        Leave::Forward(params) => can_take_values(open, with_address(params)),
+        Leave::Forward(params) => can_take_values(open, values_of_address(params)),
         Leave::Redirect => can_take_values(open, 1),
         Leave::End => {
             open.values == 0 && open.bodies == 0 && open.loops == 0 && open.catches.is_empty()
@@ -36,7 +35,7 @@ pub(crate) fn leave_fits(open: Open<'_>, leave: Leave) -> bool
 fn address_call_fits(code: &[Cell], next: usize, open: Open<'_>, params: usize) -> bool
     ensures { result ≡ fits_address code.now next params open.entry.values open.entry.bodies open.entry.loops open.entry.catches.now }
 {
-    let count = with_address(params);
+    let count = values_of_address(params);
     can_take_values(open, count) && carries_same(code, next, without(open, count))
 }
 

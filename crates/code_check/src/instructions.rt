@@ -4,7 +4,6 @@ ghost use Rattle.code_check.specs.ReadChecks.{fits, fits_branch, fits_loop, fits
 use crate::calls::{call_fits, leave_fits};
 use crate::cells::{carries_ahead, carries_catch, carries_more, carries_same, closes_catch};
 use crate::open::{Open, can_take_values, without};
-use crate::operations::{values_left, values_taken};
 use page_code::{Cell, Instr, LoopKind, Op};
 
 /// An instruction finds what it takes, and each place to which it may go carries what it leaves.
@@ -54,9 +53,9 @@ pub(crate) fn instr_fits(code: &[Cell], pc: usize, open: Open<'_>, instr: &Instr
 fn op_fits(code: &[Cell], next: usize, open: Open<'_>, op: &Op) -> bool
     ensures { result ≡ fits_op code.now next open.entry.values open.entry.bodies open.entry.loops open.entry.catches.now op.now }
 {
-    let count = values_taken(op);
+    let count = op.takes();
     can_take_values(open, count)
-        && carries_more(code, next, without(open, count), values_left(op), 0, 0)
+        && carries_more(code, next, without(open, count), op.leaves(), 0, 0)
 }
 
 // A jump that takes the value on top in any case.

@@ -6,7 +6,6 @@ mod cells;
 mod checked;
 mod instructions;
 mod open;
-mod operations;
 mod whole;
 
 pub use checked::CheckedCode;

@@ -4,6 +4,7 @@
 mod bean;
 mod call;
 mod code;
+mod counts;
 mod instr;
 mod name;
 mod op;
@@ -13,6 +14,7 @@ mod shape;
 pub use bean::Bean;
 pub use call::{CallBody, CallOut, Fragment, Leave, TagCall};
 pub use code::{Cell, Code};
+pub use counts::values_of_address;
 pub use instr::Instr;
 pub use name::{MAX_NAME_BYTES, Name};
 pub use op::Op;

@@ -8,7 +8,7 @@ use Rattle.pg_value.specs.Datum.{Datum}
 use Rattle.pg_value.specs.Value.{value_of}
 use Rattle.pg_value.specs.declared.fault.RunFault.{RunFault}
 use Rattle.pg_value.specs.declared.fault.RunFault.TheVariants as fault
-use Rattle.scopes.specs.Scopes.{found_in, with_frame, with_variable, set_answer}
+use Rattle.scopes.specs.Scopes.{found_in, with_frame, with_frame_of, with_variable, set_answer}
 use Rattle.scopes.specs.declared.held_scope.HeldScope.{HeldScope}
 use Rattle.site_words.specs.Law.{Answer}
 use Rattle.site_words.specs.declared.words.AppStep.TheVariants as step
@@ -17,7 +17,7 @@ use Rattle.page_meaning.specs.Includes as includes
 use Rattle.page_meaning.specs.Fragments.{given_deeper}
 use Rattle.page_meaning.specs.State.{State, in_scopes}
 use Rattle.site_words.specs.PageSteps.{tells_created}
-use Rattle.page_meaning.specs.Tags.{call_run, with_frame_of}
+use Rattle.page_meaning.specs.Tags.{call_run}
 use Rattle.page_meaning.specs.Variables.{set_held}
 use Rattle.page_meaning.specs.Went.{Went, Did, Well, Raised, Ended, Awaits, then_do, either, result_of}
 use Rattle.page_meaning.specs.Work.{is_spent, fetched, ask}

@@ -52,19 +52,19 @@ use Rattle.page_table.proofs.Tame.{same, both, quiet, result}
 use Rattle.page_table.proofs.Words.{put_text_tame, flush_if_calm, taken_grows}
 
 -- calls
-tidied_grows : (before : State) (d : Did) → Grows (state_of d) (state_of (tidied (back_to before.scopes) d))
+pub tidied_grows : (before : State) (d : Did) → Grows (state_of d) (state_of (tidied (back_to before.scopes) d))
 tidied_grows before (Well u t) = quiet t (back_to before.scopes t) refl refl
 tidied_grows before (Raised f place t) = quiet t (back_to before.scopes t) refl refl
 tidied_grows before (Ended leaving t) = same t
 tidied_grows before (Awaits step t) = same t
 
-call_back_grows : (c : CallSeat) (before : State) (d : Did) → Grows (state_of d) (state_of (call_back c before d))
+pub call_back_grows : (c : CallSeat) (before : State) (d : Did) → Grows (state_of d) (state_of (call_back c before d))
 call_back_grows c before (Well u t) = quiet t (state_of (call_back c before (Well u t))) refl refl
 call_back_grows c before (Raised f place t) = quiet t (back_to before.scopes t) refl refl
 call_back_grows c before (Ended leaving t) = same t
 call_back_grows c before (Awaits step t) = same t
 
-entered_goes : (place : Place) (c : CallSeat) (entries : Entries) (caller : Seat) (to : ℕ) (s : State) (o : Open) → MoveGoes o.left s (call_entered place c entries caller to s o)
+pub entered_goes : (place : Place) (c : CallSeat) (entries : Entries) (caller : Seat) (to : ℕ) (s : State) (o : Open) → MoveGoes o.left s (call_entered place c entries caller to s o)
 entered_goes place c entries caller to s o =
     deeper_goes place s o o.left _ (λ left e. record {
       deeper = left;
@@ -73,14 +73,14 @@ entered_goes place c entries caller to s o =
       backs = λ d. land_onward to (λ u. o.stack) o (state_of d) (call_back c s d) (call_back_grows c s d);
     })
 
-tag_goes : (place : Place) (found : Option TagCode) (c : TagCall) (behind : ℕ) (ds : List Datum) (caller : Seat) (s : State) (o : Open) → MoveGoes o.left s (tag_called place found c behind ds caller s o)
+pub tag_goes : (place : Place) (found : Option TagCode) (c : TagCall) (behind : ℕ) (ds : List Datum) (caller : Seat) (s : State) (o : Open) → MoveGoes o.left s (tag_called place found c behind ds caller s o)
 tag_goes place None c behind ds caller s o = stays (behind + call_size c) s s o o.left refl (same s)
 tag_goes place (Some tag) c behind ds caller s o =
     let r = first_frame tag.decl (table_of c.names ds) in
     then_move_goes o s (result_of place r s) (λ entries s1. call_entered place (call_of tag c behind entries s1) entries caller (behind + call_size c) s1 o) (result place r s).grows
     (λ entries t. entered_goes place (call_of tag c behind entries t) entries caller (behind + call_size c) t o)
 
-given_entered_goes : (place : Place) (left : ℕ) (g : Given) (c : CallSeat) (caller : Seat) (to : ℕ) (s : State) (o : Open) → suc left ≡ o.left → MoveGoes o.left s (given_entered place left g c caller to s o)
+pub given_entered_goes : (place : Place) (left : ℕ) (g : Given) (c : CallSeat) (caller : Seat) (to : ℕ) (s : State) (o : Open) → suc left ≡ o.left → MoveGoes o.left s (given_entered place left g c caller to s o)
 given_entered_goes place left nothing c caller to s o e = stays to s s o o.left refl (same s)
 given_entered_goes place left (source_text t) c caller to s o e =
     let u = copied_to_caller c s in
@@ -94,31 +94,31 @@ given_entered_goes place left (code_at at) c caller to s o e = record {
   backs = λ d. land_onward to (λ u. o.stack) o (state_of d) (tidied (back_to s.scopes) d) (tidied_grows s d);
 }
 
-given_deeper_goes : (place : Place) (g : Given) (seat : Seat) (to : ℕ) (s : State) (o : Open) → MoveGoes o.left s (given_deeper place g seat to s o)
+pub given_deeper_goes : (place : Place) (g : Given) (seat : Seat) (to : ℕ) (s : State) (o : Open) → MoveGoes o.left s (given_deeper place g seat to s o)
 given_deeper_goes place g (in_page program params) to s o = stays to s s o o.left refl (same s)
 given_deeper_goes place g (in_tag c caller) to s o = deeper_goes place s o o.left _ (λ left e. given_entered_goes place left g c caller to s o e)
 
-given_goes : (place : Place) (g : Given) (seat : Seat) (to : ℕ) (s : State) (o : Open) → MoveGoes o.left s (given_called place g seat to s o)
+pub given_goes : (place : Place) (g : Given) (seat : Seat) (to : ℕ) (s : State) (o : Open) → MoveGoes o.left s (given_called place g seat to s o)
 given_goes place nothing seat to s o = stays to s s o o.left refl (same s)
 given_goes place (source_text t) seat to s o = given_deeper_goes place (source_text t) seat to s o
 given_goes place (code_at at) seat to s o = given_deeper_goes place (code_at at) seat to s o
 
 -- pages
-included_end_grows : (place : Place) (before : State) (d : Did) → Grows (state_of d) (state_of (included_end place before d))
+pub included_end_grows : (place : Place) (before : State) (d : Did) → Grows (state_of d) (state_of (included_end place before d))
 included_end_grows place before (Well u t) = quiet t (back_to before.scopes t) refl refl
 included_end_grows place before (Raised f p t) = quiet t (back_to before.scopes t) refl refl
 included_end_grows place before (Ended (redirects location) t) = quiet t (state_of (included_end place before (Ended (redirects location) t))) refl refl
 included_end_grows place before (Ended (forwards path params left) t) = same t
 included_end_grows place before (Awaits step t) = same t
 
-page_goes : (program : Program) (params : List Param) (left k : ℕ) (back : Did → Config) (s : State) (d : Did) → suc left ≡ k → Grows s (state_of d)
+pub page_goes : (program : Program) (params : List Param) (left k : ℕ) (back : Did → Config) (s : State) (d : Did) → suc left ≡ k → Grows s (state_of d)
     → ((r : Did) → Onward k (state_of r) (back r)) → MoveGoes k s (page_entered program params left back d)
 page_goes program params left k back s (Well u t) e g h = record { deeper = left; less = e; begins = record { grows = g; left = refl }; backs = h }
 page_goes program params left k back s (Raised f place t) e g h = onward_behind k s t (back (Raised f place t)) g (h (Raised f place t))
 page_goes program params left k back s (Ended leaving t) e g h = onward_behind k s t (back (Ended leaving t)) g (h (Ended leaving t))
 page_goes program params left k back s (Awaits step t) e g h = onward_behind k s t (back (Awaits step t)) g (h (Awaits step t))
 
-included_goes : (place : Place) (params : List Param) (left : ℕ) (found : Stored) (to : ℕ) (s : State) (o : Open) → suc left ≡ o.left → MoveGoes o.left s (included place params left found to s o)
+pub included_goes : (place : Place) (params : List Param) (left : ℕ) (found : Stored) (to : ℕ) (s : State) (o : Open) → suc left ≡ o.left → MoveGoes o.left s (included place params left found to s o)
 included_goes place params left absent to s o e = stays to s s o o.left refl (same s)
 included_goes place params left (plain t) to s o e = land_onward to (λ u. o.stack) o s (put_text place t s) (put_text_tame place t s).grows
 included_goes place params left (bad f) to s o e = stays to s s o o.left refl (same s)
@@ -128,23 +128,23 @@ included_goes place params left (good program) to s o e =
     (both s t (state_of (page_begun program t)) (quiet s t refl refl) (page_begun_keeps program t).grows)
     (λ d. land_onward to (λ u. o.stack) o (state_of d) (included_end place s d) (included_end_grows place s d))
 
-include_at_goes : (serving : Serving) (place : Place) (params : List Param) (r : Result (List ℕ) BadPath) (to : ℕ) (s : State) (o : Open) → MoveGoes o.left s (include_at serving place params r to s o)
+pub include_at_goes : (serving : Serving) (place : Place) (params : List Param) (r : Result (List ℕ) BadPath) (to : ℕ) (s : State) (o : Open) → MoveGoes o.left s (include_at serving place params r to s o)
 include_at_goes serving place params (Err reason) to s o = thrown_onward fault.NoSuchPage place s o
 include_at_goes serving place params (Ok path) to s o =
     deeper_goes place s o o.left _ (λ left e.
     then_move_goes o s (ask_page (served_of serving) place path s) (λ paged s1. included place params left (serving.stored path) to s1 o) (ask_page_tame (served_of serving) place path s).grows
     (λ paged t. included_goes place params left (serving.stored path) to t o e))
 
-include_goes : (serving : Serving) (place : Place) (run : Run) (target : List ℕ) (params : List Param) (to : ℕ) (s : State) (o : Open) → MoveGoes o.left s (include_called serving place run target params to s o)
+pub include_goes : (serving : Serving) (place : Place) (run : Run) (target : List ℕ) (params : List Param) (to : ℕ) (s : State) (o : Open) → MoveGoes o.left s (include_called serving place run target params to s o)
 include_goes serving place run target params to s o = include_at_goes serving place (target_params run target params) (target_path run target) to s o
 
-import_goes : (serving : Serving) (place : Place) (run : Run) (target : List ℕ) (to : ℕ) (s : State) (o : Open) → MoveGoes o.left s (import_called serving place run target to s o)
+pub import_goes : (serving : Serving) (place : Place) (run : Run) (target : List ℕ) (to : ℕ) (s : State) (o : Open) → MoveGoes o.left s (import_called serving place run target to s o)
 import_goes serving place run target to s o =
     then_move_goes o s (local_url place target (λ s1. Well tt s1) s) (λ u s1. include_called serving place run target [] to s1 o) (local_url_tame place target s).grows
     (λ u t. include_goes serving place run target [] to t o)
 
 -- loops
-next_round_onward : (place : Place) (loop : Loop) (outer : List Loop) (rounds : List Round) (again behind : ℕ) (s : State) (o : Open) → Onward o.left s (next_round place loop outer rounds again behind s o)
+pub next_round_onward : (place : Place) (loop : Loop) (outer : List Loop) (rounds : List Round) (again behind : ℕ) (s : State) (o : Open) → Onward o.left s (next_round place loop outer rounds again behind s o)
 next_round_onward place loop outer [] again behind s o =
     let t = without_named loop.variable s in
     stays behind s (without_named loop.status t) (record o { loops = outer }) o.left refl
@@ -153,7 +153,7 @@ next_round_onward place loop outer (r ∷ rest) again behind s o =
     then_at_onward o s (round_begun place loop.variable loop.status loop.values r s) (λ u s1. Running again s1 (record o { loops = record loop { rounds = rest } ∷ outer }))
     (round_tame place loop.variable loop.status loop.values r s).grows (λ u t. record { grows = same t; left = refl })
 
-loop_goes : (place : Place) (loops : List Loop) (again behind : ℕ) (s : State) (o : Open) → MoveGoes o.left s (loop_next place loops again behind s o)
+pub loop_goes : (place : Place) (loops : List Loop) (again behind : ℕ) (s : State) (o : Open) → MoveGoes o.left s (loop_next place loops again behind s o)
 loop_goes place [] again behind s o = tt
 loop_goes place (loop ∷ outer) again behind s o = next_round_onward place loop outer loop.rounds again behind s o
 
@@ -174,7 +174,7 @@ closed_goes : (catches : List OpenCatch) (to : ℕ) (s : State) (o : Open) → M
 closed_goes [] to s o = tt
 closed_goes (c ∷ outer) to s o = record { grows = same s; left = refl }
 
-called_goes : (serving : Serving) (seat : Seat) (place : Place) (behind : ℕ) (c : CallOut) (s : State) (o : Open) → MoveGoes o.left s (called_out serving seat place behind c s o)
+pub called_goes : (serving : Serving) (seat : Seat) (place : Place) (behind : ℕ) (c : CallOut) (s : State) (o : Open) → MoveGoes o.left s (called_out serving seat place behind c s o)
 called_goes serving seat place behind (call.Tag c) s o =
     popped_all_goes (length c.names) s o _ (λ ds rest. tag_goes place (tag_at c.path (program_of seat).tags) c behind ds seat s (record o { stack = rest }))
 called_goes serving seat place behind call.Body s o = given_goes place (body_in seat) seat behind s o
@@ -194,7 +194,7 @@ gone_onward o s (Raised f place t) go gone = onward_behind o.left s t (thrown f 
 gone_onward o s (Ended leaving t) go gone = record { grows = gone_grows s leaving t gone; left = tt }
 gone_onward o s (Awaits step t) go gone = record { grows = gone; left = tt }
 
-leaving_goes : (serving : Serving) (seat : Seat) (place : Place) (how : Leave) (s : State) (o : Open) → MoveGoes o.left s (leaving serving seat place how s o)
+pub leaving_goes : (serving : Serving) (seat : Seat) (place : Place) (how : Leave) (s : State) (o : Open) → MoveGoes o.left s (leaving serving seat place how s o)
 leaving_goes serving seat place (leave.Forward params) s o =
     popped_all_goes (address_with params) s o _ (λ ds rest.
     gone_onward (record o { stack = rest }) s (forward_mean (served_of serving) (levels o.left) place (page_run_of seat) (text_at 0 ds) (params_in (behind_first ds)) s) (λ u s1. Over (Well u s1))
@@ -203,7 +203,7 @@ leaving_goes serving seat place leave.Redirect s o =
     popped_all_goes 1 s o _ (λ ds rest. gone_onward (record o { stack = rest }) s (redirect_mean place (text_at 0 ds) s) (λ u s1. Over (Well u s1)) (redirect_gone place (text_at 0 ds) s))
 leaving_goes serving seat place leave.End s o = record { grows = same s; left = tt }
 
-act_goes : (serving : Serving) (seat : Seat) (place : Place) (pc : ℕ) (s : State) (o : Open) (i : Instr) → MoveGoes o.left s (act serving seat place pc s o i)
+pub act_goes : (serving : Serving) (seat : Seat) (place : Place) (pc : ℕ) (s : State) (o : Open) (i : Instr) → MoveGoes o.left s (act serving seat place pc s o i)
 act_goes serving seat place pc s o (instr.Op op) =
     popped_all_goes (takes op) s o _ (λ ds rest.
     land_onward (pc + 1) (λ made. made ++ rest) (record o { stack = rest }) s (operation serving seat place op ds s) (operation_works serving seat place op ds s).keeps.grows)

@@ -2,6 +2,8 @@ mod Agreeing
 pub mod Ends
 pub mod Finding
 pub mod Fitting
+pub mod FrameCounts
+pub mod Frames
 pub mod GivenFits
 pub mod Growing
 pub mod Objects

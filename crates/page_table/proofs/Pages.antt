@@ -25,9 +25,9 @@ use Rattle.page_table.proofs.Tame.{same, both, quiet, Keeps, keeps_same, TameAt,
 
 -- a session's start
 started_keeps : (s : State) (answers : List Answer) → TameAt s (session_started answers s)
-started_keeps s [] = record { grows = same s; bodies = refl; visits = omega arith }
+started_keeps s [] = record { grows = same s; bodies = refl; visits = omega arith; frames = omega arith }
 started_keeps s (answer ∷ rest) =
-    record { grows = record { asked = (fresh ∷ [], refl); pieces = ([], sym (append-nil s.writer.pieces)) }; bodies = refl; visits = omega arith }
+    record { grows = record { asked = (fresh ∷ [], refl); pieces = ([], sym (append-nil s.writer.pieces)) }; bodies = refl; visits = omega arith; frames = omega arith }
 
 pub page_begun_keeps : (program : Program) (s : State) → TameAt s (page_begun program s)
 page_begun_keeps program s =
@@ -35,7 +35,7 @@ page_begun_keeps program s =
 
 -- what stands at a path
 fetched_keeps : (path : List ℕ) → Calm (fetched path)
-fetched_keeps path s = record { grows = record { asked = (fetch path ∷ [], refl); pieces = ([], sym (append-nil s.writer.pieces)) }; bodies = refl; visits = omega arith }
+fetched_keeps path s = record { grows = record { asked = (fetch path ∷ [], refl); pieces = ([], sym (append-nil s.writer.pieces)) }; bodies = refl; visits = omega arith; frames = omega arith }
 
 fetched_tame : (place : Place) (path : List ℕ) (paged : Paged) → Tame (fetched_or_fault place path paged)
 fetched_tame place path absent = raised fault.NoSuchPage place

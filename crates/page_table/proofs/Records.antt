@@ -3,14 +3,14 @@ use Rattle.std.proofs.Common.{ℕ, true, false, List, [], ◌∷◌, Option, Som
 use Rattle.std.specs.Prelude.{is_some}
 use Rattle.jstl_functions.specs.Functions.{measured}
 use Rattle.pg_text.specs.declared.place.Place.{Place}
-use Rattle.pg_value.specs.Attrs.{entry_at, with_entry}
+use Rattle.pg_value.specs.Attrs.{entry_at, with_entry, without_entry}
 use Rattle.pg_value.specs.Datum as datum
 use Rattle.pg_value.specs.Datum.{Datum, null, truth, number, text, rec, entry_list, entries_of}
 use Rattle.pg_value.specs.Value.{value_of}
 use Rattle.pg_value.specs.declared.fault.RunFault.TheVariants as fault
 use Rattle.pg_value.specs.declared.scope.Scope.{Scope}
 use Rattle.http_in.specs.declared.params.Param.{Param}
-use Rattle.scopes.specs.Scopes.{Entries, found_in, with_variable, without_variable}
+use Rattle.scopes.specs.Scopes.{Entries, found_in}
 use Rattle.scopes.specs.declared.held_scope.HeldScope.{HeldScope}
 use Rattle.scopes.specs.declared.held_scope.HeldScope.TheVariants as held
 use Rattle.site_words.specs.declared.words.AppStep.TheVariants as step
@@ -30,11 +30,11 @@ use Rattle.page_meaning.specs.Work.{visit, ask}
 use Rattle.page_table.specs.Act.{bean_made}
 use Rattle.page_table.specs.Operations as operations
 use Rattle.page_table.specs.Operations.{property_set}
-use Rattle.page_table.proofs.Tame.{keeps_same, Tame, Calm, scopes_calm, well, raised, result, changed, behind, thens, eithers}
+use Rattle.page_table.proofs.Tame.{keeps_same, Tame, Calm, changed_calm, well, raised, result, changed, behind, thens, eithers}
 use Rattle.page_table.proofs.Words.{visit_tame, ask_tame, set_held_tame, assign_tame, look_up_tame}
 
 with_page_calm : (name : List ℕ) (d : Datum) → Calm (with_page_variable name d)
-with_page_calm name d = scopes_calm (λ scopes. with_variable scopes held.Page name d)
+with_page_calm name d = changed_calm held.Page (λ entries. with_entry entries name d)
 
 with_named_calm : (name : Option (List ℕ)) (d : Datum) → Calm (with_named name d)
 with_named_calm None d s = keeps_same s
@@ -42,7 +42,7 @@ with_named_calm (Some name) d s = with_page_calm name d s
 
 pub without_named_calm : (name : Option (List ℕ)) → Calm (without_named name)
 without_named_calm None s = keeps_same s
-without_named_calm (Some name) s = scopes_calm (λ scopes. without_variable scopes held.Page name) s
+without_named_calm (Some name) s = changed_calm held.Page (λ entries. without_entry entries name) s
 
 -- a round
 set_status_tame : (place : Place) (name : Option (List ℕ)) (d : Datum) → Tame (set_status place name d)

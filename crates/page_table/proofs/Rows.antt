@@ -30,6 +30,7 @@ use Rattle.page_table.specs.Open.{Open}
 use Rattle.page_table.specs.Pages.{page_begun, page_entered, included, include_at, include_called, import_called}
 use Rattle.page_table.specs.Program.{Program, TagCode, Stored, absent, plain, bad, good, Serving, served_of}
 use Rattle.page_table.specs.Seat.{CallSeat, Seat, in_page, in_tag, code_of, Given, nothing, source_text, code_at}
+use Rattle.page_table.proofs.FrameCounts.{copied_frames, frame_more}
 use Rattle.page_table.proofs.GivenFits.{GivenFits}
 use Rattle.page_table.proofs.Pages.{page_begun_keeps, ask_page_tame, local_url_tame}
 use Rattle.page_table.proofs.Standing.{known, stored_at, Next, MoveFits, tame_leaves, ended_fewer, length_last, Ready, thrown_next, at_next, then_next, deeper_next, starts}
@@ -140,7 +141,7 @@ module _ (serving : Serving) (code : List Cell) (base pc to : ℕ) (sh : Shape) 
       let u = copied_to_caller c s in
       let w = put_text place t u in
       spot_land v s o (tidied (back_to s.scopes) w) spot
-      (tidied_leaves (kept s) v s w (later_leaves (kept s) v s.visits w visits (tame_leaves s w (keeps_then s u w (keeps_scopes s u.scopes) (put_text_tame place t u)))))
+      (tidied_leaves (kept s) v s w (later_leaves (kept s) v s.visits w visits (tame_leaves s w (keeps_then s u w (keeps_scopes s u.scopes (copied_frames c s)) (put_text_tame place t u)))))
   given_entered_next v place left (code_at at) c caller seated fits s o spot visits = record {
     own = kept s;
     fits = known seated;
@@ -193,7 +194,7 @@ module _ (serving : Serving) (code : List Cell) (base pc to : ℕ) (sh : Shape) 
       let t = in_scopes (with_frame s.scopes) s in
       let d = page_begun program t in
       page_next serving code base v (weight (length code) pc o.catches) (kept s) path program params left (λ r. land to (λ u. o.stack) o (included_end place s r)) d fits
-      (later_leaves (kept s) v s.visits d visits (tame_leaves s d (keeps_then s t d (keeps_scopes s t.scopes) (page_begun_keeps program t))))
+      (later_leaves (kept s) v s.visits d visits (tame_leaves s d (keeps_then s t d (keeps_scopes s t.scopes (frame_more [] s)) (page_begun_keeps program t))))
       (λ r h. spot_land serving code base pc to sh v s o (included_end place s r) spot (included_end_leaves place s v r h))
 
   include_at_next : (v : ℕ) (place : Place) (params : List Param) (r : Result (List ℕ) BadPath)

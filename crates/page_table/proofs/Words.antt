@@ -1,9 +1,10 @@
 -- Visits, steps, variables and texts are tame.
-use Rattle.std.proofs.Common.{◌≡◌, ◌+◌, ℕ, zero, suc, Bool, true, false, List, [], ◌∷◌, ◌++◌, length, Option, Some, None, Result, Ok, Err, refl, sym, ap, nat_lt, nat_le, arith, append-nil}
+use Rattle.std.proofs.Common.{◌≡◌, ◌≤◌, ◌+◌, ℕ, zero, suc, Bool, true, false, List, [], ◌∷◌, ◌++◌, length, Option, Some, None, Result, Ok, Err, refl, sym, ap, nat_lt, nat_le, arith, append-nil}
 use Rattle.std.specs.Prelude.{if◌then◌else◌}
 use Rattle.edges.specs.History.{IsFront}
 use Rattle.out_buffer.specs.Writer.{Writer, put, put_limit, flushed, flushed_over, front_pieces, pieces_over, piece_of, buffered, written, placed, body_answer, innermost, without_body}
 use Rattle.pg_text.specs.declared.place.Place.{Place}
+use Rattle.pg_value.specs.Attrs.{with_entry, without_entry}
 use Rattle.pg_value.specs.Datum as datum
 use Rattle.pg_value.specs.Datum.{Datum, null, truth, number, text, rec}
 use Rattle.pg_value.specs.Limits.{is_over}
@@ -13,8 +14,9 @@ use Rattle.pg_value.specs.declared.fault.RunFault.TheVariants as fault
 use Rattle.pg_value.specs.declared.scope.Scope.{Scope}
 use Rattle.pg_value.specs.declared.scope.Scope.TheVariants as scope
 use Rattle.scopes.specs.HeldScope.{held_scope}
-use Rattle.scopes.specs.Scopes.{with_variable, without_variable, set_answer}
+use Rattle.scopes.specs.Scopes.{ScopeState, with_variable, without_variable, set_answer}
 use Rattle.scopes.specs.declared.held_scope.HeldScope.{HeldScope}
+use Rattle.scopes.specs.declared.held_scope.HeldScope.TheVariants as held
 use Rattle.site_words.specs.Law.{Answer}
 use Rattle.site_words.specs.declared.words.AppStep.{AppStep}
 use Rattle.site_words.specs.declared.words.AppStep.TheVariants as step
@@ -28,14 +30,14 @@ use Rattle.page_meaning.specs.Variables.{set_held, set_application, set_in, assi
 use Rattle.page_meaning.specs.Went.{Went, Did, Well, Raised, then_do, either, result_of}
 use Rattle.page_meaning.specs.Work.{visit_limit, visit, visited, is_spent, answer_from, ask}
 use Rattle.page_table.specs.Operations.{visits}
-use Rattle.page_table.proofs.Tame.{same, quiet, keeps_same, TameAt, Tame, Calm, scopes_calm, well, raised, result, changed, behind, then_at, thens, eithers}
+use Rattle.page_table.proofs.Tame.{same, quiet, keeps_same, TameAt, Tame, Calm, scopes_calm, changed_frames, changed_calm, well, raised, result, changed, behind, then_at, thens, eithers}
 
 -- a visit
 pub visit_tame : (place : Place) → Tame (visit place)
 visit_tame place s = go (nat_lt s.visits visit_limit)
   where
     go : (b : Bool) → TameAt s (let w : Did = if b then Well tt (record s { visits = s.visits + 1 }) else Raised fault.TooMuchWork place s in w)
-    go true = record { grows = quiet s (record s { visits = s.visits + 1 }) refl refl; bodies = refl; visits = omega arith }
+    go true = record { grows = quiet s (record s { visits = s.visits + 1 }) refl refl; bodies = refl; visits = omega arith; frames = omega arith }
     go false = raised fault.TooMuchWork place s
 
 pub visited_tame : {A : Type 0} (place : Place) (part : State → Went A) → Tame part → Tame (visited place part)
@@ -47,9 +49,9 @@ visits_tame place (suc n) = visited_tame place (visits place n) (visits_tame pla
 
 -- a step
 answer_tame : (x : AppStep) (s : State) (answers : List Answer) → TameAt s (answer_from x answers s)
-answer_tame x s [] = record { grows = same s; bodies = refl; visits = omega arith }
+answer_tame x s [] = record { grows = same s; bodies = refl; visits = omega arith; frames = omega arith }
 answer_tame x s (answer ∷ rest) =
-    record { grows = record { asked = (app x ∷ [], refl); pieces = ([], sym (append-nil s.writer.pieces)) }; bodies = refl; visits = omega arith }
+    record { grows = record { asked = (app x ∷ [], refl); pieces = ([], sym (append-nil s.writer.pieces)) }; bodies = refl; visits = omega arith; frames = omega arith }
 
 pub ask_tame : (place : Place) (x : AppStep) → Tame (ask place x)
 ask_tame place x s = go (is_spent s)
@@ -63,7 +65,7 @@ pub set_held_tame : (place : Place) (sc : HeldScope) (name : List ℕ) (d : Datu
 set_held_tame place sc name d s =
     let r = set_answer s.scopes sc name d in
     then_at s (result_of place r s) (λ u s1. Well tt (in_scopes (with_variable s1.scopes sc name d) s1)) (result place r s)
-    (λ u. changed tt (λ s1. in_scopes (with_variable s1.scopes sc name d) s1) (scopes_calm (λ scopes. with_variable scopes sc name d)))
+    (λ u. changed tt (λ s1. in_scopes (with_variable s1.scopes sc name d) s1) (changed_calm sc (λ entries. with_entry entries name d)))
 
 set_application_tame : (place : Place) (name : List ℕ) (d : Datum) → Tame (set_application place name d)
 set_application_tame place name d =
@@ -78,15 +80,18 @@ pub assign_tame : (place : Place) (sc : Scope) (name : List ℕ) (d : Datum) →
 assign_tame place sc name d = set_in_tame place (held_scope sc) name d
 
 remove_in_tame : (place : Place) (held : Option HeldScope) (name : List ℕ) → Tame (remove_in place held name)
-remove_in_tame place (Some sc) name = changed tt (λ s. in_scopes (without_variable s.scopes sc name) s) (scopes_calm (λ scopes. without_variable scopes sc name))
+remove_in_tame place (Some sc) name = changed tt (λ s. in_scopes (without_variable s.scopes sc name) s) (changed_calm sc (λ entries. without_entry entries name))
 remove_in_tame place None name = thens (ask place (step.Remove name)) (λ answer s1. Well tt s1) (ask_tame place (step.Remove name)) (λ answer. well tt)
 
 pub unassign_tame : (place : Place) (sc : Scope) (name : List ℕ) → Tame (unassign place sc name)
 unassign_tame place sc name = remove_in_tame place (held_scope sc) name
 
+inner_frames : (name : List ℕ) (scopes : ScopeState) → length scopes.frames ≤ length (without_inner name scopes).frames
+inner_frames name scopes = changed_frames scopes held.Page (λ entries. without_entry entries name)
+
 pub unassign_all_tame : (place : Place) (name : List ℕ) → Tame (unassign_all place name)
 unassign_all_tame place name =
-    behind (unassign place scope.Application name) (λ s. in_scopes (without_inner name s.scopes) s) (scopes_calm (without_inner name)) (unassign_tame place scope.Application name)
+    behind (unassign place scope.Application name) (λ s. in_scopes (without_inner name s.scopes) s) (scopes_calm (without_inner name) (inner_frames name)) (unassign_tame place scope.Application name)
 
 pub set_tame : (place : Place) (sc : Scope) (name : List ℕ) (d : Datum) → Tame (set_or_remove place (record { name = name; scope = Some sc }) d)
 set_tame place sc name null = unassign_tame place sc name
@@ -140,7 +145,7 @@ pub put_text_tame : (place : Place) (bytes : List ℕ) → Tame (put_text place 
 put_text_tame place bytes s = go (put bytes s.writer) (put_adds bytes s.writer)
   where
     go : (r : Result Writer RunFault) → Adds s.writer r → TameAt s (put_so place r s)
-    go (Ok w) adds = record { grows = record { asked = ([], sym (append-nil s.asked)); pieces = adds.0 }; bodies = adds.1; visits = omega arith }
+    go (Ok w) adds = record { grows = record { asked = ([], sym (append-nil s.asked)); pieces = adds.0 }; bodies = adds.1; visits = omega arith; frames = omega arith }
     go (Err f) adds = raised f place s
 
 -- a flush
@@ -151,7 +156,7 @@ flushed_adds (body ∷ outer) w = (([], sym (append-nil w.pieces)), refl)
 pub flush_if_calm : (b : Bool) → Calm (flush_if b)
 flush_if_calm true s =
     let h = flushed_adds s.writer.kept s.writer in
-    record { grows = record { asked = ([], sym (append-nil s.asked)); pieces = h.0 }; bodies = h.1; visits = omega arith }
+    record { grows = record { asked = ([], sym (append-nil s.asked)); pieces = h.0 }; bodies = h.1; visits = omega arith; frames = omega arith }
 flush_if_calm false s = keeps_same s
 
 -- a body taken: as many steps and pieces, whether or not it is a fault

@@ -2,14 +2,14 @@
 use Rattle.std.specs.Prelude.{ℕ, ◌+◌, List, Option, Some, None}
 use Rattle.pg_text.specs.declared.place.Place.{Place}
 use Rattle.pg_value.specs.Datum.{Datum}
-use Rattle.scopes.specs.Scopes.{Entries, turned_to}
+use Rattle.scopes.specs.Scopes.{Entries, turned_to, with_frame_of}
 use Rattle.page_code.specs.Calls.{call_size}
 use Rattle.page_code.specs.declared.call.TagCall.{TagCall}
 use Rattle.page_meaning.specs.Attributes.{table_of}
 use Rattle.page_meaning.specs.Bodies.{put_text}
 use Rattle.page_meaning.specs.Exports.{exports_of, is_at_fragment, copied_out}
 use Rattle.page_meaning.specs.State.{State, in_scopes}
-use Rattle.page_meaning.specs.Tags.{first_frame, with_frame_of, call_ended}
+use Rattle.page_meaning.specs.Tags.{first_frame, call_ended}
 use Rattle.page_meaning.specs.Variables.{back_to}
 use Rattle.page_meaning.specs.Went.{Did, then_do, tidied, result_of}
 use Rattle.page_table.specs.Landing.{Running, land}

@@ -60,3 +60,24 @@ RunsLeaveBodies = OfEachStand (λ serving seat base pc s o. (d : Did) → Runs s
 -- each run of checked code has an end
 abbrev pub EachRunEnds : Type 0
 EachRunEnds = OfEachStand (λ serving seat base pc s o. (d : Did) × Runs serving seat (Running pc s o) d)
+
+-- where a page ended by a redirect, at least so many frames stand, since an include around it goes on
+abbrev pub EndLeavesFrames : ℕ → Leaving → State → Type 0
+EndLeavesFrames n (redirects location) s = n ≤ length s.scopes.frames
+EndLeavesFrames n (forwards path params left) s = ⊤
+
+-- at least so many frames stand where a run ended well, by a fault or by a redirect
+abbrev pub LeavesFrames : {A : Type 0} → ℕ → Went A → Type 0
+LeavesFrames n (Well a s) = n ≤ length s.scopes.frames
+LeavesFrames n (Raised fault place s) = n ≤ length s.scopes.frames
+LeavesFrames n (Ended leaving s) = EndLeavesFrames n leaving s
+LeavesFrames n (Awaits step s) = ⊤
+
+-- a run takes no frame back that stood before it
+abbrev pub RunsLeaveFrames : Type 0
+RunsLeaveFrames = (serving : Serving) (seat : Seat) (c : Config) (d : Did) → Runs serving seat c d → LeavesFrames (length (config_state c).scopes.frames) d
+
+-- nor does a turn
+abbrev pub TurnsLeaveFrames : Type 0
+TurnsLeaveFrames = (serving : Serving) (seat : Seat) (pc to : ℕ) (s s2 : State) (o o2 : Open) → Turned serving seat (Running pc s o) (Running to s2 o2)
+    → length s.scopes.frames ≤ length s2.scopes.frames

@@ -1,11 +1,13 @@
 ghost use Rattle.page_table.specs.Agreement.{RowsAgree};
 ghost use Rattle.page_table.specs.Finds.{EachFinds};
-ghost use Rattle.page_table.specs.Laws.{EachRunEnds, NeverStuck, OneEnd, RunsGrow, RunsLeaveBodies, TurnsComeNearer, TurnsStand};
+ghost use Rattle.page_table.specs.Laws.{EachRunEnds, NeverStuck, OneEnd, RunsGrow, RunsLeaveBodies, RunsLeaveFrames, TurnsComeNearer, TurnsLeaveFrames, TurnsStand};
 
-/// A run has one end, and only adds to the steps asked and to the pieces committed.
+/// A run has one end, only adds to the steps asked and to the pieces committed, and takes no frame back that stood before it.
 pub fn runs()
     ensures one { OneEnd }
     ensures grow { RunsGrow }
+    ensures frames { RunsLeaveFrames }
+    ensures turns { TurnsLeaveFrames }
 {}
 
 /// Code whose shapes fit is never stuck, keeps its shapes and the bodies that were kept before it, and comes to an end.
