@@ -1,0 +1,5 @@
+pub mod Expressions
+pub mod Laws
+pub mod Lowering
+pub mod Programs
+pub mod Values
