@@ -1,0 +1,4 @@
+pub mod DraftLemmas
+pub mod TargetLemmas
+pub mod TextLemmas
+pub mod TakingLemmas

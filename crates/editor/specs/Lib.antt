@@ -1,0 +1,4 @@
+pub mod Draft
+pub mod Message
+pub mod Taking
+pub mod Telling
