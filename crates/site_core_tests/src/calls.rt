@@ -1,0 +1,115 @@
+ghost use Rattle.std.specs.Prelude.{◌≡◌, ℕ, List, true, false};
+ghost use Rattle.std.specs.Arc.{arc_value};
+ghost use Rattle.source_tree.specs.declared.file.File.{File};
+ghost use Rattle.site_words.specs.Fits.{fits};
+ghost use Rattle.site_words.specs.State.{after};
+ghost use Rattle.site_core_tests.specs.Roll.{is_roll};
+
+use crate::line::outcome_text;
+use crate::script::{Line, is_count, number, op_of, pass_of, words};
+use crate::word::Word;
+use pg_text::{BadPath, Failure};
+use site_core::{Act, Given, Site};
+use site_words::{Acted, Compiled, Op, Refusal};
+use std::alloc::{AllocError, Global};
+use std::sync::Arc;
+
+/// Does what the lines ask for, one after the other. Of each line it reads what stands before ` > `, and it tells the line
+/// again with what it came to behind that.
+pub fn told(
+    alloc: Global,
+    site: &mut Site<Word>,
+    script: &str,
+) -> Result<String, Failure<BadPath>> {
+    let mut lines = String::new(alloc);
+    let mut rest = script;
+    for _ in 0..script.len() {
+        let Some((line, behind)) = rest.split_once('\n') else {
+            break;
+        };
+        tell(alloc, site, asked(line), &mut lines)?;
+        rest = behind;
+    }
+    Ok(lines)
+}
+
+// What stands before the mark.
+fn asked(line: &str) -> &str {
+    match line.split_once(" > ") {
+        Some((asked, _)) => asked,
+        None => line,
+    }
+}
+
+// Does what the line asks for, and adds it and what it came to.
+fn tell(
+    alloc: Global,
+    site: &mut Site<Word>,
+    line: &str,
+    lines: &mut String,
+) -> Result<(), Failure<BadPath>> {
+    lines.push_str(line)?;
+    lines.push_str(" > ")?;
+    let (count, line) = times(line);
+    for _ in 1..count {
+        answer(alloc, site, &words(line))?;
+    }
+    lines.push_str(answer(alloc, site, &words(line))?.as_str())?;
+    lines.push_str("\n")?;
+    Ok(())
+}
+
+// How often a line is to be done, and the line behind that.
+fn times(line: &str) -> (u64, &str) {
+    match line.split_once(" times ") {
+        Some((count, line)) => (number(count), line),
+        None => (1, line),
+    }
+}
+
+// What the line comes to. One that asks for the count is told how many entries the journal has.
+fn answer(alloc: Global, site: &mut Site<Word>, asked: &Line) -> Result<String, Failure<BadPath>> {
+    if is_count(asked) {
+        let count = site.len();
+        return Ok(format!(in alloc; "{count}")?);
+    }
+    let op = op_of(alloc, asked)?;
+    let outcome = step(alloc, site, pass_of(asked), op)?;
+    Ok(outcome_text(alloc, &outcome)?)
+}
+
+/// One operation of a pass, with a value for an Offer. None where it doesn't meet the condition of a step, and for a Roll.
+pub fn step(
+    alloc: Global,
+    site: &mut Site<Word>,
+    pass: u8,
+    op: Op,
+) -> Result<Option<Acted<Given<Word>, Refusal>>, AllocError> {
+    let word = Arc::new(alloc, Word::new(alloc))?;
+    if is_roll(&op) || !site.fits(pass, &op) {
+        return Ok(None);
+    }
+    Ok(Some(ask(site, pass, op, word)))
+}
+
+// An operation that meets the condition of a step, with a value that is made from each tree and path.
+fn ask<P: Compiled>(site: &mut Site<P>, pass: u8, op: Op, made: Arc<P>) -> Acted<Given<P>, Refusal>
+    requires fit { fits site.old.opening (after P.needs site.old.opening site.old.history) pass op ≡ true }
+    requires other { is_roll op ≡ false }
+    requires made { (tree : List File) (path : List ℕ) → P.made (arc_value made) tree path }
+{
+    site.law();
+    site.apply(
+        pass,
+        Act {
+            op,
+            made: Some(made),
+        },
+    )
+}
+
+fn is_roll(op: &Op) -> bool
+    ensures { result ≡ is_roll op.now }
+{
+    matches!(op, Op::Roll)
+}

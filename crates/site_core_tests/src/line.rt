@@ -1,0 +1,110 @@
+use crate::word::Word;
+use pg_value::{Attrs, Value};
+use site_core::{Gift, Given};
+use site_words::{Acted, AppReply, Refusal, Reply};
+use std::alloc::{AllocError, Global};
+
+/// What an outcome is told as.
+pub fn outcome_text(
+    alloc: Global,
+    outcome: &Option<Acted<Given<Word>, Refusal>>,
+) -> Result<String, AllocError> {
+    match outcome {
+        None => String::from_str(alloc, "unfit"),
+        Some(Acted::NoMemory) => String::from_str(alloc, "no memory"),
+        Some(Acted::Refused(refusal)) => refused(alloc, refusal),
+        Some(Acted::Did(given)) => done(alloc, given),
+    }
+}
+
+fn refused(alloc: Global, refusal: &Refusal) -> Result<String, AllocError> {
+    match refusal {
+        Refusal::Stale { latest } => format!(in alloc; "stale {latest}"),
+        Refusal::TreeTooLarge(fault) => format!(in alloc; "large {fault:?}"),
+        Refusal::Busy { holder } => format!(in alloc; "busy {holder}"),
+        Refusal::JournalFull { weight, promised } => {
+            format!(in alloc; "full {weight} {promised}")
+        }
+    }
+}
+
+fn done(alloc: Global, given: &Given<Word>) -> Result<String, AllocError> {
+    let mut line = replied(alloc, &given.reply)?;
+    match &given.gift {
+        Gift::Nothing => {}
+        Gift::Made(_) => line.push_str(" made")?,
+        Gift::Id(id) => {
+            line.push_str(" ")?;
+            line.push_str(id.as_str())?;
+        }
+        Gift::Start(_, attrs) => add_number(alloc, &mut line, attrs)?,
+        Gift::Picture(_, app, attrs) => {
+            add_number(alloc, &mut line, app)?;
+            add_number(alloc, &mut line, attrs)?;
+        }
+    }
+    Ok(line)
+}
+
+// Adds the number among the attributes, and `-` where there is none.
+fn add_number(alloc: Global, line: &mut String, attrs: &Attrs) -> Result<(), AllocError> {
+    line.push_str(" ")?;
+    match attrs.get("n") {
+        Some(value) => line.push_str(number(alloc, value)?.as_str()),
+        None => line.push_str("-"),
+    }
+}
+
+fn number(alloc: Global, value: &Value) -> Result<String, AllocError> {
+    match value {
+        Value::Int(number) => format!(in alloc; "{number}"),
+        Value::Null => String::from_str(alloc, "null"),
+        _ => String::from_str(alloc, "other"),
+    }
+}
+
+/// What a reply says.
+pub fn replied(alloc: Global, reply: &Reply) -> Result<String, AllocError> {
+    match reply {
+        Reply::Published { version, dirty } => {
+            let count = dirty.len();
+            format!(in alloc; "version {version}, {count} dirty")
+        }
+        Reply::Begun {
+            request,
+            version,
+            session,
+        } => {
+            let session = session_text(alloc, *session)?;
+            format!(in alloc; "begun {request} {version} {session}")
+        }
+        Reply::App(reply) => app_told(alloc, reply),
+        Reply::Made { session } => format!(in alloc; "made {session}"),
+        Reply::Fetched { hit } => format!(in alloc; "hit {hit}"),
+        Reply::Offered { kept } => format!(in alloc; "kept {kept}"),
+        Reply::Ended => String::from_str(alloc, "ended"),
+        Reply::Dropped => String::from_str(alloc, "dropped"),
+        Reply::Snapped { version, session } => {
+            let session = session_text(alloc, *session)?;
+            format!(in alloc; "snapped {version} {session}")
+        }
+        Reply::Rolled => String::from_str(alloc, "rolled"),
+    }
+}
+
+// The number of the session, and `-` for none.
+fn session_text(alloc: Global, session: Option<u64>) -> Result<String, AllocError> {
+    match session {
+        Some(number) => format!(in alloc; "{number}"),
+        None => String::from_str(alloc, "-"),
+    }
+}
+
+fn app_told(alloc: Global, reply: &AppReply) -> Result<String, AllocError> {
+    match reply {
+        AppReply::Value(value) => number(alloc, value),
+        AppReply::Done => String::from_str(alloc, "done"),
+        AppReply::Created => String::from_str(alloc, "created"),
+        AppReply::Large { weight } => format!(in alloc; "large {weight}"),
+    }
+}

@@ -1,0 +1,53 @@
+use crate::fresh_site::played;
+use crate::opening::AMPLE;
+use std::test::Fail;
+
+const TWO_PASSES: &str =
+    "0 begin - 0 > begun 0 0 - -\n1 begin - 0 > begun 1 0 - -\n0 get 0 > null\n1 get 1 > null\n0 set 0 1 > done\n1 set 1 1 > done\n1 get 1 > 1\n2 begin - 0 > full 629 8650123\n0 count > 7\n";
+
+#[test]
+fn two_passes_each_read_a_name_and_set_it(rt: HostRuntime) -> Result<(), Fail> {
+    let lines = played(rt.alloc(), 8_650_752, 3, 0, TWO_PASSES)?;
+    assert_eq!(rt; lines.as_str(), TWO_PASSES);
+    Ok(())
+}
+
+const REFUSALS: &str =
+    "0 publish 1 /a.jsp 1048577 > stale 0\n0 publish - /a.jsp 1048577 > large FileTooLarge\n0 publish - /a.jsp 99 > full 0 0\n0 publish - /a.jsp 98 > version 1, 0 dirty\n0 publish 0 /a.jsp 0 > stale 1\n0 publish 1 /a.jsp 0 > full 200 0\n0 picture - > full 200 0\n0 count > 1\n";
+
+#[test]
+fn refusals_come_in_their_order(rt: HostRuntime) -> Result<(), Fail> {
+    let lines = played(rt.alloc(), 200, 1, 0, REFUSALS)?;
+    assert_eq!(rt; lines.as_str(), REFUSALS);
+    Ok(())
+}
+
+const BASES: &str =
+    "0 publish - /a.jsp 1 > version 1, 0 dirty\n0 publish 1 /a.jsp 2 > version 2, 0 dirty\n0 publish - /b.jsp 1 > version 3, 0 dirty\n0 publish 2 /a.jsp 3 > stale 3\n0 publish 3 /a.jsp 3 > version 4, 0 dirty\n";
+
+#[test]
+fn a_publishing_names_its_base(rt: HostRuntime) -> Result<(), Fail> {
+    let lines = played(rt.alloc(), AMPLE, 1, 0, BASES)?;
+    assert_eq!(rt; lines.as_str(), BASES);
+    Ok(())
+}
+
+const CONDITIONS: &str =
+    "2 publish - /a.jsp 1 > unfit\n0 begin 0000000000000000000000000000000000000000000000000 0 > unfit\n0 get 0 > unfit\n0 begin - 0 > begun 0 0 - -\n0 begin - 0 > unfit\n1 get 0 > unfit\n0 end 0 1 > unfit\n0 offer 0 /a.jsp > unfit\n0 fresh 0 > made 0 0000000000000000ade0b876903df1a0e56a5d4028bd8653\n0 fresh 0 > unfit\n0 abandon 1 > unfit\n0 end 0 - > ended\n0 abandon 0 > unfit\n";
+
+#[test]
+fn only_what_meets_its_condition_is_asked_for(rt: HostRuntime) -> Result<(), Fail> {
+    let lines = played(rt.alloc(), AMPLE, 2, 0, CONDITIONS)?;
+    assert_eq!(rt; lines.as_str(), CONDITIONS);
+    Ok(())
+}
+
+const OFFERS: &str =
+    "0 publish - /a.jsp 1 > version 1, 0 dirty\n0 begin - 0 > begun 0 1 - -\n0 fetch 0 /a.jsp > hit false\n0 offer 0 /a.jsp > kept true\n0 fetch 0 /a.jsp > hit true made\n1 begin - 0 > begun 1 1 - -\n1 fetch 1 /a.jsp > hit true made\n1 fetch 1 /b.jsp > hit false\n";
+
+#[test]
+fn what_is_offered_is_found_again(rt: HostRuntime) -> Result<(), Fail> {
+    let lines = played(rt.alloc(), AMPLE, 2, 0, OFFERS)?;
+    assert_eq!(rt; lines.as_str(), OFFERS);
+    Ok(())
+}
