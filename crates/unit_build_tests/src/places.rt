@@ -3,7 +3,7 @@ use std::alloc::Global;
 use std::test::Fail;
 
 // Texts that have a fault in a page, in an included file and in a tag file alike, and the fault with its line and column.
-const FAULTS: [(&str, &str, &str); 17] = [
+const FAULTS: [(&str, &str, &str); 18] = [
     ("ab\n<%-- x", "E2 Unclosed", "2:1"),
     (
         "<%@ taglib prefix=\"c\" uri=\"jakarta.tags.core\" %><c:if test=\"true\"></c:out>",
@@ -53,6 +53,11 @@ const FAULTS: [(&str, &str, &str); 17] = [
     ),
     ("${1.5}", "E18 Decimal", "1:1"),
     ("<jsp:plugin/>", "E19 LeftOut", "1:1"),
+    (
+        "${(((((((((((((((((((((((((((((((((((((((((((((((((((((((((((((((((((1)))))))))))))))))))))))))))))))))))))))))))))))))))))))))))))))))))}",
+        "E20 TooLarge",
+        "1:1",
+    ),
 ];
 
 // Whether what is told of these files begins with this fault at this place.
@@ -105,5 +110,36 @@ fn faults_stand_in_a_tag_file(rt: HostRuntime) -> Result<(), Fail> {
             "{fault}"
         );
     }
+    Ok(())
+}
+
+#[test]
+fn a_cycle_stands_in_a_tag_file(rt: HostRuntime) -> Result<(), Fail> {
+    let files = [
+        (
+            "/a.jsp",
+            "<%@ taglib prefix=\"t\" tagdir=\"/WEB-INF/tags\" %><t:x/>",
+        ),
+        ("/WEB-INF/tags/x.tag", "\n<%@ include file=\"x.tag\" %>"),
+    ];
+    assert!(rt;
+        begins(&rt, &files, "E9 IncludeCycle", "/WEB-INF/tags/x.tag", "2:1")?,
+        "in a tag file"
+    );
+    Ok(())
+}
+
+#[test]
+fn a_page_without_buffer_and_flushing_is_told_in_an_included_file(
+    rt: HostRuntime,
+) -> Result<(), Fail> {
+    let files = [
+        ("/a.jsp", "text<%@ include file=\"/d/i\" %>${1 +}"),
+        ("/d/i", "x<%@ page autoFlush=\"false\" buffer=\"none\" %>"),
+    ];
+    assert!(rt;
+        begins(&rt, &files, "E21 UnbufferedNoFlush", "/d/i", "1:2")?,
+        "in an included file"
+    );
     Ok(())
 }
