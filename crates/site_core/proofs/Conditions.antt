@@ -18,8 +18,9 @@ use Rattle.site_words.specs.declared.words.Reply.{Reply}
 use Rattle.site_words.specs.Fits.{asks, finds, fits, rests}
 use Rattle.site_words.specs.Invariants.{HasTree, HeldIn, has_number}
 use Rattle.site_words.specs.Law.{Finds, Follows, Legal, May, latest_of, own, run_of, trees_of}
-use Rattle.site_words.specs.Opening.{is_sound, no_fault, sound_app, sound_counts, sound_sessions, sound_tree}
+use Rattle.site_words.specs.Opening.{are_distinct, is_sound, no_fault, sound_app, sound_counts, sound_sessions, sound_tree}
 use Rattle.site_words.specs.Runs.{UnderWay, promised, run_at, run_in, session_in, tree_in, under_at}
+use Rattle.site_words.specs.Sessions.{most_sessions}
 use Rattle.site_words.specs.State.{State, after, moved, start_of}
 use Rattle.site_words.specs.Step.{refusal_of, reply_to, step, stepped}
 use Rattle.site_words.specs.Trees.{Needs, OneHistory}
@@ -27,7 +28,7 @@ use Rattle.site_words.specs.Weights.{weight_with}
 use Rattle.site_words.proofs.Items.{and_left, and_right, each_at, le_of, lt_of}
 use Rattle.site_words.proofs.Lasting.{run_is_own}
 use Rattle.site_words.proofs.Legal.{after_push, legal_push, may_fits, passes_len}
-use Rattle.site_words.proofs.Good.{sessions_good}
+use Rattle.site_words.proofs.Good.{not_there, sessions_good}
 use Rattle.site_words.proofs.OneHistory.{one_history, opening_one}
 use Rattle.site_words.proofs.Promise.{within}
 use Rattle.site_words.proofs.RunTree.{of_run_tree}
@@ -93,6 +94,7 @@ pub record CanStep (needs : Needs) (x : Opening) (s : State) (pass : ℕ) (o : O
   pub later : OneHistory (tree_in (under_at s.runs pass)) s.tree
   pub next : (edits : List Edit) → OneHistory s.tree (after_edits edits (s.version + 1) s.tree)
   pub held : (number : ℕ) → session_in (run_at s.runs pass) ≡ Some number → has_number number s.sessions ≡ true
+  pub unused : has_number s.freshes s.sessions ≡ false
 
 past : {A : Type 0} (xs : List A) (i : ℕ) (d : A) → length xs ≤ i → slice_index_or xs i d ≡ d
 past [] i d h = refl
@@ -161,6 +163,7 @@ can_step needs x history pass o can legal short may =
           (subst (λ t. OneHistory t (after_edits edits (x.version + length (trees_of x history)) t)) (sym trees.latest) (one_edited (x.version + length (trees_of x history)) (trees_of x history) edits one));
       held = λ number is.
           subst (λ n. HeldIn s.sessions n) is (each_at (λ (under : Option UnderWay). HeldIn s.sessions (session_in (run_in under))) s.runs pass None tt good.good.held);
+      unused = not_there s.freshes s.moment s.sessions good.good.each;
     }
   where
     small : (weight promises limit entries first count : ℕ) → 64 * entries ≤ weight → weight + promises ≤ limit → CanGrow limit → first < 2 ^ 63 → count ≤ first + entries → CanGrow count
@@ -212,6 +215,7 @@ module _ {P : Type 0} (needs : Needs) (made : P → List File → List ℕ → T
         later = step.later;
         next = step.next;
         held = λ number is. sym (named_has number x.sessions history parts.sessions) ∙ step.held number is;
+        unused = sym (named_has parts.freshes x.sessions history parts.sessions) ∙ step.unused;
       }
 
 none_of : (fault : Option TreeFault) → no_fault fault ≡ true → fault ≡ None
@@ -221,3 +225,7 @@ none_of (Some fault) is = absurd (cc)
 -- the tree of a sound opening keeps its limits
 pub opened_tree : (x : Opening) → can_open x ≡ true → tree_fault x.tree ≡ None
 opened_tree x can = none_of (tree_fault x.tree) (and_left (no_fault (tree_fault x.tree)) _ (opened x can).tree)
+
+-- no two sessions of a sound opening have one number
+pub opened_apart : (x : Opening) → can_open x ≡ true → are_distinct x.sessions ≡ true
+opened_apart x can = and_left (are_distinct x.sessions) _ (and_right (nat_le (length x.sessions) most_sessions) _ (opened x can).sessions)

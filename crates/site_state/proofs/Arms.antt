@@ -36,6 +36,7 @@ module _ {P : Type 0} (needs : Needs) (made : P → List File → List ℕ → T
     later = can.later;
     next = can.next;
     held = can.held;
+    unused = can.unused;
   }
 
   -- the condition of the operation's own function

@@ -1,11 +1,13 @@
 -- What the code does to the list of sessions is what the state's definitions do, whatever attributes stand there.
-use Rattle.std.proofs.Common.{◌≡◌, ℕ, ◌+◌, ◌<◌, ◌≤◌, zero, suc, Bool, true, false, not, List, [], ◌∷◌, ◌++◌, length, map, filter, take, get_or, Option, Some, None, option_map, refl, sym, ap, subst, ◌∙◌, if◌then◌else◌, arith}
-use Rattle.std.specs.Prelude.{◌==◌, nat_lt, nat_le, ◌-◌, slice_get}
+use Rattle.std.proofs.Common.{◌≡◌, ℕ, ◌+◌, ◌<◌, zero, suc, Bool, true, false, not, List, [], ◌∷◌, ◌++◌, length, take, get_or, Option, Some, None, option_map, refl, sym, ap, ◌∙◌, if◌then◌else◌, arith}
+use Rattle.std.specs.Prelude.{◌==◌, ◌||◌, nat_lt, nat_le, ◌-◌, slice_get}
+use Rattle.std.proofs.lemmas.Bool.{and_parts, eq-eqb, ne_eqb, not-true, or_from, or_parts}
 use Rattle.std.proofs.lemmas.List.{map-append, length-map, take_more}
-use Rattle.pg_value.specs.Datum.{Datum}
 use Rattle.site_words.specs.declared.words.Entry.{Entry}
 use Rattle.site_words.specs.declared.words.KeptSession.{KeptSession}
 use Rattle.site_words.specs.Ids.{is_id}
+use Rattle.site_words.specs.Invariants.{has_number}
+use Rattle.site_words.specs.Opening.{are_distinct}
 use Rattle.site_words.specs.Runs.{UnderWay}
 use Rattle.site_words.specs.Sessions.{attrs_of, awake, first_free, holder, holder_of, most_sessions, number_of, numbered, session_at, unheld, unless_none, used_at, with_room, without}
 use Rattle.site_words.proofs.Items.{each_filter, each_map, each_push}
@@ -13,7 +15,7 @@ use Rattle.site_state.specs.declared.session.Session.{Session}
 use Rattle.site_state.specs.declared.session.Source.{Source}
 use Rattle.site_state.specs.declared.session.Source.TheVariants.{Nowhere, Opened, Ended}
 use Rattle.site_state.specs.ReadDone.{attrs_in}
-use Rattle.site_state.specs.ReadSessions.{first_unheld, found_at, held_by, named, number_in, others, others_if, roomy, source_in, still_awake, touch, touched}
+use Rattle.site_state.specs.ReadSessions.{first_unheld, found_at, has_named, held_by, named, number_in, others, others_if, roomy, source_in, still_awake, touched}
 use Rattle.site_state.specs.Sources.{AreThere, IsThere, attrs_at, session_of, sessions_of, written_in}
 
 module _ (opened : List KeptSession) (history : List Entry) where
@@ -172,3 +174,26 @@ opened_more opened sessions more i kept within read sofar is =
     ∙ (map-append (session_of opened []) sessions (record { number = kept.number; used = kept.used; source = Opened i } ∷ [])
     ∙ (ap (λ k. sessions_of opened [] sessions ++ record { number = kept.number; used = kept.used; attrs = attrs_of k } ∷ []) (get_some opened i kept within read)
     ∙ (ap (λ l. l ++ kept ∷ []) sofar ∙ (ap (λ k. take i opened ++ k ∷ []) read ∙ sym (take_more opened i kept within)))))
+
+-- a session that comes later has another number than those before it
+
+has_same : (n : ℕ) (opened : List KeptSession) (history : List Entry) (sessions : List Session) → has_named n sessions ≡ has_number n (sessions_of opened history sessions)
+has_same n opened history [] = refl
+has_same n opened history (session ∷ sessions) = ap (λ b. (session.number == n) || b) (has_same n opened history sessions)
+
+other_number : (kept : KeptSession) (opened : List KeptSession) (i : ℕ) (d : KeptSession) → has_number kept.number opened ≡ false → i < length opened → (kept.number == (get_or opened i d).number) ≡ false
+other_number kept [] i d none within = absurd (omega arith)
+other_number kept (first ∷ opened) zero d none within = ne_eqb kept.number first.number (λ e. absurd (let here = eq-eqb first.number kept.number (sym e) in let parts = or_parts (first.number == kept.number) (has_number kept.number opened) none in cc))
+other_number kept (first ∷ opened) (suc i) d none within = other_number kept opened i d (or_parts (first.number == kept.number) (has_number kept.number opened) none).1 (omega arith)
+
+apart_before : (opened : List KeptSession) (i : ℕ) (d : KeptSession) → are_distinct opened ≡ true → i < length opened → has_number (get_or opened i d).number (take i opened) ≡ false
+apart_before [] i d distinct within = absurd (omega arith)
+apart_before (first ∷ opened) zero d distinct within = refl
+apart_before (first ∷ opened) (suc i) d distinct within =
+    let parts = and_parts (not (has_number first.number opened)) (are_distinct opened) distinct in
+    or_from (first.number == (get_or opened i d).number) (has_number (get_or opened i d).number (take i opened)) (other_number first opened i d (not-true (has_number first.number opened) parts.0) (omega arith))
+    (apart_before opened i d parts.1 (omega arith))
+
+pub opened_apart : (opened : List KeptSession) (sessions : List Session) (i : ℕ) (kept : KeptSession) → are_distinct opened ≡ true → i < length opened → kept ≡ get_or opened i kept → sessions_of opened [] sessions ≡ take i opened → has_named kept.number sessions ≡ false
+opened_apart opened sessions i kept distinct within read sofar =
+    has_same kept.number opened [] sessions ∙ ap (has_number kept.number) sofar ∙ ap (λ (k : KeptSession). has_number k.number (take i opened)) read ∙ apart_before opened i kept distinct within

@@ -1,6 +1,5 @@
 -- A Publish and a Snapshot, by what their parts did.
-use Rattle.std.proofs.Common.{◌≡◌, ◌≢◌, ℕ, ◌+◌, ◌-◌, ◌^◌, ◌<◌, ◌≤◌, min, Bool, true, false, List, [], ◌∷◌, length, map, set, Option, Some, None, option_map, Result, Ok, Err, refl, sym, ap, subst, ◌∙◌, arith}
-use Rattle.std.specs.Prelude.{⊤}
+use Rattle.std.proofs.Common.{◌≡◌, ℕ, ◌+◌, ◌-◌, ◌^◌, ◌<◌, min, List, length, map, Option, Some, None, option_map, Ok, Err, refl, sym, ap, subst, ◌∙◌}
 use Rattle.source_tree.specs.declared.edit.Edit.{Edit}
 use Rattle.source_tree.specs.declared.fault.TreeFault.{TreeFault}
 use Rattle.source_tree.specs.declared.file.File.{File}
@@ -14,12 +13,11 @@ use Rattle.site_words.specs.declared.words.KeptSession.{KeptSession}
 use Rattle.site_words.specs.declared.words.Op.TheVariants as op
 use Rattle.site_words.specs.declared.words.Opening.{Opening}
 use Rattle.site_words.specs.declared.words.Refusal.{Refusal}
-use Rattle.site_words.specs.declared.words.Refusal.TheVariants.{TreeTooLarge}
 use Rattle.site_words.specs.declared.words.Reply.{Reply}
 use Rattle.site_words.specs.declared.words.Reply.TheVariants as reply
-use Rattle.site_words.specs.Ready.{clean_of, dirty_of}
+use Rattle.site_words.specs.Ready.{dirty_of}
 use Rattle.site_words.specs.Runs.{promised}
-use Rattle.site_words.specs.Sessions.{attrs_of, awake, holder, number_of, session_at}
+use Rattle.site_words.specs.Sessions.{attrs_of, holder, number_of}
 use Rattle.site_words.specs.Step.{full_of, or_else, refusal_of, shown, snapped_session, stale, too_large}
 use Rattle.site_words.specs.Trees.{Needs}
 use Rattle.site_words.specs.Weights.{capped, op_weight, weight_with}
@@ -31,7 +29,7 @@ use Rattle.site_state.specs.Conditions.{CanWork}
 use Rattle.site_state.specs.Gifts.{IsPicture}
 use Rattle.site_state.specs.Parts.{Parts, state_of}
 use Rattle.site_state.specs.ReadDone.{IsPictureOf, IsPictured, attrs_in}
-use Rattle.site_state.specs.ReadSessions.{found_at, held_by, number_in, shown_one, still_awake}
+use Rattle.site_state.specs.ReadSessions.{found_at, held_by, number_in, shown_one}
 use Rattle.site_state.specs.Sources.{session_of}
 use Rattle.site_state.specs.Works.{AreKept, IsDone}
 use Rattle.site_state.proofs.AttributeLemmas.{attrs_is, awake_is, found_is, holder_is, number_is, there_later}

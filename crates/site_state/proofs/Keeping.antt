@@ -1,7 +1,6 @@
 -- What is kept is made from the latest tree, and its paths are the ready ones.
-use Rattle.std.proofs.Common.{◌≡◌, ℕ, ◌+◌, Bool, true, false, not, List, [], ◌∷◌, ◌++◌, map, filter, Option, Some, None, refl, sym, ap, subst, ◌∙◌, if◌then◌else◌, arith}
+use Rattle.std.proofs.Common.{◌≡◌, ℕ, Bool, true, false, not, List, [], ◌∷◌, ◌++◌, map, filter, Some, None, refl, sym, ap, subst, ◌∙◌, if◌then◌else◌, arith}
 use Rattle.std.specs.Prelude.{◌&&◌, ◌||◌, nat_eq}
-use Rattle.std.specs.Arc.{arc_value}
 use Rattle.std.specs.List.{AllByRecursion}
 use Rattle.std.specs.List.Sorted.{IsStrictlySortedBy}
 use Rattle.std.specs.Ordering.{is_lt, is_gt, match_ordering}
@@ -11,7 +10,7 @@ use Rattle.std.specs.Str.{bytes_eq}
 use Rattle.std.proofs.lemmas.Bool.Decides.{nat_tests}
 use Rattle.std.proofs.lemmas.Cmp.{nat_list_cmp_total}
 use Rattle.pg_text.specs.Names.{AreInOrder, has_name, with_name}
-use Rattle.pg_text.specs.Order.{item_at, path_cmp, with_item}
+use Rattle.pg_text.specs.Order.{item_at, path_cmp}
 use Rattle.pg_text.proofs.Halving.{equal_names, turned}
 use Rattle.source_tree.specs.declared.edit.Edit.{Edit}
 use Rattle.source_tree.specs.declared.file.File.{File}
@@ -19,7 +18,6 @@ use Rattle.source_tree.specs.Changed.{changed}
 use Rattle.source_tree.specs.Edits.{after_edits}
 use Rattle.program_store.specs.Store.{clean_in, dirty_in, hit_of, is_dirty, kept_path, value_for, with_value}
 use Rattle.source_tree.specs.declared.need.Need.{Need}
-use Rattle.site_words.specs.declared.words.Reply.{Reply}
 use Rattle.site_words.specs.declared.words.Reply.TheVariants as reply
 use Rattle.site_words.specs.Ready.{clean_of, dirty_of}
 use Rattle.site_words.specs.Trees.{Needs, OneHistory, agrees, meets}

@@ -8,3 +8,5 @@ pub mod ValueSteps
 pub mod RequestSteps
 pub mod JournalSteps
 pub mod Arms
+pub mod RankLemmas
+pub mod RowLemmas

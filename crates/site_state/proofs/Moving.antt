@@ -9,12 +9,12 @@ use Rattle.site_words.specs.declared.words.Opening.{Opening}
 use Rattle.site_words.specs.declared.words.Reply.{Reply}
 use Rattle.site_words.specs.App.{app_after}
 use Rattle.site_words.specs.Ready.{ready_after}
-use Rattle.site_words.specs.Runs.{UnderWay, run_at, run_in, seated, tree_in, under_after, under_at}
+use Rattle.site_words.specs.Runs.{UnderWay, run_in, seated, tree_in, under_after, under_at}
 use Rattle.site_words.specs.Sessions.{moment_after, sessions_after}
-use Rattle.site_words.specs.State.{State, begins_after, freshes_after, moved, tree_after, version_after}
+use Rattle.site_words.specs.State.{begins_after, freshes_after, tree_after, version_after}
 use Rattle.site_words.specs.Trees.{Needs}
 use Rattle.site_words.specs.Weights.{weight_after}
-use Rattle.site_state.specs.Parts.{Parts, state_of}
+use Rattle.site_state.specs.Parts.{Parts}
 use Rattle.site_state.specs.Sources.{AreThere, sessions_of}
 use Rattle.site_state.specs.Works.{AreKept, Moves, entry_of}
 

@@ -1,21 +1,18 @@
 -- A Begin, a Fresh, an End and an Abandon, by what their parts did.
-use Rattle.std.proofs.Common.{◌≡◌, ◌≢◌, ℕ, ◌+◌, ◌-◌, ◌^◌, ◌<◌, ◌≤◌, min, max, Bool, true, false, List, [], ◌∷◌, ◌++◌, length, map, set, Option, Some, None, option_map, refl, sym, ap, subst, ◌∙◌, arith}
-use Rattle.std.specs.Prelude.{⊤, slice_get}
+use Rattle.std.proofs.Common.{◌≡◌, ℕ, ◌+◌, ◌-◌, ◌^◌, min, max, List, [], ◌∷◌, ◌++◌, length, set, Option, Some, None, option_map, refl, sym, ap, subst, ◌∙◌, arith}
+use Rattle.std.specs.Prelude.{slice_get}
 use Rattle.std.proofs.lemmas.List.{map-append}
 use Rattle.source_tree.specs.declared.file.File.{File}
 use Rattle.pg_value.specs.Datum.{Datum}
 use Rattle.site_words.specs.declared.words.Entry.{Entry}
 use Rattle.site_words.specs.declared.words.KeptSession.{KeptSession}
-use Rattle.site_words.specs.declared.words.Op.{Op}
 use Rattle.site_words.specs.declared.words.Op.TheVariants as op
 use Rattle.site_words.specs.declared.words.Opening.{Opening}
 use Rattle.site_words.specs.declared.words.Reply.{Reply}
 use Rattle.site_words.specs.declared.words.Reply.TheVariants as reply
-use Rattle.site_words.specs.declared.words.Run.{Run}
-use Rattle.site_words.specs.Ids.{id_of}
-use Rattle.site_words.specs.Runs.{UnderWay, freshened, promised, run_at, run_in, seated, session_in, tree_in, under_at}
-use Rattle.site_words.specs.Sessions.{attrs_of, awake, dropped_sessions, ended_sessions, freed, holder, number_of, numbered, session_at, unless_none, used_at, with_room, without, begun_sessions}
-use Rattle.site_words.specs.Step.{begun_session, busy, full, full_of, or_else, refusal_of}
+use Rattle.site_words.specs.Runs.{UnderWay, freshened, promised, run_at, seated, session_in, tree_in, under_at}
+use Rattle.site_words.specs.Sessions.{attrs_of, awake, dropped_sessions, ended_sessions, freed, holder, number_of, numbered, unless_none, without, begun_sessions}
+use Rattle.site_words.specs.Step.{begun_session, busy, full_of, or_else, refusal_of}
 use Rattle.site_words.specs.Trees.{Needs}
 use Rattle.site_words.specs.Weights.{capped, op_weight, promise}
 use Rattle.site_state.specs.declared.gift.Done.{Done}
@@ -23,14 +20,14 @@ use Rattle.site_state.specs.declared.gift.Gift.{Gift}
 use Rattle.site_state.specs.declared.gift.Gift.TheVariants.{Nothing, Start, Made, Id, Picture}
 use Rattle.site_state.specs.declared.session.Session.{Session}
 use Rattle.site_state.specs.declared.session.Source.{Source}
-use Rattle.site_state.specs.declared.session.Source.TheVariants.{Nowhere, Opened, Ended}
+use Rattle.site_state.specs.declared.session.Source.TheVariants.{Nowhere, Ended}
 use Rattle.site_state.specs.Conditions.{CanWork}
 use Rattle.site_state.specs.Gifts.{IsId, IsStart}
 use Rattle.site_state.specs.Parts.{Parts, state_of}
 use Rattle.site_state.specs.ReadDone.{IsBegun, IsStartOf, attrs_in}
-use Rattle.site_state.specs.ReadSessions.{begun_list, dropped_list, found_at, freed_list, held_by, named, number_in, others, others_if, roomy, source_in, still_awake, touched}
+use Rattle.site_state.specs.ReadSessions.{begun_list, dropped_list, found_at, freed_list, held_by, named, number_in, others, roomy, source_in, still_awake}
 use Rattle.site_state.specs.Sources.{AreThere, IsThere, attrs_at, session_of, sessions_of, written_in}
-use Rattle.site_state.specs.Works.{AreKept, IsDone, entry_of}
+use Rattle.site_state.specs.Works.{IsDone, entry_of}
 use Rattle.site_state.proofs.AttributeLemmas.{attrs_is, awake_is, found_is, holder_is, named_is, number_is, others_is, others_if_is, roomy_is, source_is, there_later, there_named, there_others, there_others_if, there_push, there_roomy, there_touched, touched_is}
 use Rattle.site_state.proofs.Steps.{claim_alone, done_by, sum_alone}
 

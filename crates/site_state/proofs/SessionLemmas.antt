@@ -1,40 +1,88 @@
--- The list of sessions, with and without their attributes.
-use Rattle.std.proofs.Common.{◌≡◌, ℕ, ◌+◌, ◌<◌, ◌≤◌, zero, suc, Bool, true, false, not, List, [], ◌∷◌, ◌++◌, length, get_or, map, filter, take, drop, set, Option, Some, None, option_map, refl, sym, ap, subst, ◌∙◌, if◌then◌else◌, arith}
-use Rattle.std.specs.Prelude.{◌==◌, ◌||◌, ◌&&◌}
-use Rattle.std.proofs.lemmas.List.{drop_more}
+-- The list of sessions: the one whose id a cookie is, and those that are not there.
+use Rattle.std.proofs.Common.{◌≡◌, ℕ, ◌<◌, ◌^◌, Bool, true, false, not, List, [], ◌∷◌, length, Option, Some, None, refl, sym, if◌then◌else◌, arith}
+use Rattle.std.specs.Prelude.{◌==◌, ◌||◌, nat_le}
+use Rattle.std.specs.List.{All}
+use Rattle.std.proofs.lemmas.Bool.{eq-eqb, eqb-true}
+use Rattle.std.proofs.lemmas.List.Elements.{All-tail}
 use Rattle.site_words.specs.Ids.{is_id}
+use Rattle.site_words.specs.Runs.{UnderWay}
+use Rattle.site_words.specs.Sessions.{most_sessions}
 use Rattle.site_state.specs.declared.session.Session.{Session}
-use Rattle.site_state.specs.ReadSessions.{found_at, has_named, others}
+use Rattle.site_state.specs.ReadSessions.{first_unheld, found_at, has_named, named, others, others_if, roomy}
 
--- items that are changed one after the other
-pub walked : {A : Type 0} (f : A → A) (xs ys : List A) (i n : ℕ) (d z : A) → n ≡ suc i → i < length xs → ys ≡ map f (take i xs) ++ drop i xs → z ≡ f (get_or ys i d) → set ys i z ≡ map f (take n xs) ++ drop n xs
-walked {A} f xs ys i n d z next within sofar is =
-    ap (λ l. set l i z) sofar ∙ go xs i within (is ∙ ap (λ l. f (get_or l i d)) sofar) ∙ ap (λ k. map f (take k xs) ++ drop k xs) (sym next)
+-- the sessions' numbers are those of the program
+abbrev AreNumbers : List Session → Type 0
+AreNumbers sessions = All (λ (session : Session). session.number < 2 ^ 64) sessions
+
+-- the session of a cookie has the number with which that begins
+pub found_by : (seed cookie : List ℕ) (n : ℕ) (sessions : List Session) → AreNumbers sessions → ((m : ℕ) → m < 2 ^ 64 → is_id seed m cookie ≡ true → n ≡ m)
+    → (if is_id seed n cookie then named n sessions else None) ≡ found_at seed cookie sessions
+found_by seed cookie n [] small one = go (is_id seed n cookie)
   where
-    go : (xs : List A) (i : ℕ) → i < length xs → z ≡ f (get_or (map f (take i xs) ++ drop i xs) i d) → set (map f (take i xs) ++ drop i xs) i z ≡ map f (take (suc i) xs) ++ drop (suc i) xs
-    go [] i within is = absurd (omega arith)
-    go (x ∷ xs) zero within is = ap (λ w. w ∷ xs) is
-    go (x ∷ xs) (suc i) within is = ap (λ l. f x ∷ l) (go xs i (omega arith) is)
+    nothing : Option Session
+    nothing = None
 
--- a session that isn't the cookie's
-pub found_more : (seed cookie : List ℕ) (sessions : List Session) (i : ℕ) (d : Session) → i < length sessions → is_id seed (get_or sessions i d).number cookie ≡ false → found_at seed cookie (drop i sessions) ≡ found_at seed cookie (drop (i + 1) sessions)
-found_more seed cookie sessions i d within other =
-    ap (λ l. found_at seed cookie l) (drop_more sessions i d within) ∙ ap (λ b. if b then Some (get_or sessions i d) else found_at seed cookie (drop (i + 1) sessions)) other
-
--- the one that is taken out was there
-pub fewer : (number : ℕ) (sessions : List Session) → has_named number sessions ≡ true → length (others number sessions) < length sessions
-fewer number [] has = absurd (cc)
-fewer number (session ∷ sessions) has = go (session.number == number) has (at_most number sessions) (λ h. fewer number sessions h)
+    go : (b : Bool) → (if b then nothing else nothing) ≡ nothing
+    go true = refl
+    go false = refl
+found_by seed cookie n (session ∷ sessions) small one =
+    go (is_id seed session.number cookie) refl (session.number == n) refl (is_id seed n cookie) refl (found_by seed cookie n sessions (All-tail (λ (session : Session). session.number < 2 ^ 64) session sessions small) one)
   where
-    at_most : (number : ℕ) (sessions : List Session) → length (others number sessions) ≤ length sessions
-    at_most number [] = omega arith
-    at_most number (session ∷ sessions) = kept (session.number == number) (at_most number sessions)
-      where
-        kept : (b : Bool) → length (others number sessions) ≤ length sessions → length (if not b then session ∷ others number sessions else others number sessions) ≤ length (session ∷ sessions)
-        kept true h = omega arith
-        kept false h = omega arith
+    go : (b : Bool) → is_id seed session.number cookie ≡ b → (s : Bool) → (session.number == n) ≡ s → (c : Bool) → is_id seed n cookie ≡ c
+        → (if c then named n sessions else None) ≡ found_at seed cookie sessions
+        → (if c then (if s then Some session else named n sessions) else None) ≡ (if b then Some session else found_at seed cookie sessions)
+    go true is true same true here more = refl
+    go true is true same false here more = let e = eqb-true session.number n same in absurd (cc)
+    go true is false other c here more =
+        let same = eq-eqb session.number n (sym (one session.number (small 0 session (omega arith)) is)) in
+        absurd (cc)
+    go false is true same true here more = let e = eqb-true session.number n same in absurd (cc)
+    go false is true same false here more = more
+    go false is false other true here more = more
+    go false is false other false here more = more
 
-    go : (b : Bool) → (b || has_named number sessions) ≡ true → length (others number sessions) ≤ length sessions → (has_named number sessions ≡ true → length (others number sessions) < length sessions)
-        → length (if not b then session ∷ others number sessions else others number sessions) < length (session ∷ sessions)
-    go true has most less = omega arith
-    go false has most less = let h = less has in omega arith
+-- the one that is taken out is gone
+pub out : (n : ℕ) (sessions : List Session) → has_named n (others n sessions) ≡ false
+out n [] = refl
+out n (session ∷ sessions) = go (session.number == n) refl (out n sessions)
+  where
+    go : (b : Bool) → (session.number == n) ≡ b → has_named n (others n sessions) ≡ false → has_named n (if not b then session ∷ others n sessions else others n sessions) ≡ false
+    go true is more = more
+    go false is more = rw is more
+
+-- one that is not there is not there when another is taken out
+not_in_others : (n m : ℕ) (sessions : List Session) → has_named n sessions ≡ false → has_named n (others m sessions) ≡ false
+not_in_others n m [] none = refl
+not_in_others n m (session ∷ sessions) none = go (session.number == m) (session.number == n) refl none (λ more. not_in_others n m sessions more)
+  where
+    go : (b c : Bool) → (session.number == n) ≡ c → (c || has_named n sessions) ≡ false → (has_named n sessions ≡ false → has_named n (others m sessions) ≡ false)
+        → has_named n (if not b then session ∷ others m sessions else others m sessions) ≡ false
+    go b true is none more = absurd (cc)
+    go true false is none more = more none
+    go false false is none more = rw is (more none)
+
+-- nor when room was made
+pub not_in_roomy : (n : ℕ) (runs : List (Option UnderWay)) (sessions : List Session) → has_named n sessions ≡ false → has_named n (roomy runs sessions) ≡ false
+not_in_roomy n runs sessions none = go (nat_le most_sessions (length sessions))
+  where
+    dropped : (number : Option ℕ) → has_named n (others_if number sessions) ≡ false
+    dropped None = none
+    dropped (Some number) = not_in_others n number sessions none
+
+    go : (b : Bool) → has_named n (if b then others_if (first_unheld runs sessions) sessions else sessions) ≡ false
+    go true = dropped (first_unheld runs sessions)
+    go false = none
+
+-- what is found under a test
+
+pub none_either : (b : Bool) (found : Option Session) → None ≡ found → None ≡ (if b then found else None)
+none_either true found none = none
+none_either false found none = refl
+
+pub some_if : (b c : Bool) (some found : Option Session) → c ≡ b → c ≡ true → some ≡ found → some ≡ (if b then found else None)
+some_if true c some found same passes is = is
+some_if false c some found same passes is = absurd (cc)
+
+pub none_if : (b c : Bool) (found : Option Session) → c ≡ b → c ≡ false → None ≡ (if b then found else None)
+none_if true c found same fails = absurd (cc)
+none_if false c found same fails = refl

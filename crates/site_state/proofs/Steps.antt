@@ -1,32 +1,26 @@
 -- What each operation does, by what its parts did.
-use Rattle.std.proofs.Common.{◌≡◌, ◌≢◌, ℕ, ◌+◌, ◌-◌, ◌^◌, ◌<◌, ◌≤◌, min, max, Bool, true, false, List, [], ◌∷◌, ◌++◌, length, map, set, Option, Some, None, option_map, refl, sym, ap, subst, ◌∙◌, arith}
-use Rattle.std.specs.Prelude.{⊤, ◌&&◌, nat_lt, slice_get}
-use Rattle.source_tree.specs.declared.edit.Edit.{Edit}
-use Rattle.source_tree.specs.declared.fault.TreeFault.{TreeFault}
+use Rattle.std.proofs.Common.{◌≡◌, ℕ, ◌+◌, ◌-◌, ◌^◌, ◌<◌, min, List, length, set, Option, None, refl, sym, ap, subst, ◌∙◌, arith}
 use Rattle.source_tree.specs.declared.file.File.{File}
-use Rattle.source_tree.specs.Edits.{after_edits}
 use Rattle.pg_value.specs.Datum.{Datum}
 use Rattle.site_words.specs.declared.words.AppStep.{AppStep}
 use Rattle.site_words.specs.declared.words.Entry.{Entry}
 use Rattle.site_words.specs.declared.words.Op.{Op}
 use Rattle.site_words.specs.declared.words.Op.TheVariants as op
 use Rattle.site_words.specs.declared.words.Opening.{Opening}
-use Rattle.site_words.specs.declared.words.Refusal.{Refusal}
 use Rattle.site_words.specs.declared.words.Reply.{Reply}
 use Rattle.site_words.specs.declared.words.Reply.TheVariants as reply
 use Rattle.site_words.specs.App.{app_reply, app_step}
-use Rattle.site_words.specs.Runs.{UnderWay, freshened, run_at, seated, spent, tree_in, under_at}
+use Rattle.site_words.specs.Runs.{UnderWay, run_at, seated, spent, tree_in, under_at}
 use Rattle.site_words.specs.Step.{refusal_of, reply_to}
 use Rattle.site_words.specs.Trees.{Needs}
-use Rattle.site_words.specs.Weights.{capped, op_weight, weight_with}
+use Rattle.site_words.specs.Weights.{capped, weight_with}
 use Rattle.site_state.specs.declared.gift.Done.{Done}
-use Rattle.site_state.specs.declared.gift.Gift.{Gift}
 use Rattle.site_state.specs.Gifts.{FitsGift}
 use Rattle.site_state.specs.Parts.{Parts, state_of}
 use Rattle.site_state.specs.Sources.{AreThere}
 use Rattle.site_state.specs.Works.{AreKept, IsDone, Moves, entry_of}
 use Rattle.site_state.proofs.AttributeLemmas.{there_later}
-use Rattle.site_state.proofs.Moving.{MovesParts, moves_by, run_stays}
+use Rattle.site_state.proofs.Moving.{MovesParts, moves_by}
 
 -- a claim that leaves the weight below 2^64 is as it stands
 pub claim_is : (weight w n : ℕ) → w ≡ capped n → weight + n < 2 ^ 64 → w ≡ n

@@ -1,7 +1,7 @@
 -- A Fetch and an Offer, by what their parts did.
-use Rattle.std.proofs.Common.{◌≡◌, ◌≢◌, ℕ, ◌+◌, ◌-◌, ◌^◌, ◌<◌, ◌≤◌, min, Bool, true, false, List, [], ◌∷◌, length, map, set, Option, Some, None, refl, sym, ap, subst, ◌∙◌, if◌then◌else◌}
-use Rattle.std.specs.Prelude.{⊤, ◌&&◌}
-use Rattle.pg_text.specs.Names.{AreInOrder, has_name}
+use Rattle.std.proofs.Common.{◌≡◌, ℕ, ◌+◌, ◌-◌, ◌^◌, min, Bool, true, false, List, length, map, set, Option, Some, None, refl, sym, ap, subst, ◌∙◌, if◌then◌else◌}
+use Rattle.std.specs.Prelude.{◌&&◌}
+use Rattle.pg_text.specs.Names.{has_name}
 use Rattle.source_tree.specs.declared.file.File.{File}
 use Rattle.source_tree.specs.declared.need.Need.{Need}
 use Rattle.program_store.specs.Store.{hit_of, kept_path, with_value}
@@ -11,7 +11,7 @@ use Rattle.site_words.specs.declared.words.Opening.{Opening}
 use Rattle.site_words.specs.declared.words.Reply.TheVariants as reply
 use Rattle.site_words.specs.Ready.{offered}
 use Rattle.site_words.specs.Runs.{UnderWay, run_at, seated, spent, tree_in, under_at}
-use Rattle.site_words.specs.Trees.{Needs, OneHistory, agrees}
+use Rattle.site_words.specs.Trees.{Needs, agrees}
 use Rattle.site_words.specs.Weights.{capped, op_weight}
 use Rattle.site_state.specs.declared.gift.Done.{Done}
 use Rattle.site_state.specs.Conditions.{CanWork}

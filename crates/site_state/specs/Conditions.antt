@@ -1,5 +1,5 @@
 -- What an operation may rely on.
-use Rattle.std.specs.Prelude.{◌≡◌, ◌≢◌, ℕ, ◌+◌, ◌-◌, ◌^◌, ◌<◌, ◌≤◌, Bool, true, List, length, map, Option, Some, None}
+use Rattle.std.specs.Prelude.{◌≡◌, ◌≢◌, ℕ, ◌+◌, ◌-◌, ◌^◌, ◌<◌, ◌≤◌, true, false, List, length, map, Option, Some, None}
 use Rattle.pg_text.specs.Names.{AreInOrder}
 use Rattle.program_store.specs.Store.{kept_path}
 use Rattle.source_tree.specs.declared.edit.Edit.{Edit}
@@ -43,3 +43,4 @@ module _ {P : Type 0} (needs : Needs) (made : P → List File → List ℕ → T
     pub later : OneHistory (tree_in (under_at parts.runs pass)) parts.tree
     pub next : (edits : List Edit) → OneHistory parts.tree (after_edits edits (parts.version + 1) parts.tree)
     pub held : (number : ℕ) → session_in (run_at parts.runs pass) ≡ Some number → has_named number parts.sessions ≡ true
+    pub unused : has_named parts.freshes parts.sessions ≡ false

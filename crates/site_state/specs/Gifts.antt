@@ -17,7 +17,7 @@ use Rattle.site_words.specs.Sessions.{attrs_of, moment_after}
 use Rattle.site_words.specs.State.{State}
 use Rattle.site_words.specs.Step.{begun_session, snapped_session}
 use Rattle.site_state.specs.declared.gift.Gift.{Gift}
-use Rattle.site_state.specs.declared.gift.Gift.TheVariants.{Nothing, Start, Made, Id, Picture}
+use Rattle.site_state.specs.declared.gift.Gift.TheVariants.{Start, Made, Id, Picture}
 
 -- the value in a handle
 abbrev pub value_in : {P Z : Type 0} → Option (Arc P Z) → Option P

@@ -1,4 +1,5 @@
 pub mod Sources
+pub mod Ranks
 pub mod Parts
 pub mod Gifts
 pub mod ReadSessions

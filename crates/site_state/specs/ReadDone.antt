@@ -9,7 +9,7 @@ use Rattle.site_words.specs.declared.words.Reply.{Reply}
 use Rattle.site_words.specs.declared.words.Reply.TheVariants as reply
 use Rattle.site_state.specs.declared.gift.Done.{Done}
 use Rattle.site_state.specs.declared.gift.Gift.{Gift}
-use Rattle.site_state.specs.declared.gift.Gift.TheVariants.{Nothing, Start, Made, Id, Picture}
+use Rattle.site_state.specs.declared.gift.Gift.TheVariants.{Start, Made, Picture}
 use Rattle.site_state.specs.declared.session.Session.{Session}
 use Rattle.site_state.specs.Parts.{Parts}
 use Rattle.site_state.specs.ReadSessions.{number_in}

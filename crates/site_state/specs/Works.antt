@@ -1,5 +1,5 @@
 -- What an operation does to what is held.
-use Rattle.std.specs.Prelude.{◌≡◌, ℕ, ◌+◌, List, slice_get, length, Option, Some, None}
+use Rattle.std.specs.Prelude.{◌≡◌, ℕ, ◌+◌, List, slice_get, length, Some, None}
 use Rattle.source_tree.specs.declared.file.File.{File}
 use Rattle.edges.specs.declared.acted.Acted.{Acted}
 use Rattle.edges.specs.declared.acted.Acted.TheVariants.{Did, Refused, NoMemory}
@@ -8,7 +8,7 @@ use Rattle.site_words.specs.declared.words.Op.{Op}
 use Rattle.site_words.specs.declared.words.Opening.{Opening}
 use Rattle.site_words.specs.declared.words.Refusal.{Refusal}
 use Rattle.site_words.specs.declared.words.Reply.{Reply}
-use Rattle.site_words.specs.State.{State, moved}
+use Rattle.site_words.specs.State.{moved}
 use Rattle.site_words.specs.Step.{refusal_of, reply_to}
 use Rattle.site_words.specs.Trees.{Each, Needs}
 use Rattle.site_state.specs.declared.gift.Done.{Done}

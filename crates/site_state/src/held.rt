@@ -8,7 +8,7 @@ mod start;
 mod values;
 
 use crate::request::Request;
-use crate::session::Session;
+use crate::session_list::SessionList;
 use pg_value::Attrs;
 use program_store::Store;
 use source_tree::Tree;
@@ -22,7 +22,7 @@ pub struct Held<P> {
     pub tree: Arc<Tree>,
     pub version: u64,
     pub app: Attrs,
-    pub sessions: Vec<Session>,
+    pub sessions: SessionList,
     pub runs: Vec<Option<Request>>,
     pub store: Store<P>,
     pub begins: u64,

@@ -1,4 +1,5 @@
-ghost use Rattle.std.specs.Prelude.{◌≡◌, None, [], replicate, IfOk};
+ghost use Rattle.std.specs.Prelude.{◌≡◌, None, [], true, replicate, IfOk};
+ghost use Rattle.site_words.specs.Opening.{are_distinct};
 ghost use Rattle.source_tree.specs.Limits.{tree_fault};
 ghost use Rattle.site_words.specs.State.{start_of};
 ghost use Rattle.site_state.specs.Parts.{parts_of, state_of};
@@ -7,6 +8,7 @@ ghost use Rattle.site_state.specs.Sources.{AreThere, sessions_of};
 use crate::held::Held;
 use crate::request::Request;
 use crate::session::{Session, Source};
+use crate::session_list::SessionList;
 use pg_text::Failure;
 use program_store::Store;
 use site_words::{Compiled, KeptSession, Opening};
@@ -17,7 +19,8 @@ use std::sync::Arc;
 impl<P: Compiled> Held<P> {
     /// What an opening begins with.
     pub fn start(alloc: Global, opening: &Opening) -> Result<Self, AllocError>
-        requires { tree_fault opening.now.tree ≡ None }
+        requires fault { tree_fault opening.now.tree ≡ None }
+        requires distinct { are_distinct opening.now.sessions ≡ true }
         ensures state { IfOk result (λ held. state_of opening.now [] (parts_of held) ≡ start_of opening.now) }
         ensures kept { IfOk result (λ held. (parts_of held).kept ≡ []) }
         ensures there { IfOk result (λ held. AreThere 0 (parts_of held).sessions) }
@@ -66,11 +69,12 @@ fn no_runs(alloc: Global, passes: u8) -> Result<Vec<Option<Request>>, AllocError
 }
 
 // The opening's sessions, whose attributes stay there.
-fn opened_sessions(alloc: Global, opened: &[KeptSession]) -> Result<Vec<Session>, AllocError>
-    ensures sessions { IfOk result (λ sessions. sessions_of opened.now [] sessions.items ≡ opened.now) }
-    ensures there { IfOk result (λ sessions. AreThere 0 sessions.items) }
+fn opened_sessions(alloc: Global, opened: &[KeptSession]) -> Result<SessionList, AllocError>
+    requires { are_distinct opened.now ≡ true }
+    ensures sessions { IfOk result (λ sessions. sessions_of opened.now [] sessions ≡ opened.now) }
+    ensures there { IfOk result (λ sessions. AreThere 0 sessions) }
 {
-    let mut sessions = Vec::with_capacity(alloc, opened.len())?;
+    let mut sessions = SessionList::new(alloc);
     for index in 0..opened.len() {
         let kept = &opened[index];
         sessions.push(Session {

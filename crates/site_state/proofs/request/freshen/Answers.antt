@@ -1,4 +1,4 @@
-use Rattle.std.proofs.Common.{None, sym, ap, ◌∙◌}
+use Rattle.std.proofs.Common.{None, ap, ◌∙◌}
 use Rattle.site_words.specs.declared.words.Reply.TheVariants.{Made}
 use Rattle.site_words.specs.Runs.{freshened, run_in, seated, tree_in}
 use Rattle.site_state.specs.Parts.{under_in}

@@ -1,4 +1,4 @@
-use Rattle.std.proofs.Common.{None, sym, ap, ◌∙◌}
+use Rattle.std.proofs.Common.{None, ap, ◌∙◌}
 use Rattle.site_words.specs.Runs.{run_in, seated, spent, tree_in}
 use Rattle.site_state.specs.Parts.{under_in}
 use Rattle.site_state.proofs.Moving.{changed_run}

@@ -1,6 +1,23 @@
-use Rattle.std.proofs.Common.{sym, ◌∙◌}
-use Rattle.site_state.proofs.SessionLemmas.{found_more}
+use Rattle.std.proofs.Common.{Some, ◌∙◌}
+use Rattle.site_words.specs.Ids.{is_id}
+use Rattle.site_state.specs.ReadSessions.{named}
+use Rattle.site_state.proofs.SessionLemmas.{found_by, none_either, none_if, some_if}
 use Rattle.site_state.proofs.sessions.session_at.Goals as goal
 
-pub loop-session-preserved : goal.loop-session-preserved
-loop-session-preserved c = sym (found_more c.args.seed c.args.cookie.now c.args.sessions.now c.loop-session.session-index _ c.loop-session-test.true (sym c.in_ok-found.ensures ∙ c.if-found.false)) ∙ c.loop-session.invariant
+pub returns-in_default : goal.returns-in_default
+returns-in_default c =
+    let number = c.number_in_id-number.result in
+    none_either (is_id c.args.seed number c.args.cookie.now) (named number c.args.sessions.now) c.in_default.ensures.session
+    ∙ found_by c.args.seed c.args.cookie.now number c.args.sessions.now c.get.ensures.numbers (c.number_in_id-number.ensures c.args.seed)
+
+pub returns-then-branch : goal.returns-then-branch
+returns-then-branch c =
+    let number = c.number_in_id-number.result in
+    some_if (is_id c.args.seed number c.args.cookie.now) c.in_ok-is_id.field-0 (Some c.in-Some.session) (named number c.args.sessions.now) c.in_ok-is_id.ensures c.if-branch.true c.in-Some.ensures.session
+    ∙ found_by c.args.seed c.args.cookie.now number c.args.sessions.now c.get.ensures.numbers (c.number_in_id-number.ensures c.args.seed)
+
+pub returns-else-branch : goal.returns-else-branch
+returns-else-branch c =
+    let number = c.number_in_id-number.result in
+    none_if (is_id c.args.seed number c.args.cookie.now) c.in_ok-is_id.field-0 (named number c.args.sessions.now) c.in_ok-is_id.ensures c.if-branch.false
+    ∙ found_by c.args.seed c.args.cookie.now number c.args.sessions.now c.get.ensures.numbers (c.number_in_id-number.ensures c.args.seed)

@@ -1,4 +1,4 @@
-use Rattle.std.proofs.Common.{◌≡◌, List, Option, map, set, None, refl, sym, ap, subst, ◌∙◌}
+use Rattle.std.proofs.Common.{◌≡◌, map, refl, ap, ◌∙◌}
 use Rattle.site_state.specs.Parts.{parts_of, under_in}
 use Rattle.site_words.specs.declared.words.AppReply.{AppReply}
 use Rattle.site_words.specs.declared.words.Op.TheVariants as op

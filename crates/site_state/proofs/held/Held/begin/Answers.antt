@@ -1,6 +1,6 @@
-use Rattle.std.proofs.Common.{◌≡◌, ◌-◌, ℕ, List, Option, map, set, Some, None, refl, sym, ap, subst, ◌∙◌}
-use Rattle.site_words.specs.Runs.{UnderWay, promised}
-use Rattle.site_words.specs.Step.{busy, full_of, or_else, refusal_of}
+use Rattle.std.proofs.Common.{◌≡◌, ◌-◌, map, set, Some, None, refl, sym, ap, subst, ◌∙◌}
+use Rattle.site_words.specs.Runs.{promised}
+use Rattle.site_words.specs.Step.{busy, full_of, or_else}
 use Rattle.site_words.specs.Weights.{promise}
 use Rattle.site_state.specs.Parts.{parts_of, under_in}
 use Rattle.site_state.specs.ReadSessions.{found_at, held_by, number_in}
@@ -9,9 +9,9 @@ use Rattle.site_state.proofs.held.Held.begin.Goals as goal
 
 pub returns-in-Some : goal.returns-in-Some
 returns-in-Some g c =
-    let found : c.in-Ok.found ≡ found_at c.args.opening.now.seed c.args.cookie.now c.args.self.now.sessions.items = c.in-Ok.ensures ∙ ap (λ s. found_at c.args.opening.now.seed c.args.cookie.now s) c.deref.ensures.value in
-    let is : Some c.in-Some.refusal ≡ busy (held_by (found_at c.args.opening.now.seed c.args.cookie.now c.args.self.now.sessions.items) (map under_in c.args.self.now.runs.items)) =
-    c.in-Some.ensures ∙ (ap (λ r. busy (held_by c.in-Ok.found (map under_in r))) c.deref-2.ensures.value ∙ ap (λ f. busy (held_by f (map under_in c.args.self.now.runs.items))) found) in (
+    let found : c.in-Ok.found ≡ found_at c.args.opening.now.seed c.args.cookie.now c.args.self.now.sessions = c.in-Ok.ensures in
+    let is : Some c.in-Some.refusal ≡ busy (held_by (found_at c.args.opening.now.seed c.args.cookie.now c.args.self.now.sessions) (map under_in c.args.self.now.runs.items)) =
+    c.in-Some.ensures ∙ (ap (λ r. busy (held_by c.in-Ok.found (map under_in r))) c.deref.ensures.value ∙ ap (λ f. busy (held_by f (map under_in c.args.self.now.runs.items))) found) in (
       begin_refusal g.P.Compiled.needs g.P.Compiled.made c.args.opening.now c.args.history.now (parts_of c.args.self.now) c.args.pass c.args.cookie.now c.args.moment
           ∙ ap (λ h. or_else h (full_of c.args.opening.now.limit c.args.self.now.weight (promised (map under_in c.args.self.now.runs.items)) promise)) (sym is),
       refl,
@@ -19,11 +19,11 @@ returns-in-Some g c =
 
 pub returns-in-Some-full : goal.returns-in-Some-full
 returns-in-Some-full g c =
-    let found : c.in-Ok.found ≡ found_at c.args.opening.now.seed c.args.cookie.now c.args.self.now.sessions.items = c.in-Ok.ensures ∙ ap (λ s. found_at c.args.opening.now.seed c.args.cookie.now s) c.deref.ensures.value in
-    let busy_is : None ≡ busy (held_by (found_at c.args.opening.now.seed c.args.cookie.now c.args.self.now.sessions.items) (map under_in c.args.self.now.runs.items)) =
-    c.in_default-busy.ensures ∙ (ap (λ r. busy (held_by c.in-Ok.found (map under_in r))) c.deref-2.ensures.value ∙ ap (λ f. busy (held_by f (map under_in c.args.self.now.runs.items))) found) in
+    let found : c.in-Ok.found ≡ found_at c.args.opening.now.seed c.args.cookie.now c.args.self.now.sessions = c.in-Ok.ensures in
+    let busy_is : None ≡ busy (held_by (found_at c.args.opening.now.seed c.args.cookie.now c.args.self.now.sessions) (map under_in c.args.self.now.runs.items)) =
+    c.in_default-busy.ensures ∙ (ap (λ r. busy (held_by c.in-Ok.found (map under_in r))) c.deref.ensures.value ∙ ap (λ f. busy (held_by f (map under_in c.args.self.now.runs.items))) found) in
     let full_is : Some c.in-Some-full.refusal ≡ full_of c.args.opening.now.limit c.args.self.now.weight (promised (map under_in c.args.self.now.runs.items)) promise =
-    subst (λ r. Some c.in-Some-full.refusal ≡ full_of c.args.opening.now.limit c.args.self.now.weight (promised (map under_in r)) promise) c.deref-3.ensures.value (c.in-Some-full.ensures promise refl) in (
+    subst (λ r. Some c.in-Some-full.refusal ≡ full_of c.args.opening.now.limit c.args.self.now.weight (promised (map under_in r)) promise) c.deref-2.ensures.value (c.in-Some-full.ensures promise refl) in (
       begin_refusal g.P.Compiled.needs g.P.Compiled.made c.args.opening.now c.args.history.now (parts_of c.args.self.now) c.args.pass c.args.cookie.now c.args.moment
           ∙ (ap (λ h. or_else h (full_of c.args.opening.now.limit c.args.self.now.weight (promised (map under_in c.args.self.now.runs.items)) promise)) (sym busy_is) ∙ sym full_is),
       refl,
@@ -31,17 +31,17 @@ returns-in-Some-full g c =
 
 pub returns : goal.returns
 returns g c =
-    let found : c.in-Ok.found ≡ found_at c.args.opening.now.seed c.args.cookie.now c.args.self.now.sessions.items = c.in-Ok.ensures ∙ ap (λ s. found_at c.args.opening.now.seed c.args.cookie.now s) c.deref.ensures.value in
-    let busy_is : None ≡ busy (held_by (found_at c.args.opening.now.seed c.args.cookie.now c.args.self.now.sessions.items) (map under_in c.args.self.now.runs.items)) =
-    c.in_default-busy.ensures ∙ (ap (λ r. busy (held_by c.in-Ok.found (map under_in r))) c.deref-2.ensures.value ∙ ap (λ f. busy (held_by f (map under_in c.args.self.now.runs.items))) found) in
+    let found : c.in-Ok.found ≡ found_at c.args.opening.now.seed c.args.cookie.now c.args.self.now.sessions = c.in-Ok.ensures in
+    let busy_is : None ≡ busy (held_by (found_at c.args.opening.now.seed c.args.cookie.now c.args.self.now.sessions) (map under_in c.args.self.now.runs.items)) =
+    c.in_default-busy.ensures ∙ (ap (λ r. busy (held_by c.in-Ok.found (map under_in r))) c.deref.ensures.value ∙ ap (λ f. busy (held_by f (map under_in c.args.self.now.runs.items))) found) in
     let full_is : None ≡ full_of c.args.opening.now.limit c.args.self.now.weight (promised (map under_in c.args.self.now.runs.items)) promise =
-    subst (λ r. None ≡ full_of c.args.opening.now.limit c.args.self.now.weight (promised (map under_in r)) promise) c.deref-3.ensures.value (c.in_default-full.ensures promise refl) in
+    subst (λ r. None ≡ full_of c.args.opening.now.limit c.args.self.now.weight (promised (map under_in r)) promise) c.deref-2.ensures.value (c.in_default-full.ensures promise refl) in
     let runs : map under_in c.seat.new.runs.items ≡ set (map under_in c.args.self.now.runs.items) c.args.pass
     (Some (record { run = record { request = c.args.self.now.begins; version = c.args.self.now.version; session = number_in c.awake-session.result; left = promise - c.args.weight }; tree = c.args.self.now.tree.value })) =
     c.seat.ensures ∙ (λ i. set (map under_in c.args.self.now.runs.items) c.args.pass
     (Some (record { run = record { request = c.args.self.now.begins; version = c.args.self.now.version; session = c.number_of.ensures i; left = c.saturating_sub.ensures i }; tree = c.in-Ok-try_clone.ensures i }))) in
     begin_done g.P.Compiled.needs g.P.Compiled.made c.args.opening.now c.args.history.now (parts_of c.args.self.now) _ c.args.pass c.args.weight c.saturating_add-self.result c.args.moment c.later-now.result c.args.cookie.now
-    c.in-Ok.found c.awake-session.result c.in-Ok-begun.done c.begin_session.new.sessions.items (map under_in c.seat.new.runs.items) c.requires.can
+    c.in-Ok.found c.awake-session.result c.in-Ok-begun.done c.begin_session.new.sessions (map under_in c.seat.new.runs.items) c.requires.can
     (begin_refusal g.P.Compiled.needs g.P.Compiled.made c.args.opening.now c.args.history.now (parts_of c.args.self.now) c.args.pass c.args.cookie.now c.args.moment
     ∙ (ap (λ h. or_else h (full_of c.args.opening.now.limit c.args.self.now.weight (promised (map under_in c.args.self.now.runs.items)) promise)) (sym busy_is) ∙ sym full_is))
     refl found c.later-now.ensures c.awake-session.ensures c.begin_session.ensures runs c.saturating_add-self.ensures c.requires.weight c.in-Ok-begun.ensures

@@ -1,4 +1,4 @@
-use Rattle.std.proofs.Common.{◌≡◌, List, Option, map, set, None, refl, sym, ap, subst, ◌∙◌}
+use Rattle.std.proofs.Common.{map, refl}
 use Rattle.site_state.specs.Parts.{parts_of, under_in}
 use Rattle.site_state.proofs.Keeping.{Laws}
 use Rattle.site_state.proofs.ValueSteps.{fetch_done}

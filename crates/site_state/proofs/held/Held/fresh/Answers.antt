@@ -1,9 +1,8 @@
-use Rattle.std.proofs.Common.{◌≡◌, List, Option, map, set, None, refl, sym, ap, subst, ◌∙◌}
+use Rattle.std.proofs.Common.{map, refl, ap, ◌∙◌}
 use Rattle.site_words.specs.declared.words.Reply.TheVariants.{Made}
 use Rattle.site_state.specs.Parts.{parts_of, under_in}
 use Rattle.std.proofs.Common.{◌++◌, ◌∷◌, []}
 use Rattle.site_state.specs.declared.gift.Gift.TheVariants.{Id}
-use Rattle.site_state.specs.declared.session.Session.{Session}
 use Rattle.site_state.specs.declared.session.Source.TheVariants.{Nowhere}
 use Rattle.site_state.specs.ReadSessions.{roomy}
 use Rattle.site_state.proofs.RequestSteps.{fresh_done}
@@ -13,7 +12,7 @@ pub returns : goal.returns
 returns g c =
     fresh_done g.P.Compiled.needs g.P.Compiled.made c.args.opening.now c.args.history.now (parts_of c.args.self.now) _ c.args.pass c.args.request c.args.weight c.saturating_add-self.result
     (record { reply = Made c.args.self.now.freshes; given = record { reply = Made c.args.self.now.freshes; gift = Id c.in-Ok.id } }) c.in-Ok.id
-    c.push_reserved.new.self.items (map under_in c.freshen.new.runs.items) c.requires.can refl
-    (c.push_reserved.ensures.items ∙ ap (λ (l : List Session). l ++ record { number = c.args.self.now.freshes; used = c.args.self.now.moment; source = Nowhere } ∷ []) (c.make_room.ensures.items ∙ (ap (λ r. roomy (map under_in r) c.try_reserve.new.self.items) c.deref.ensures.value ∙ ap (λ (l : List Session). roomy (map under_in c.args.self.now.runs.items) l) c.try_reserve.ensures.items)))
+    c.add.new.self (map under_in c.freshen.new.runs.items) c.requires.can refl
+    (c.in-Ok-add.ensures.ok ∙ ap (λ r. roomy (map under_in r) c.args.self.now.sessions ++ record { number = c.args.self.now.freshes; used = c.args.self.now.moment; source = Nowhere } ∷ []) c.deref.ensures.value)
     c.freshen.ensures
     c.saturating_add-self.ensures c.requires.weight refl refl c.in-Ok.ensures

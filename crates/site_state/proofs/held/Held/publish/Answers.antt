@@ -1,4 +1,4 @@
-use Rattle.std.proofs.Common.{◌≡◌, ◌+◌, ℕ, List, Option, map, Ok, Some, None, refl, sym, ap, subst, ◌∙◌}
+use Rattle.std.proofs.Common.{◌≡◌, ◌+◌, map, Ok, Some, None, refl, sym, ap, subst, ◌∙◌}
 use Rattle.source_tree.specs.Changed.{changed}
 use Rattle.source_tree.specs.Edits.{after_edits}
 use Rattle.source_tree.specs.Limits.{tree_fault, tree_of}

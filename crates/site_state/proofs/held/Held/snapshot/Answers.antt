@@ -1,10 +1,10 @@
-use Rattle.std.proofs.Common.{◌≡◌, List, Option, map, None, refl, sym, ap, subst, ◌∙◌}
+use Rattle.std.proofs.Common.{◌≡◌, map, None, refl, sym, ap, subst, ◌∙◌}
 use Rattle.site_words.specs.declared.words.Op.TheVariants as op
 use Rattle.site_words.specs.Runs.{promised}
 use Rattle.site_words.specs.Step.{full_of}
 use Rattle.site_words.specs.Weights.{op_weight}
 use Rattle.site_state.specs.Parts.{parts_of, under_in}
-use Rattle.site_state.specs.ReadSessions.{found_at, held_by, shown_one}
+use Rattle.site_state.specs.ReadSessions.{held_by, shown_one}
 use Rattle.site_state.proofs.JournalSteps.{snapshot_done}
 use Rattle.site_state.proofs.held.Held.snapshot.Goals as goal
 
@@ -15,7 +15,6 @@ returns g c =
     (sym (subst (λ r. None ≡ full_of c.args.opening.now.limit c.args.self.now.weight (promised (map under_in r)) (op_weight (op.Snapshot c.args.cookie.now))) c.deref.ensures.value (c.in_default.ensures (op_weight (op.Snapshot c.args.cookie.now)) c.requires.weight)))
     refl
     (c.shown-session.ensures
-    ∙ (ap (λ r. shown_one (held_by c.in-Ok.found (map under_in r)) c.args.opening.now.idle c.args.self.now.moment c.in-Ok.found) c.deref-3.ensures.value
-    ∙ ap (λ f. shown_one (held_by f (map under_in c.args.self.now.runs.items)) c.args.opening.now.idle c.args.self.now.moment f)
-    (c.in-Ok.ensures ∙ ap (λ s. found_at c.args.opening.now.seed c.args.cookie.now s) c.deref-2.ensures.value)))
+    ∙ (ap (λ r. shown_one (held_by c.in-Ok.found (map under_in r)) c.args.opening.now.idle c.args.self.now.moment c.in-Ok.found) c.deref-2.ensures.value
+    ∙ ap (λ f. shown_one (held_by f (map under_in c.args.self.now.runs.items)) c.args.opening.now.idle c.args.self.now.moment f) c.in-Ok.ensures))
     c.saturating_add-self.ensures c.requires.weight c.in-Ok-pictured.ensures

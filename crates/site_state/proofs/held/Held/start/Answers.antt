@@ -1,9 +1,7 @@
 use Rattle.std.proofs.Common.{◌≡◌, ℕ, zero, suc, List, Option, [], ◌∷◌, None, map, replicate, refl, ap, subst, ◌∙◌}
-use Rattle.program_store.specs.Store.{kept_in, kept_path}
+use Rattle.program_store.specs.Store.{kept_path}
 use Rattle.site_words.specs.Runs.{UnderWay}
-use Rattle.site_words.specs.State.{start_of}
-use Rattle.site_state.specs.declared.request.Request.{Request}
-use Rattle.site_state.specs.Parts.{parts_of, state_of, under_in}
+use Rattle.site_state.specs.Parts.{under_in}
 use Rattle.site_state.specs.Sources.{sessions_of}
 use Rattle.site_state.proofs.held.Held.start.Goals as goal
 
@@ -14,7 +12,7 @@ none_under (suc n) = ap (λ (l : List (Option UnderWay)). None ∷ l) (none_unde
 pub returns-clause-state : goal.returns-clause-state
 returns-clause-state g c =
     let tree = c.in_ok-tree.ensures.ok ∙ c.in_ok-same_tree.ensures in
-    let sessions = subst (λ o. sessions_of o [] c.in_ok-sessions.sessions.items ≡ o) c.as_slice.ensures c.in_ok-sessions.ensures.sessions in
+    let sessions = subst (λ o. sessions_of o [] c.in_ok-sessions.sessions ≡ o) c.as_slice.ensures c.in_ok-sessions.ensures.sessions in
     let runs = ap (λ l. map under_in l) c.in_ok-runs.ensures ∙ none_under c.args.opening.now.passes in
     let ready = ap (λ l. map kept_path l) c.new-2.ensures in
     λ i. record {

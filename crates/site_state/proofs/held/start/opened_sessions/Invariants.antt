@@ -4,4 +4,4 @@ use Rattle.site_state.proofs.held.start.opened_sessions.Given as goal
 
 -- the sessions up to this one
 abbrev pub invariant-loop-index : goal.invariant-loop-index
-invariant-loop-index l = record { sessions : sessions_of l.opened [] l.sessions.items ≡ take l.index l.opened; there : AreThere 0 l.sessions.items }
+invariant-loop-index l = record { sessions : sessions_of l.opened [] l.sessions ≡ take l.index l.opened; there : AreThere 0 l.sessions }
