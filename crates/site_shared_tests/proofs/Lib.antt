@@ -1,0 +1,5 @@
+mod Resting
+mod ReadyLemmas
+mod VisitLemmas
+mod WordsCross
+mod SiteCross

@@ -1,0 +1,37 @@
+use denote.Param.Send.{arg_send, param_send}
+use mir.Syntax.{named}
+use Rattle.turn_table.proofs.pass.Pass.TheSendSync as pass
+use Rattle.site_core_tests.proofs.word.Word.TheSendSync as word
+use Rattle.site_shared_tests.proofs.SiteCross.{heap_sync, job_sync, seated_send, words_sync}
+use Rattle.site_shared_tests.proofs.meeting.Watch.TheSendSync as watch
+use Rattle.site_shared_tests.proofs.visiting.Errand.TheSendSync as errand
+use Rattle.site_shared_tests.proofs.passes.all_after.Goals as goal
+
+pub map_vec-requires-send-J : goal.map_vec-requires-send-J
+map_vec-requires-send-J g c κs = search (pass.the_send, seated_send, word.the_send, word.the_sync, arg_send, param_send)
+
+pub map_vec-requires-send-X : goal.map_vec-requires-send-X
+map_vec-requires-send-X g c κs = search (pass.the_send, seated_send, word.the_send, word.the_sync, arg_send, param_send)
+
+pub map_vec-requires-sync-F : goal.map_vec-requires-sync-F
+map_vec-requires-sync-F g c κs lasting = record {
+  shared = λ x b o ν. (
+    (
+      ((λ q. tt), c.type_bounds.sync-R.shared x.0.now x.0.ref_ptr.0 x.0.ref_ptr.1 κs.1.1.1.1.1.1.1.0),
+      (
+        ((λ q. tt), heap_sync.shared x.1.now x.1.ref_ptr.0 x.1.ref_ptr.1 κs.1.1.1.1.1.1.1.1.0),
+        (
+          ((λ q. tt), (words_sync (record { mir = named 10; lft = κs.1.1.1.1.1.1.1.1.1.1.0 })).shared x.2.now x.2.ref_ptr.0 x.2.ref_ptr.1 κs.1.1.1.1.1.1.1.1.1.0),
+          (
+            ((λ q. tt), watch.the_sync.shared x.3.now x.3.ref_ptr.0 x.3.ref_ptr.1 κs.1.1.1.1.1.1.1.1.1.1.1.0),
+            (
+              ((λ q. tt), errand.the_sync.shared x.4.now x.4.ref_ptr.0 x.4.ref_ptr.1 κs.1.1.1.1.1.1.1.1.1.1.1.1.0),
+              (((λ q. tt), job_sync.shared x.5.now x.5.ref_ptr.0 x.5.ref_ptr.1 κs.1.1.1.1.1.1.1.1.1.1.1.1.1.0), tt),
+            ),
+          ),
+        ),
+      ),
+    ),
+    (λ q. tt),
+  );
+}
