@@ -1,0 +1,4 @@
+mod CookieLemmas
+mod PropertyLemmas
+mod RoundLemmas
+mod TableLemmas

@@ -1,0 +1,4 @@
+pub mod Objects
+pub mod Properties
+pub mod RoundCode
+pub mod Rounds
