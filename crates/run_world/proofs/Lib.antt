@@ -1,0 +1,5 @@
+pub mod Adds
+pub mod Exits
+pub mod Knowing
+pub mod Parts
+pub mod SeatLemmas

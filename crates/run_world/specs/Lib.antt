@@ -1,0 +1,7 @@
+pub mod Asking
+pub mod Known
+pub mod Origin
+pub mod Part
+pub mod Programs
+pub mod Seats
+pub mod Tags
