@@ -1,0 +1,8 @@
+pub mod ExportLemmas
+pub mod GivenLemmas
+pub mod Lookups
+pub mod ObjectLemmas
+pub mod Operates
+pub mod PropertySets
+pub mod ValueSet
+pub mod Visits

@@ -1,0 +1,6 @@
+pub mod Answers
+pub mod Exports
+pub mod Given
+pub mod Objects
+pub mod Operations
+pub mod Properties

@@ -1,0 +1,22 @@
+//! The parts of a run that go well or raise a fault: variables looked up and set, properties, exports, objects, targets, and the operations on values.
+//!
+//! Each call does one part of the meaning of pages, over any world.
+#![tactic(auto)]
+
+mod call_frame;
+mod exports;
+mod given;
+mod objects;
+mod operations;
+mod output;
+mod request_objects;
+mod set_properties;
+mod targets;
+mod variables;
+
+pub use call_frame::first_frame;
+pub use exports::{Change, copy_out, exports_of, give_back, nested_changes};
+pub use given::{Given, body_given, fragment_given};
+pub use operations::{operate, values_taken};
+pub use set_properties::{find_property, write_back};
+pub use targets::{target_params, target_path};

@@ -1,0 +1,162 @@
+// What the operations do that take values from the stack and leave one or none.
+ghost use Rattle.std.specs.Prelude.{◌≡◌, ◌<◌, ◌^◌, length, map};
+ghost use Rattle.std.specs.declared.option.Option.TheVariants.{Some};
+ghost use Rattle.page_code.specs.Ops.{mode_takes, takes};
+ghost use Rattle.page_meaning.specs.Core.{set_or_remove};
+ghost use Rattle.page_table.specs.Operations.{operation, visits};
+ghost use Rattle.page_table.specs.Program.{Serving};
+ghost use Rattle.pg_text.specs.Failure.{AnswersAs};
+ghost use Rattle.pg_value.specs.Value.{datum_of};
+ghost use Rattle.run_parts.specs.Answers.{left_by, none_of, one_of};
+ghost use Rattle.run_parts.specs.Operations.{HasOnePlace, IsComputed, computed};
+ghost use Rattle.run_world.specs.Known.{ServesSo};
+ghost use Rattle.run_world.specs.Part.{Doing};
+ghost use Rattle.run_world.specs.Seats.{seat_of};
+
+use crate::objects::{implicit_value, scope_entry};
+use crate::output::put_escaped;
+use crate::set_properties::{get_property, set_property};
+use crate::variables::{assign, find, unassign, unassign_all};
+use el_ops::{binary, index, unary};
+use jstl_functions::call;
+use page_code::{Op, PropertyMode, ScopedName};
+use pg_text::Failure;
+use pg_value::{RunFault, Value};
+use run_values::{coerced, header_entry, joined, list_of, record_of, text_of, url};
+use run_world::{Seat, Served, World};
+use std::alloc::Global;
+
+/// How many values an operation takes.
+pub fn values_taken(op: &Op) -> usize
+    requires { takes op.now < 2 ^ 64 }
+    ensures { result ≡ takes op.now }
+{
+    match op {
+        Op::Write(_) | Op::Visit(_) | Op::Const(_) | Op::Find(_) | Op::Implicit(_) => 0,
+        Op::RemoveVar(_) | Op::RemoveAll(_) => 0,
+        Op::Put | Op::PutEscaped | Op::Pop | Op::SetVar(_) | Op::GetProperty(_) => 1,
+        Op::HeaderIndex(_) | Op::ScopeIndex(_) | Op::Unary(_) | Op::Coerce(_) => 1,
+        Op::Index | Op::Binary(_) => 2,
+        Op::MakeList(count) | Op::Concat(count) => *count,
+        Op::MakeMap(pairs) => 2 * *pairs,
+        Op::Call(function) => function.arity(),
+        Op::Url(params) => 2 * *params + 1,
+        Op::SetProperty(_, mode) => taken_by(mode),
+    }
+}
+
+// How many values a change of properties takes.
+fn taken_by(mode: &PropertyMode) -> usize
+    ensures { result ≡ mode_takes mode.now }
+{
+    match mode {
+        PropertyMode::Parameters | PropertyMode::Parameter { .. } => 0,
+        PropertyMode::Value { .. } => 1,
+        PropertyMode::Entry => 2,
+    }
+}
+
+// An operation that leaves no value.
+fn none(done: Result<(), Failure<RunFault>>) -> Result<Option<Value>, Failure<RunFault>>
+    ensures { result ≡ none_of done }
+{
+    match done {
+        Ok(()) => Ok(None),
+        Err(failure) => Err(failure),
+    }
+}
+
+// An operation that leaves its value.
+fn one(made: Result<Value, Failure<RunFault>>) -> Result<Option<Value>, Failure<RunFault>>
+    ensures { result ≡ one_of made }
+{
+    match made {
+        Ok(value) => Ok(Some(value)),
+        Err(failure) => Err(failure),
+    }
+}
+
+// The value that an operation makes of values alone.
+fn compute(alloc: Global, op: &Op, args: &[Value]) -> Result<Value, Failure<RunFault>>
+    requires args { length args.now ≡ takes op.now }
+    requires computed { IsComputed op.now }
+    ensures { AnswersAs datum_of (computed op.now (map datum_of args.now)) result }
+{
+    match op {
+        Op::Const(value) => Ok(value.copy()?),
+        Op::Index => index(alloc, &args[0], &args[1]),
+        Op::Unary(op) => Ok(unary(*op, &args[0])?),
+        Op::Binary(op) => binary(alloc, *op, &args[0], &args[1]),
+        Op::Coerce(coercion) => coerced(alloc, *coercion, &args[0]),
+        Op::MakeList(_) => list_of(alloc, args),
+        Op::MakeMap(_) => record_of(alloc, args),
+        Op::Concat(_) => Ok(Value::Text(joined(alloc, args)?)),
+        Op::Call(function) => call(alloc, *function, args),
+        Op::Url(_) => Ok(Value::Text(url(alloc, &args[0], &args[1..])?)),
+        _ => unreachable!(),
+    }
+}
+
+// Sets a variable; null removes it.
+fn set_or_remove<W: World>(
+    variable: &ScopedName,
+    value: &Value,
+    world: &mut W,
+) -> Result<(), Failure<RunFault>>
+    requires covered { W.covered world.old }
+    ensures covered { W.covered world.new }
+    ensures does { Doing W.reached W.replies (λ u. u) (λ place. set_or_remove place (record { name = variable.now.name; scope = Some variable.now.scope }) (datum_of value.now)) world.old world.new result }
+{
+    match value {
+        Value::Null => unassign(variable.scope, &variable.name, world),
+        value => assign(variable.scope, &variable.name, value.copy()?, world),
+    }
+}
+
+// Counts so many visits, one after the other: X18.
+fn count_visits<W: World>(count: u32, world: &mut W) -> Result<(), Failure<RunFault>>
+    requires covered { W.covered world.old }
+    ensures covered { W.covered world.new }
+    ensures does { Doing W.reached W.replies (λ u. u) (λ place. visits place count) world.old world.new result }
+{
+    for _counted in 0..count {
+        if !world.visit() {
+            return Err(Failure::Fault(RunFault::TooMuchWork));
+        }
+    }
+    Ok(())
+}
+
+/// What an operation does with the values that it takes, in the order in which they were pushed: the value that it leaves, if any.
+pub fn operate<W: World>(
+    alloc: Global,
+    served: &Served,
+    seat: &Seat,
+    op: &Op,
+    args: &[Value],
+    world: &mut W,
+) -> Result<Option<Value>, Failure<RunFault>>
+    requires covered { W.covered world.old }
+    requires args { length args.now ≡ takes op.now }
+    requires placed { HasOnePlace op.now }
+    ensures covered { W.covered world.new }
+    ensures does { (serving : Serving) → ServesSo W.stores served.now world.old serving → Doing W.reached W.replies left_by (λ place. operation serving (seat_of seat.now) place op.now (map datum_of args.now)) world.old world.new result }
+{
+    match op {
+        Op::Write(text) => none(world.put(text.as_str())),
+        Op::Put => none(world.put(text_of(&args[0]))),
+        Op::PutEscaped => none(put_escaped(alloc, text_of(&args[0]), world)),
+        Op::Visit(count) => none(count_visits(*count, world)),
+        Op::Pop => Ok(None),
+        Op::SetVar(variable) => none(set_or_remove(variable, &args[0], world)),
+        Op::RemoveVar(variable) => none(unassign(variable.scope, &variable.name, world)),
+        Op::RemoveAll(name) => none(unassign_all(name, world)),
+        Op::SetProperty(name, mode) => none(set_property(alloc, seat, name, mode, args, world)),
+        Op::GetProperty(name) => one(get_property(name, text_of(&args[0]), world)),
+        Op::Find(name) => one(find(seat.is_strict(), name, world)),
+        Op::Implicit(object) => one(implicit_value(alloc, served, seat, *object, world)),
+        Op::HeaderIndex(object) => one(header_entry(alloc, served.request, *object, &args[0])),
+        Op::ScopeIndex(scope) => one(scope_entry(alloc, *scope, &args[0], world)),
+        op => one(compute(alloc, op, args)),
+    }
+}

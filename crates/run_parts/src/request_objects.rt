@@ -1,0 +1,65 @@
+// What a page sees of its request, and of its fault and its session, as values.
+ghost use Rattle.std.specs.Prelude.{◌≡◌, map, option_map, IfOk};
+ghost use Rattle.page_meaning.specs.Implicit.{exception_datum};
+ghost use Rattle.pg_value.specs.Value.{datum_of};
+ghost use Rattle.run_parts.specs.Objects.{page_context_of, request_value};
+ghost use Rattle.run_world.specs.Seats.{raise_of};
+
+use http_in::Param;
+use page_code::Implicit;
+use pg_text::Text;
+use pg_value::{Attrs, Value};
+use run_values::{
+    all_values, cookie_records, fault_record, first_values, headers, put, record, request_record,
+    session_value,
+};
+use run_world::{Raise, Served};
+use std::alloc::{AllocError, Global};
+
+// The fault that an error page sees, as a record.
+fn exception_value(alloc: Global, exception: Option<&Raise>) -> Result<Value, AllocError>
+    ensures { IfOk result (λ made. datum_of made ≡ exception_datum (option_map (λ raise. raise_of raise.now) exception.entry)) }
+{
+    match exception {
+        Some(raise) => fault_record(alloc, raise.fault, &raise.place),
+        None => Ok(Value::Null),
+    }
+}
+
+// The record that `pageContext` is.
+fn page_context(alloc: Global, served: &Served, id: Option<&Text>) -> Result<Value, AllocError>
+    ensures { IfOk result (λ made. datum_of made ≡ page_context_of served.now.request.now (option_map (λ raise. raise_of raise.now) served.now.exception) (option_map (λ id. id.now) id.entry)) }
+{
+    let mut entries = Attrs::empty(alloc);
+    let exception = exception_value(alloc, served.exception)?;
+    put(alloc, &mut entries, "exception", exception)?;
+    put(
+        alloc,
+        &mut entries,
+        "request",
+        request_record(alloc, served.request)?,
+    )?;
+    put(alloc, &mut entries, "session", session_value(alloc, id)?)?;
+    record(entries)
+}
+
+// The value of an implicit object that no scope is.
+pub(crate) fn request_value(
+    alloc: Global,
+    served: &Served,
+    params: &[Param],
+    id: Option<&Text>,
+    object: Implicit,
+) -> Result<Value, AllocError>
+    ensures { IfOk result (λ made. datum_of made ≡ request_value served.now.request.now (option_map (λ raise. raise_of raise.now) served.now.exception) (option_map (λ id. id.now) id.entry) params.now object) }
+{
+    match object {
+        Implicit::PageContext => page_context(alloc, served, id),
+        Implicit::Param => record(first_values(alloc, params)?),
+        Implicit::ParamValues => record(all_values(alloc, params)?),
+        Implicit::Header(object) => record(headers(alloc, served.request, object)?),
+        Implicit::Cookie => record(cookie_records(alloc, served.request)?),
+        Implicit::InitParam => record(Attrs::empty(alloc)),
+        Implicit::Scope(_) => Ok(Value::Null),
+    }
+}

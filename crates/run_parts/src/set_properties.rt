@@ -1,0 +1,176 @@
+// Properties of variables' records.
+ghost use Rattle.std.specs.Prelude.{◌≡◌, [], ◌∷◌, length, map};
+ghost use Rattle.page_code.specs.Ops.{mode_takes};
+ghost use Rattle.page_code.specs.declared.operands.PropertyMode.TheVariants as mode;
+ghost use Rattle.page_meaning.specs.Beans.{property_of};
+ghost use Rattle.page_meaning.specs.Variables.{look_up};
+ghost use Rattle.page_meaning.specs.Went.{then_do, result_of};
+ghost use Rattle.page_table.specs.Operations.{property_set};
+ghost use Rattle.page_table.specs.Seat.{page_run_of};
+ghost use Rattle.pg_value.specs.Value.{datum_of};
+ghost use Rattle.run_parts.specs.Operations.{ModeHasOnePlace};
+ghost use Rattle.run_parts.specs.Properties.{found_property, put_back, written};
+ghost use Rattle.run_values.specs.Properties.{found_of};
+ghost use Rattle.run_world.specs.Part.{Doing};
+ghost use Rattle.run_world.specs.Seats.{seat_of};
+
+use crate::variables::{assign, look_up};
+use http_in::Param;
+use page_code::{Name, PropertyMode};
+use pg_text::{Failure, Text};
+use pg_value::{Attrs, RunFault, Scope, Value};
+use run_values::{
+    FoundProperty, changed_all, changed_one, first_values, measured_record, property_found,
+    property_of, property_replaced, text_of,
+};
+use run_world::{Seat, World};
+use std::alloc::Global;
+
+/// The property of a variable: X14, X5.
+pub fn find_property<W: World>(
+    name: &Name,
+    property: &Text,
+    world: &mut W,
+) -> Result<FoundProperty, Failure<RunFault>>
+    requires covered { W.covered world.old }
+    ensures covered { W.covered world.new }
+    ensures does { Doing W.reached W.replies found_of (λ place. found_property place name.now property.now) world.old world.new result }
+{
+    let found = look_up(name, world)?;
+    property_found(found.0, &found.1, property)
+}
+
+// A changed record is measured and written back to its scope: X20, X13, X21, X22.
+fn write_record<W: World>(
+    scope: Scope,
+    name: &Name,
+    entries: Attrs,
+    world: &mut W,
+) -> Result<(), Failure<RunFault>>
+    requires covered { W.covered world.old }
+    ensures covered { W.covered world.new }
+    ensures does { Doing W.reached W.replies (λ u. u) (λ place. written place scope entries name.now) world.old world.new result }
+{
+    let record = measured_record(entries)?;
+    assign(scope, name, record, world)
+}
+
+/// The property set to a new value, in its scope: X20, X13, X21, X22.
+pub fn write_back<W: World>(
+    found: FoundProperty,
+    property: &Text,
+    new: Value,
+    name: &Name,
+    world: &mut W,
+) -> Result<(), Failure<RunFault>>
+    requires covered { W.covered world.old }
+    ensures covered { W.covered world.new }
+    ensures does { Doing W.reached W.replies (λ u. u) (λ place. put_back place (found_of found) property.now (datum_of new) name.now) world.old world.new result }
+{
+    let FoundProperty {
+        scope,
+        mut entries,
+        ..
+    } = found;
+    entries.insert(property.copy()?, new)?;
+    write_record(scope, name, entries, world)
+}
+
+// The property of the variable of a name.
+pub(crate) fn get_property<W: World>(
+    name: &Name,
+    property: &str,
+    world: &mut W,
+) -> Result<Value, Failure<RunFault>>
+    requires covered { W.covered world.old }
+    ensures covered { W.covered world.new }
+    ensures does { Doing W.reached W.replies datum_of (λ place s. then_do (look_up place name.now s) (λ p s1. result_of place (property_of property.now p.1) s1)) world.old world.new result }
+{
+    let found = look_up(name, world)?;
+    property_of(property, &found.1)
+}
+
+// Sets an entry of the record of a variable, or removes it by null.
+fn set_entry<W: World>(
+    alloc: Global,
+    name: &Name,
+    key: &Value,
+    new: &Value,
+    world: &mut W,
+) -> Result<(), Failure<RunFault>>
+    requires covered { W.covered world.old }
+    ensures covered { W.covered world.new }
+    ensures does { Doing W.reached W.replies (λ u. u) (λ place. property_set place name.now mode.Entry [] (datum_of key.now ∷ datum_of new.now ∷ [])) world.old world.new result }
+{
+    let property = Text::copy_of(alloc, text_of(key))?;
+    let found = look_up(name, world)?;
+    let made = property_replaced(&property, new, &found.1)?;
+    assign(found.0, name, made, world)
+}
+
+// Sets all properties by the parameters of their names.
+fn set_all<W: World>(
+    alloc: Global,
+    name: &Name,
+    params: &[Param],
+    world: &mut W,
+) -> Result<(), Failure<RunFault>>
+    requires covered { W.covered world.old }
+    ensures covered { W.covered world.new }
+    ensures does { Doing W.reached W.replies (λ u. u) (λ place. property_set place name.now mode.Parameters params.now []) world.old world.new result }
+{
+    let params = first_values(alloc, params)?;
+    let found = look_up(name, world)?;
+    let changed = changed_all(alloc, &params, &found.1)?;
+    write_record(found.0, name, changed, world)
+}
+
+// Sets a property by a parameter; one that is empty or absent changes nothing.
+fn set_one<W: World>(
+    alloc: Global,
+    name: &Name,
+    property: &Text,
+    parameter: &Text,
+    params: &[Param],
+    world: &mut W,
+) -> Result<(), Failure<RunFault>>
+    requires covered { W.covered world.old }
+    ensures covered { W.covered world.new }
+    ensures does { Doing W.reached W.replies (λ u. u) (λ place. property_set place name.now (mode.Parameter property.now parameter.now) params.now []) world.old world.new result }
+{
+    let params = first_values(alloc, params)?;
+    let found = look_up(name, world)?;
+    match changed_one(alloc, &params, property, parameter, &found.1)? {
+        Some(changed) => write_record(found.0, name, changed, world),
+        None => Ok(()),
+    }
+}
+
+// Sets properties of the variable of a name, but for one whose value has a place of its own.
+pub(crate) fn set_property<W: World>(
+    alloc: Global,
+    seat: &Seat,
+    name: &Name,
+    mode: &PropertyMode,
+    args: &[Value],
+    world: &mut W,
+) -> Result<(), Failure<RunFault>>
+    requires covered { W.covered world.old }
+    requires args { length args.now ≡ mode_takes mode.now }
+    requires placed { ModeHasOnePlace mode.now }
+    ensures covered { W.covered world.new }
+    ensures does { Doing W.reached W.replies (λ u. u) (λ place. property_set place name.now mode.now (page_run_of (seat_of seat.now)).params (map datum_of args.now)) world.old world.new result }
+{
+    match (mode, args) {
+        (PropertyMode::Entry, [key, new]) => set_entry(alloc, name, key, new, world),
+        (PropertyMode::Parameters, _) => set_all(alloc, name, seat.params(), world),
+        (
+            PropertyMode::Parameter {
+                property,
+                parameter,
+            },
+            _,
+        ) => set_one(alloc, name, property, parameter, seat.params(), world),
+        _ => unreachable!(),
+    }
+}
