@@ -1,0 +1,16 @@
+pub mod Acts
+pub mod Advancing
+pub mod ArmExits
+pub mod AskLemmas
+pub mod Behind
+pub mod Forwards
+pub mod Landings
+pub mod LeaveExits
+pub mod Leavings
+pub mod RoundArms
+pub mod OpExits
+pub mod Openings
+pub mod SetValue
+pub mod Stacks
+pub mod Throwing
+pub mod Unwinding

@@ -1,0 +1,55 @@
+-- The exit of an operation: what it took is gone, and what it made lands on the stack.
+use Rattle.std.proofs.Common.{◌≡◌, ◌≤◌, ◌+◌, ℕ, List, [], ◌∷◌, ◌++◌, length, Result, Ok, Err, refl, sym, ap, ◌∙◌}
+use Rattle.std.specs.Prelude.{Option, take, drop, reverse}
+use Rattle.page_code.specs.Ops.{takes}
+use Rattle.page_code.specs.declared.instr.Instr.TheVariants as instr
+use Rattle.page_code.specs.declared.op.Op.{Op}
+use Rattle.page_meaning.specs.State.{State}
+use Rattle.page_meaning.specs.Went.{Went}
+use Rattle.page_table.specs.Act.{act, with_stack}
+use Rattle.page_table.specs.Landing.{land}
+use Rattle.page_table.specs.Move.{Move, On}
+use Rattle.page_table.specs.Open.{Open}
+use Rattle.page_table.specs.Operations.{operation}
+use Rattle.page_table.specs.Program.{Serving}
+use Rattle.page_table.specs.Seat.{Seat}
+use Rattle.pg_text.specs.declared.failure.Failure.{Failure}
+use Rattle.pg_text.specs.declared.failure.Failure.TheVariants as failure
+use Rattle.pg_text.specs.declared.place.Place.{Place}
+use Rattle.pg_value.specs.Datum.{Datum}
+use Rattle.pg_value.specs.declared.fault.RunFault.{RunFault}
+use Rattle.pg_value.specs.declared.value.Value.{Value}
+use Rattle.run_moves.proofs.Acts.{acted_as}
+use Rattle.run_moves.proofs.Landings.{Lands, landed, popped_all_is}
+use Rattle.run_moves.specs.Acted.{Acted}
+use Rattle.run_moves.specs.Landing.{landing}
+use Rattle.run_moves.specs.declared.flow.End.TheVariants as ends
+use Rattle.run_moves.specs.declared.flow.Flow.{Flow}
+use Rattle.run_moves.specs.declared.flow.Flow.TheVariants as flows
+use Rattle.run_parts.specs.Answers.{left_by}
+use Rattle.run_world.specs.Origin.{Origin}
+use Rattle.run_world.specs.Part.{Doing}
+use Rattle.site_words.specs.Law.{Answer}
+
+module _ (serving : Serving) (seat : Seat) (place : Place) (pc : ℕ) (o : Open) (op : Op) (count : ℕ) (ds stack : List Datum) (enough : takes op ≤ length o.stack) (all : count ≡ takes op)
+    (taken : ds ≡ reverse (take count o.stack)) (rest : stack ≡ drop count o.stack) where
+  abbrev part : Place → State → Went (List Datum)
+  part place s = operation serving seat place op ds s
+
+  abbrev lands_at : State → List Datum → List Datum → Move
+  lands_at s xs below = On (land (pc + 1) (λ made. made ++ below) (with_stack below o) (operation serving seat place op xs s))
+
+  op_is : (s : State) → act serving seat place pc s o (instr.Op op) ≡ Lands pc place (with_stack stack o) part s
+  op_is s =
+      popped_all_is (takes op) o (λ xs p. On (land (pc + 1) (λ made. made ++ p.stack) p (operation serving seat place op xs s))) enough
+      ∙ ap (λ n. lands_at s (reverse (take n o.stack)) (drop n o.stack)) (sym all)
+      ∙ ap (λ xs. lands_at s xs (drop count o.stack)) (sym taken)
+      ∙ ap (lands_at s ds) (sym rest)
+
+  module _ {W : Type 0} {reached : W → Origin → W → State → Type 0} {replies : W → List Answer} where
+    pub op_landed : (old mid new : W) (made : Result (Option Value) (Failure RunFault)) (o2 : Open) (flow : Flow) → Doing reached replies left_by part old mid made
+        → Acted reached replies (landing pc place (with_stack stack o) made) mid new o2 flow → (made ≡ Err failure.NoMemory → (flow ≡ flows.Over ends.NoMemory) × (new ≡ mid))
+        → Acted reached replies (λ s. act serving seat place pc s o (instr.Op op)) old new o2 flow
+    op_landed old mid new made o2 flow does acted short =
+        acted_as (λ s. act serving seat place pc s o (instr.Op op)) (Lands pc place (with_stack stack o) part) old new o2 flow op_is
+        (landed pc place (with_stack stack o) old mid new made o2 flow does acted short)

@@ -1,0 +1,14 @@
+use Rattle.std.proofs.Common.{◌≡◌, ◌∙◌, ap}
+use Rattle.page_code.specs.declared.instr.Instr.TheVariants as instr
+use Rattle.page_code.specs.declared.op.Op.TheVariants as op
+use Rattle.page_code.specs.declared.operands.PropertyMode.TheVariants as mode
+use Rattle.run_moves.specs.Opened.{open_of}
+use Rattle.run_world.specs.Seats.{seat_of}
+use Rattle.run_moves.proofs.Behind.{act_plain}
+use Rattle.run_moves.proofs.operation.operation.Goals as goal
+
+pub returns-in-Value-clause-acted : goal.returns-in-Value-clause-acted
+returns-in-Value-clause-acted g c =
+    act_plain (seat_of c.args.seat.now) c.args.place.now c.args.pc (open_of c.args.open.now) (instr.Op c.args.op.now) (instr.Op (op.SetProperty c.in-SetProperty.name (mode.Value c.in-Value.property c.in-Value.value_place)))
+    c.args.world.now c.set_value.new.world (open_of c.set_value.new.open) c.set_value.result (ap instr.Op (c.in-SetProperty.is ∙ ap (op.SetProperty c.in-SetProperty.name) c.in-Value.is))
+    (λ serving. c.set_value.ensures.acted serving (seat_of c.args.seat.now))

@@ -1,0 +1,240 @@
+// What single instructions do.
+ghost use Rattle.std.specs.Prelude.{◌≡◌, ◌+◌, ◌<◌, ◌^◌, ◌∷◌, List, length, slice_get};
+ghost use Rattle.out_buffer.specs.Writer.{with_body};
+ghost use Rattle.page_meaning.specs.Bodies.{taken};
+ghost use Rattle.page_meaning.specs.State.{in_writer};
+ghost use Rattle.page_table.specs.Act.{bean_made, brought_up, catch_closed, is_same_truth, is_true, jump_null, with_catch};
+ghost use Rattle.page_table.specs.Landing.{Running, land, one_of, then_at};
+ghost use Rattle.page_table.specs.Move.{On, popped};
+ghost use Rattle.pg_value.specs.Datum.{Datum, text};
+ghost use Rattle.pg_value.specs.Value.{datum_of};
+ghost use Rattle.run_moves.specs.Acted.{Acted};
+ghost use Rattle.run_moves.specs.Opened.{open_of};
+ghost use Rattle.run_parts.specs.Answers.{is_null};
+ghost use Rattle.run_world.specs.Part.{Doing};
+ghost use Rattle.scopes.specs.HeldScope.{held_scope};
+ghost use Rattle.site_words.specs.Law.{told};
+ghost use Rattle.site_words.specs.PageSteps.{tells_created};
+
+use crate::flow::{End, Flow};
+use crate::landing::fail;
+use crate::open::{Open, OpenCatch, Stack};
+use page_code::{Bean, ScopedName};
+use pg_text::{Failure, Place};
+use pg_value::{RunFault, Value};
+use run_world::World;
+use scopes::HeldScope;
+use site_words::{AppReply, AppStep};
+use std::alloc::Global;
+
+// Brings the value that has so many above it to the top.
+pub(crate) fn take<W: World>(pc: usize, above: usize, open: &mut Open, world: &mut W) -> Flow
+    requires covered { W.covered world.old }
+    requires within { pc + 1 < 2 ^ 64 }
+    requires there { above < length open.old.stack }
+    ensures covered { W.covered world.new }
+    ensures acted { Acted W.reached W.replies (λ s. brought_up (slice_get (open_of open.old).stack above) above (pc + 1) s (open_of open.old)) world.old world.new (open_of open.new) result }
+    ensures left { open.new.left ≡ open.old.left }
+{
+    open.stack.bring_up(above);
+    Flow::Go(pc + 1)
+}
+
+// Keeps what is written from here on.
+pub(crate) fn start_body<W: World>(pc: usize, open: &mut Open, world: &mut W) -> Flow
+    requires covered { W.covered world.old }
+    requires within { pc + 1 < 2 ^ 64 }
+    ensures covered { W.covered world.new }
+    ensures acted { Acted W.reached W.replies (λ s. On (Running (pc + 1) (in_writer (with_body s.writer) s) (open_of open.old))) world.old world.new (open_of open.new) result }
+    ensures left { open.new.left ≡ open.old.left }
+{
+    match world.start_body() {
+        Ok(()) => Flow::Go(pc + 1),
+        Err(_) => Flow::Over(End::NoMemory),
+    }
+}
+
+// Pushes the innermost kept body as a text.
+pub(crate) fn take_body<W: World>(
+    alloc: Global,
+    pc: usize,
+    place: &Place,
+    open: &mut Open,
+    world: &mut W,
+) -> Flow
+    requires covered { W.covered world.old }
+    requires within { pc + 1 < 2 ^ 64 }
+    requires some { 0 < W.kept world.old }
+    ensures covered { W.covered world.new }
+    ensures acted { Acted W.reached W.replies (λ s. On (land (pc + 1) (λ t. text t ∷ (open_of open.old).stack) (open_of open.old) (taken place.now s))) world.old world.new (open_of open.new) result }
+    ensures left { open.new.left ≡ open.old.left }
+{
+    match world.take_body() {
+        Ok(text) => match open.stack.push(Value::Text(text)) {
+            Ok(()) => Flow::Go(pc + 1),
+            Err(_) => Flow::Over(End::NoMemory),
+        },
+        Err(failed) => fail(alloc, failed, place, open, world),
+    }
+}
+
+// Takes a truth value, and passes over so many cells where it is this one.
+pub(crate) fn jump_if<W: World>(
+    pc: usize,
+    holds: bool,
+    size: usize,
+    open: &mut Open,
+    world: &mut W,
+) -> Flow
+    requires covered { W.covered world.old }
+    requires within { pc + 1 + size < 2 ^ 64 }
+    requires filled { 0 < length open.old.stack }
+    ensures covered { W.covered world.new }
+    ensures acted { Acted W.reached W.replies (λ s. popped (open_of open.old) (open_of open.old).stack (λ d p. On (one_of (is_same_truth holds (is_true d)) (Running (pc + 1 + size) s p) (Running (pc + 1) s p)))) world.old world.new (open_of open.new) result }
+    ensures left { open.new.left ≡ open.old.left }
+{
+    let Some(value) = open.stack.pop() else {
+        unreachable!()
+    };
+    if is_same(holds, &value) {
+        Flow::Go(pc + 1 + size)
+    } else {
+        Flow::Go(pc + 1)
+    }
+}
+
+// Whether a value is the truth value `true`.
+fn is_true(value: &Value) -> bool
+    ensures { result ≡ is_true (datum_of value.now) }
+{
+    match value {
+        Value::Bool(truth) => *truth,
+        _ => false,
+    }
+}
+
+// The same, or that it isn't.
+fn is_same(holds: bool, value: &Value) -> bool
+    ensures { result ≡ is_same_truth holds (is_true (datum_of value.now)) }
+{
+    if holds {
+        is_true(value)
+    } else {
+        !is_true(value)
+    }
+}
+
+// Whether null is on top.
+fn has_null(stack: &Stack) -> bool
+    requires filled { 0 < length stack.now }
+    ensures { (d : Datum) (rest : List Datum) → stack.now ≡ d ∷ rest → result ≡ is_null d }
+{
+    matches!(stack.topmost(), Some(Value::Null))
+}
+
+// Takes null from the top and passes over so many cells, where it is there.
+pub(crate) fn jump_null<W: World>(pc: usize, size: usize, open: &mut Open, world: &mut W) -> Flow
+    requires covered { W.covered world.old }
+    requires within { pc + 1 + size < 2 ^ 64 }
+    requires filled { 0 < length open.old.stack }
+    ensures covered { W.covered world.new }
+    ensures acted { Acted W.reached W.replies (λ s. popped (open_of open.old) (open_of open.old).stack (λ d p. On (jump_null d (pc + 1 + size) (pc + 1) s (open_of open.old) p))) world.old world.new (open_of open.new) result }
+    ensures left { open.new.left ≡ open.old.left }
+{
+    if has_null(&open.stack) {
+        open.stack.drop_top(1);
+        Flow::Go(pc + 1 + size)
+    } else {
+        Flow::Go(pc + 1)
+    }
+}
+
+// A catch opens, whose faults go on behind so many cells.
+pub(crate) fn catch_start<W: World>(pc: usize, size: usize, open: &mut Open, world: &mut W) -> Flow
+    requires covered { W.covered world.old }
+    requires within { pc + 1 + size < 2 ^ 64 }
+    ensures covered { W.covered world.new }
+    ensures acted { Acted W.reached W.replies (λ s. On (Running (pc + 1) s (with_catch (pc + 1 + size) s (open_of open.old)))) world.old world.new (open_of open.new) result }
+    ensures left { open.new.left ≡ open.old.left }
+{
+    let opened = OpenCatch {
+        to: pc + 1 + size,
+        values: open.stack.len(),
+        bodies: world.bodies(),
+        loops: open.loops.len(),
+    };
+    match open.catches.push(opened) {
+        Ok(()) => Flow::Go(pc + 1),
+        Err(_) => Flow::Over(End::NoMemory),
+    }
+}
+
+// The innermost catch closes.
+pub(crate) fn catch_end<W: World>(pc: usize, open: &mut Open, world: &mut W) -> Flow
+    requires covered { W.covered world.old }
+    requires within { pc + 1 < 2 ^ 64 }
+    requires opened { 0 < length open.old.catches }
+    ensures covered { W.covered world.new }
+    ensures acted { Acted W.reached W.replies (λ s. catch_closed (open_of open.old).catches (pc + 1) s (open_of open.old)) world.old world.new (open_of open.new) result }
+    ensures left { open.new.left ≡ open.old.left }
+{
+    let Some(_) = open.catches.pop() else {
+        unreachable!()
+    };
+    Flow::Go(pc + 1)
+}
+
+fn is_created(reply: &AppReply) -> bool
+    ensures { result ≡ tells_created (told reply.now) }
+{
+    match reply {
+        AppReply::Created => true,
+        _ => false,
+    }
+}
+
+// Whether a bean was set where its variable was absent.
+fn make_bean<W: World>(
+    variable: &ScopedName,
+    bean: &Bean,
+    world: &mut W,
+) -> Result<bool, Failure<RunFault>>
+    requires covered { W.covered world.old }
+    ensures covered { W.covered world.new }
+    ensures does { Doing W.reached W.replies (λ b. b) (λ place. bean_made place (held_scope variable.now.scope) variable.now.name (datum_of bean.now)) world.old world.new result }
+{
+    let name = variable.name.as_text();
+    let Some(held) = HeldScope::of(variable.scope) else {
+        let reply = world.ask(AppStep::Ensure(name.copy()?, bean.value().copy()?))?;
+        return Ok(is_created(&reply));
+    };
+    if world.scopes().find_in(held, name.as_str()).is_some() {
+        return Ok(false);
+    }
+    world.set(held, name, bean.value().copy()?)?;
+    Ok(true)
+}
+
+// A bean is set where its variable is absent; else so many cells are passed over.
+pub(crate) fn ensure<W: World>(
+    alloc: Global,
+    pc: usize,
+    place: &Place,
+    variable: &ScopedName,
+    bean: &Bean,
+    size: usize,
+    open: &mut Open,
+    world: &mut W,
+) -> Flow
+    requires covered { W.covered world.old }
+    requires within { pc + 1 + size < 2 ^ 64 }
+    ensures covered { W.covered world.new }
+    ensures acted { Acted W.reached W.replies (λ s. On (then_at (open_of open.old) (bean_made place.now (held_scope variable.now.scope) variable.now.name (datum_of bean.now) s) (λ made s1. one_of made (Running (pc + 1) s1 (open_of open.old)) (Running (pc + 1 + size) s1 (open_of open.old))))) world.old world.new (open_of open.new) result }
+    ensures left { open.new.left ≡ open.old.left }
+{
+    match make_bean(variable, bean, world) {
+        Ok(true) => Flow::Go(pc + 1),
+        Ok(false) => Flow::Go(pc + 1 + size),
+        Err(failed) => fail(alloc, failed, place, open, world),
+    }
+}

@@ -1,0 +1,22 @@
+//! The moves of a run: each instruction that calls nothing, and what a fault does.
+//!
+//! Each call makes one move of the instruction table, over any world.
+#![tactic(auto)]
+
+mod arms;
+mod flow;
+mod landing;
+mod leave;
+mod loops;
+mod open;
+mod operation;
+mod raising;
+mod rounds_arm;
+mod simple;
+
+pub use flow::{End, Flow};
+pub use landing::fail;
+pub use leave::named_path;
+pub use open::Open;
+pub use raising::throw;
+pub use simple::step;

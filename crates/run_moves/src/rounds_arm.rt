@@ -1,0 +1,192 @@
+// The beginning of a loop, and its rounds.
+ghost use Rattle.std.specs.Prelude.{◌≡◌, ◌+◌, ◌-◌, ◌<◌, ◌≤◌, ◌^◌, ◌∷◌, length, map, reverse, take, List, IfOk};
+ghost use Rattle.page_meaning.specs.Attributes.{table_of};
+ghost use Rattle.page_meaning.specs.Loops.{round_begun, set_status, with_named};
+ghost use Rattle.page_meaning.specs.Rounds.{Round, status_record};
+ghost use Rattle.page_meaning.specs.Went.{Well};
+ghost use Rattle.page_meaning.specs.Work.{visit};
+ghost use Rattle.page_table.specs.LoopMoves.{loop_next, loop_opened};
+ghost use Rattle.page_table.specs.Move.{On, popped_all};
+ghost use Rattle.pg_text.specs.Failure.{AnswersAs};
+ghost use Rattle.pg_value.specs.Value.{datum_of, entry_of};
+ghost use Rattle.run_moves.specs.Acted.{Acted};
+ghost use Rattle.run_moves.specs.Loops.{loop_of};
+ghost use Rattle.run_moves.specs.Opened.{open_of};
+ghost use Rattle.run_moves.specs.Rounds.{loop_answer};
+ghost use Rattle.run_values.specs.Rounds.{round_at};
+ghost use Rattle.run_world.specs.Part.{Doing};
+
+use crate::flow::{End, Flow};
+use crate::landing::fail;
+use crate::loops::Loop;
+use crate::open::Open;
+use crate::raising::remove_named;
+use page_code::{LoopKind, Name};
+use pg_text::{Failure, Place, Text};
+use pg_value::{RunFault, Value};
+use run_values::{Mark, measured, rounds_of, status_record, table_of};
+use run_world::World;
+use scopes::HeldScope;
+use std::alloc::{AllocError, Global};
+
+// A loop begins with the values that it takes: X7, X8.
+pub(crate) fn loop_start<W: World>(
+    alloc: Global,
+    pc: usize,
+    place: &Place,
+    kind: &LoopKind,
+    open: &mut Open,
+    world: &mut W,
+) -> Flow
+    requires covered { W.covered world.old }
+    requires within { pc + 1 < 2 ^ 64 }
+    requires filled { length kind.now.names ≤ length open.old.stack }
+    ensures covered { W.covered world.new }
+    ensures acted { Acted W.reached W.replies (λ s. popped_all (length kind.now.names) (open_of open.old) (λ ds p. On (loop_opened place.now kind.now (table_of kind.now.names ds) (pc + 1) s p))) world.old world.new (open_of open.new) result }
+    ensures left { open.new.left ≡ open.old.left }
+{
+    let count = kind.names.len();
+    let made = opened(alloc, kind, open);
+    open.stack.drop_top(count);
+    let looping = match made {
+        Ok(looping) => looping,
+        Err(failed) => return fail(alloc, failed, place, open, world),
+    };
+    match open.loops.push(looping) {
+        Ok(()) => Flow::Go(pc + 1),
+        Err(_) => Flow::Over(End::NoMemory),
+    }
+}
+
+// The loop that the values on top open.
+fn opened(alloc: Global, kind: &LoopKind, open: &Open) -> Result<Loop, Failure<RunFault>>
+    requires { length kind.now.names ≤ length open.now.stack }
+    ensures { AnswersAs loop_of (loop_answer kind.now (table_of kind.now.names (reverse (take (length kind.now.names) (open_of open.now).stack)))) result }
+{
+    let values = table_of(
+        alloc,
+        kind.names.as_slice(),
+        open.stack.top(kind.names.len()),
+    )?;
+    let rounds = rounds_of(alloc, kind.over, &values)?;
+    Ok(Loop {
+        variable: copied(&kind.variable)?,
+        status: copied(&kind.status)?,
+        values,
+        rounds,
+    })
+}
+
+fn copied(name: &Option<Name>) -> Result<Option<Name>, AllocError>
+    ensures { IfOk result (λ copy. copy ≡ name.now) }
+{
+    match name {
+        Some(name) => Ok(Some(name.copy()?)),
+        None => Ok(None),
+    }
+}
+
+// The next round of the innermost loop, so many cells back; behind the last one the loop ends.
+pub(crate) fn loop_next<W: World>(
+    alloc: Global,
+    pc: usize,
+    place: &Place,
+    size: usize,
+    open: &mut Open,
+    world: &mut W,
+) -> Flow
+    requires covered { W.covered world.old }
+    requires within { pc + 1 < 2 ^ 64 }
+    requires back { size ≤ pc }
+    requires opened { 1 ≤ length open.old.loops }
+    ensures covered { W.covered world.new }
+    ensures acted { Acted W.reached W.replies (λ s. loop_next place.now (open_of open.old).loops (pc - size) (pc + 1) s (open_of open.old)) world.old world.new (open_of open.new) result }
+    ensures left { open.new.left ≡ open.old.left }
+{
+    let Some(innermost) = open.loops.innermost() else {
+        unreachable!()
+    };
+    let Some(mark) = innermost.rounds.next() else {
+        let Some(ended) = open.loops.pop() else {
+            unreachable!()
+        };
+        remove_named(&ended.variable, world);
+        remove_named(&ended.status, world);
+        return Flow::Go(pc + 1);
+    };
+    match begin_round(alloc, innermost, &mark, world) {
+        Ok(()) => {
+            open.loops.advance();
+            Flow::Go(pc - size)
+        }
+        Err(failed) => fail(alloc, failed, place, open, world),
+    }
+}
+
+// A round begins: its visit is counted, and both variables are set: X18, X20.
+fn begin_round<W: World>(
+    alloc: Global,
+    looping: &Loop,
+    mark: &Mark,
+    world: &mut W,
+) -> Result<(), Failure<RunFault>>
+    requires covered { W.covered world.old }
+    ensures covered { W.covered world.new }
+    ensures does { (r : Round) (rest : List Round) → looping.now.rounds ≡ r ∷ rest → r.index ≡ mark.now.index → r.count ≡ mark.now.count → r.is_last ≡ mark.now.is_last
+        → Doing W.reached W.replies (λ u. u) (λ place. round_begun place looping.now.variable looping.now.status (map entry_of looping.now.values.items) r) world.old world.new result }
+{
+    count_visit(world)?;
+    let item = looping.rounds.item(alloc)?;
+    set_named(&looping.variable, &item, world)?;
+    set_status(alloc, &looping.status, &looping.values, mark, &item, world)
+}
+
+// Counts a visit: X18.
+fn count_visit<W: World>(world: &mut W) -> Result<(), Failure<RunFault>>
+    requires covered { W.covered world.old }
+    ensures covered { W.covered world.new }
+    ensures does { Doing W.reached W.replies (λ u. u) (λ place. visit place) world.old world.new result }
+{
+    if world.visit() {
+        Ok(())
+    } else {
+        Err(Failure::Fault(RunFault::TooMuchWork))
+    }
+}
+
+// Sets a variable of the current frame, where it has a name.
+fn set_named<W: World>(
+    name: &Option<Name>,
+    value: &Value,
+    world: &mut W,
+) -> Result<(), Failure<RunFault>>
+    requires covered { W.covered world.old }
+    ensures covered { W.covered world.new }
+    ensures does { Doing W.reached W.replies (λ u. u) (λ place s. Well tt (with_named name.now (datum_of value.now) s)) world.old world.new result }
+{
+    match name {
+        Some(name) => world.set(HeldScope::Page, name.as_text(), value.copy()?),
+        None => Ok(()),
+    }
+}
+
+// Sets the status of a round, where it has a name: X20.
+fn set_status<W: World>(
+    alloc: Global,
+    name: &Option<Name>,
+    values: &[(Text, Value)],
+    mark: &Mark,
+    item: &Value,
+    world: &mut W,
+) -> Result<(), Failure<RunFault>>
+    requires covered { W.covered world.old }
+    ensures covered { W.covered world.new }
+    ensures does { Doing W.reached W.replies (λ u. u) (λ place. set_status place name.now (status_record (map entry_of values.now) (round_at mark.now) (datum_of item.now))) world.old world.new result }
+{
+    let Some(name) = name else {
+        return Ok(());
+    };
+    let status = status_record(alloc, values, mark, item)?;
+    let status = measured(status)?;
+    world.set(HeldScope::Page, name.as_text(), status)
+}
