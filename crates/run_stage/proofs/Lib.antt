@@ -1,0 +1,5 @@
+pub mod AskMoves
+pub mod Covering
+pub mod LookMoves
+pub mod ScopeMoves
+pub mod StageMoves

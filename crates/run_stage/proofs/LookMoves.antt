@@ -1,0 +1,201 @@
+-- What a look at a path does of the state for which a stage stands.
+use Rattle.std.proofs.Common.{◌≡◌, ◌⊎◌, inl, ◌≤◌, ◌+◌, ◌*◌, ℕ, Bool, true, false, List, [], ◌∷◌, ◌++◌, length, Option, Some, None, Ok, Err, refl, sym, ap, ◌∙◌, subst, append-nil, arith}
+use Rattle.std.specs.Prelude.{◌&&◌, if◌then◌else◌, nat_le}
+use Rattle.page_meaning.specs.Growth.{state_of, Grows}
+use Rattle.page_meaning.specs.Includes.{ask_page, fetched_or_fault}
+use Rattle.page_meaning.specs.State.{State}
+use Rattle.page_meaning.specs.Went.{Well, Raised, either}
+use Rattle.page_meaning.specs.Work.{charge_limit, fetched}
+use Rattle.page_table.specs.Program.{Serving, Stored, absent, plain, bad, good, paged_of, served_of}
+use Rattle.pg_text.specs.declared.failure.Failure.TheVariants as failure
+use Rattle.pg_text.specs.declared.place.PageFault.{PageFault}
+use Rattle.pg_text.specs.declared.place.Place.{Place}
+use Rattle.pg_value.specs.declared.fault.RunFault.TheVariants as fault
+use Rattle.run_stage.proofs.AskMoves.{asked_stage, stage_asked}
+use Rattle.run_stage.specs.Stage.{IsPageStored, Reached, StoresSo}
+use Rattle.run_stage.specs.declared.stage.Stage.{Stage}
+use Rattle.run_world.proofs.Adds.{quiet}
+use Rattle.run_world.specs.Part.{Doing, given}
+use Rattle.run_world.specs.Programs.{stored_of}
+use Rattle.run_world.specs.declared.program.Program.{Program}
+use Rattle.site_words.specs.PageSteps.{Step, fetch, page_charge}
+use Rattle.site_words.specs.Running.{Asking, HasLooked, IsPaged, IsPageFile, IsPlain, is_page, look_claim, look_steps, page_claim}
+use Rattle.site_words.specs.declared.app_port.Paged.{Paged}
+use Rattle.site_words.specs.declared.app_port.Paged.TheVariants as found
+use Rattle.source_tree.specs.Edits.{file_at}
+use Rattle.source_tree.specs.declared.file.File.{File}
+
+-- what a look takes of the promise and what it asks, by what stands at the path
+
+claim_at : (b : Bool) (n : ℕ) → b ≡ true → (if b then n else 0) ≡ n
+claim_at true n e = refl
+claim_at false n e = absurd (cc)
+
+no_claim_at : (b : Bool) (n : ℕ) → b ≡ false → (if b then n else 0) ≡ 0
+no_claim_at true n e = absurd (cc)
+no_claim_at false n e = refl
+
+-- a page is charged its Fetch and its Offer
+pub page_claimed : (path : List ℕ) → is_page path ≡ true → page_claim path ≡ page_charge path
+page_claimed path e = let c = claim_at (is_page path) (160 + 2 * length path) e in omega (arith, c)
+
+pub plain_claimed : (path : List ℕ) → is_page path ≡ false → page_claim path ≡ 0
+plain_claimed path e = no_claim_at (is_page path) (160 + 2 * length path) e
+
+pub look_claimed : (path : List ℕ) (file : Option File) → look_claim path file ≤ page_claim path
+look_claimed path None = omega arith
+look_claimed path (Some file) = omega arith
+
+steps_at : (b : Bool) (steps : List Step) → b ≡ true → (if b then steps else []) ≡ steps
+steps_at true steps e = refl
+steps_at false steps e = absurd (cc)
+
+no_steps_at : (b : Bool) (steps : List Step) → b ≡ false → (if b then steps else []) ≡ []
+no_steps_at true steps e = absurd (cc)
+no_steps_at false steps e = refl
+
+-- a page's file was fetched
+pub page_steps : (path : List ℕ) (file : Option File) → IsPageFile path file → (is_page path ≡ true) × (look_steps path file ≡ fetch path ∷ [])
+page_steps path None is = absurd is
+page_steps path (Some file) is = (is, steps_at (is_page path) (fetch path ∷ []) is)
+
+-- nothing was fetched for another file
+pub plain_steps : (path : List ℕ) (file : Option File) (text : List ℕ) → IsPlain path file text → (is_page path ≡ false) × (look_steps path file ≡ [])
+plain_steps path None text is = absurd is
+plain_steps path (Some file) text is = (is.0, no_steps_at (is_page path) (fetch path ∷ []) is.0)
+
+-- how a look goes that isn't refused
+look_goes : (serving : Serving) (place : Place) (path : List ℕ) (s : State) (n : ℕ) (st : Stored) → (is_page path && nat_le charge_limit n) ≡ false → s.charge ≡ n → serving.stored path ≡ st
+    → ask_page (served_of serving) place path s ≡ fetched_or_fault place path (paged_of st) s
+look_goes serving place path s n st allowed charge e =
+    ap (λ b. either b (Raised fault.AppTooMuch place) (fetched_or_fault place path (paged_of (serving.stored path))) s) (ap (λ c. is_page path && nat_le charge_limit c) charge ∙ allowed)
+    ∙ ap (λ x. fetched_or_fault place path (paged_of x) s) e
+
+-- what a look adds where its answer isn't known: no more than the fetch of a page
+unfetched_grows : (st : Stored) (place : Place) (path : List ℕ) (after t : State) → t.asked ≡ after.asked → t.writer.pieces ≡ after.writer.pieces → Grows after (state_of (fetched_or_fault place path (paged_of st) t))
+unfetched_grows absent place path after t e f = quiet after t e f
+unfetched_grows (plain content) place path after t e f = quiet after t e f
+unfetched_grows (bad reason) place path after t e f = record { asked = (fetch path ∷ [], ap (λ a. a ++ fetch path ∷ []) e); pieces = ([], f ∙ sym (append-nil after.writer.pieces)) }
+unfetched_grows (good program) place path after t e f = record { asked = (fetch path ∷ [], ap (λ a. a ++ fetch path ∷ []) e); pieces = ([], f ∙ sym (append-nil after.writer.pieces)) }
+
+fetched_grows : (st : Stored) (place : Place) (path : List ℕ) (after t : State) → IsPageStored st → after.asked ≡ t.asked ++ fetch path ∷ [] → t.writer.pieces ≡ after.writer.pieces
+    → Grows after (state_of (fetched_or_fault place path (paged_of st) t))
+fetched_grows absent place path after t is e f = absurd is
+fetched_grows (plain content) place path after t is e f = absurd is
+fetched_grows (bad reason) place path after t is e f = quiet after (fetched path t) (sym e) f
+fetched_grows (good program) place path after t is e f = quiet after (fetched path t) (sym e) f
+
+file_grows : (b : Bool) (st : Stored) (place : Place) (path : List ℕ) (s after t : State) → (b ≡ true → IsPageStored st) → t.asked ≡ s.asked → after.asked ≡ s.asked ++ (if b then fetch path ∷ [] else []) → t.writer.pieces ≡ after.writer.pieces
+    → Grows after (state_of (fetched_or_fault place path (paged_of st) t))
+file_grows true st place path s after t is same e f = fetched_grows st place path after t (is refl) (e ∙ ap (λ a. a ++ fetch path ∷ []) (sym same)) f
+file_grows false st place path s after t is same e f = unfetched_grows st place path after t (same ∙ sym (append-nil s.asked) ∙ sym e) f
+
+look_grows : (file : Option File) (st : Stored) (place : Place) (path : List ℕ) (s after t : State) → (IsPageFile path file → IsPageStored st) → t.asked ≡ s.asked → after.asked ≡ s.asked ++ look_steps path file → t.writer.pieces ≡ after.writer.pieces
+    → Grows after (state_of (fetched_or_fault place path (paged_of st) t))
+look_grows None st place path s after t is same e f = unfetched_grows st place path after t (same ∙ sym (append-nil s.asked) ∙ sym e) f
+look_grows (Some file) st place path s after t is same e f = file_grows (is_page path) st place path s after t is same e f
+
+module _ {P K : Type 0} {taken : K → Option (List ℕ)} {faults : K → ℕ} {leads : P → P → Type 0} {asking : P → Asking} {tree : P → List File} where
+  -- a page that is asked for under a charge that is spent
+  pub refused_doing : (w : Stage P K) (serving : Serving) (path : List ℕ) → (is_page path && nat_le charge_limit w.around.now.charge) ≡ true
+      → Doing (Reached taken faults leads asking tree) (λ w. (asking w.port.now).answers) (λ (p : Paged Program). paged_of (stored_of p)) (λ place. ask_page (served_of serving) place path) w w (Err (failure.Fault fault.AppTooMuch))
+  refused_doing w serving path refused = record {
+    by = λ first origin s r. record {
+      got = [];
+      replies = sym (append-nil (asking w.port.now).answers);
+      after = s;
+      stood = r;
+      went = λ place future.
+          ap (λ b. either b (Raised fault.AppTooMuch place) (fetched_or_fault place path (paged_of (serving.stored path))) (given future s)) (ap (λ c. is_page path && nat_le charge_limit c) r.charge ∙ refused);
+    };
+  }
+
+  module _ (made : Program → List File → List ℕ → Type 0) (faulty : PageFault → List File → List ℕ → Type 0) (leads_on : (first second third : P) → leads first second → leads second third → leads first third)
+      (w : Stage P K) (port : P) (serving : Serving) (path : List ℕ) (allowed : (is_page path && nat_le charge_limit w.around.now.charge) ≡ false) (stores : StoresSo made faulty (tree w.port.now) serving.stored)
+      (on : leads w.port.now port) (same : tree port ≡ tree w.port.now) (looked : HasLooked (asking w.port.now) (asking port) path (file_at path (tree w.port.now))) where
+    -- no file stands there
+    pub absent_doing : (n : ℕ) → n ≡ w.around.now.charge → IsPaged made faulty (tree w.port.now) path found.Absent
+        → Doing (Reached taken faults leads asking tree) (λ w. (asking w.port.now).answers) (λ (p : Paged Program). paged_of (stored_of p)) (λ place. ask_page (served_of serving) place path) w (asked_stage w port n) (Err (failure.Fault fault.NoSuchPage))
+    absent_doing n is paged = record {
+      by = λ first origin s r.
+          let steps : look_steps path (file_at path (tree w.port.now)) ≡ [] = ap (look_steps path) paged in
+          let claim : look_claim path (file_at path (tree w.port.now)) ≡ 0 = ap (look_claim path) paged in
+          record {
+            got = [];
+            replies = looked.answers ∙ sym (append-nil (asking w.port.now).answers);
+            after = record s { asked = s.asked; charge = s.charge };
+            stood = stage_asked leads_on first w origin s port n s.charge [] s.asked r on same (looked.asked ∙ ap (λ a. (asking w.port.now).asked ++ a) steps) (sym (append-nil s.asked)) (inl is)
+                (omega (arith, looked.left, claim)) (r.charge ∙ sym is);
+            went = λ place future. look_goes serving place path (given future s) w.around.now.charge absent allowed r.charge (stores.told path found.Absent paged);
+          };
+    }
+
+    -- another file stands there
+    pub plain_doing : (n : ℕ) (text : List ℕ) → n ≡ w.around.now.charge → IsPaged made faulty (tree w.port.now) path (found.Plain text)
+        → Doing (Reached taken faults leads asking tree) (λ w. (asking w.port.now).answers) (λ (p : Paged Program). paged_of (stored_of p)) (λ place. ask_page (served_of serving) place path) w (asked_stage w port n) (Ok (found.Plain text))
+    plain_doing n text is paged = record {
+      by = λ first origin s r.
+          let steps = plain_steps path (file_at path (tree w.port.now)) text paged in
+          record {
+            got = [];
+            replies = looked.answers ∙ sym (append-nil (asking w.port.now).answers);
+            after = record s { asked = s.asked; charge = s.charge };
+            stood = stage_asked leads_on first w origin s port n s.charge [] s.asked r on same (looked.asked ∙ ap (λ a. (asking w.port.now).asked ++ a) steps.1) (sym (append-nil s.asked)) (inl is)
+                (omega (arith, looked.left, look_claimed path (file_at path (tree w.port.now)), plain_claimed path steps.0)) (r.charge ∙ sym is);
+            went = λ place future. look_goes serving place path (given future s) w.around.now.charge (plain text) allowed r.charge (stores.told path (found.Plain text) paged);
+          };
+    }
+
+    module _ (n : ℕ) (is : n ≡ w.around.now.charge + page_claim path) (rise : (n ≡ w.around.now.charge) ⊎ (n ≤ 4197000)) where
+      -- a page with a fault stands there
+      pub bad_doing : (reason : PageFault) → IsPaged made faulty (tree w.port.now) path (found.Bad reason)
+          → Doing (Reached taken faults leads asking tree) (λ w. (asking w.port.now).answers) (λ (p : Paged Program). paged_of (stored_of p)) (λ place. ask_page (served_of serving) place path) w (asked_stage w port n) (Err (failure.Fault fault.BadPage))
+      bad_doing reason paged = record {
+        by = λ first origin s r.
+            let steps = page_steps path (file_at path (tree w.port.now)) paged.0 in
+            record {
+              got = [];
+              replies = looked.answers ∙ sym (append-nil (asking w.port.now).answers);
+              after = fetched path s;
+              stood = stage_asked leads_on first w origin s port n (s.charge + page_charge path) (fetch path ∷ []) (s.asked ++ fetch path ∷ []) r on same
+                  (looked.asked ∙ ap (λ a. (asking w.port.now).asked ++ a) steps.1) refl rise
+                  (omega (arith, looked.left, is, look_claimed path (file_at path (tree w.port.now)))) (omega (arith, is, r.charge, page_claimed path steps.0));
+              went = λ place future. look_goes serving place path (given future s) w.around.now.charge (bad reason) allowed r.charge (stores.told path (found.Bad reason) paged);
+            };
+      }
+
+      -- a page stands there
+      pub page_doing : (page : Paged Program) (program : Rattle.page_table.specs.Program.Program) → stored_of page ≡ good program → IsPageFile path (file_at path (tree w.port.now)) → serving.stored path ≡ stored_of page
+          → Doing (Reached taken faults leads asking tree) (λ w. (asking w.port.now).answers) (λ (p : Paged Program). paged_of (stored_of p)) (λ place. ask_page (served_of serving) place path) w (asked_stage w port n) (Ok page)
+      page_doing page program e file stored = record {
+        by = λ first origin s r.
+            let steps = page_steps path (file_at path (tree w.port.now)) file in
+            record {
+              got = [];
+              replies = looked.answers ∙ sym (append-nil (asking w.port.now).answers);
+              after = fetched path s;
+              stood = stage_asked leads_on first w origin s port n (s.charge + page_charge path) (fetch path ∷ []) (s.asked ++ fetch path ∷ []) r on same
+                  (looked.asked ∙ ap (λ a. (asking w.port.now).asked ++ a) steps.1) refl rise
+                  (omega (arith, looked.left, is, look_claimed path (file_at path (tree w.port.now)))) (omega (arith, is, r.charge, page_claimed path steps.0));
+              went = λ place future. look_goes serving place path (given future s) w.around.now.charge (good program) allowed r.charge (stored ∙ e) ∙ ap (λ st. Well (paged_of st) (fetched path (given future s))) (sym e);
+            };
+      }
+
+      -- memory was wanting to tell what stands there
+      pub untold_doing : Doing (Reached taken faults leads asking tree) (λ w. (asking w.port.now).answers) (λ (p : Paged Program). paged_of (stored_of p)) (λ place. ask_page (served_of serving) place path) w (asked_stage w port n)
+          (Err failure.NoMemory)
+      untold_doing = record {
+        by = λ first origin s r.
+            let file = file_at path (tree w.port.now) in
+            let after : State = record s { asked = s.asked ++ look_steps path file; charge = n } in
+            record {
+              got = [];
+              replies = looked.answers ∙ sym (append-nil (asking w.port.now).answers);
+              after = after;
+              stood = stage_asked leads_on first w origin s port n n (look_steps path file) (s.asked ++ look_steps path file) r on same looked.asked refl rise
+                  (omega (arith, looked.left, is, look_claimed path file)) refl;
+              went = λ place future.
+                  subst (λ x. Grows after (state_of x)) (sym (look_goes serving place path (given future s) w.around.now.charge (serving.stored path) allowed r.charge refl))
+                  (look_grows file (serving.stored path) place path s after (given future s) (stores.pages path) refl refl refl);
+            };
+      }
