@@ -1,0 +1,842 @@
+use Rattle.page_code.specs.Calls.{body_size, call_size, fragments_size}
+use Rattle.page_code.specs.Fits.{FragmentsBegin}
+use Rattle.page_code.specs.Ops.{address_with}
+use Rattle.page_code.specs.declared.call.CallOut.TheVariants as call
+use Rattle.page_code.specs.declared.instr.Instr.TheVariants as instr
+use Rattle.page_machine.proofs.+machine.Goals as goal
+use Rattle.page_machine.proofs.CallExits.{acted_stepped, normal_is, raised_is, stepped_as}
+use Rattle.page_machine.proofs.Entering.{entered_failed, entered_known, entered_more, entered_on, entered_over, entered_room, entered_thrown}
+use Rattle.page_machine.proofs.GivenCalls.{begins_given, code_deep, copy_failed, given_none, given_page}
+use Rattle.page_machine.proofs.GivenRuns.{given_known, given_on, given_over, given_room, given_thrown}
+use Rattle.page_machine.proofs.IncludedRuns.{included_known, included_left, included_on, included_over, included_redirected, included_room, included_thrown}
+use Rattle.page_machine.proofs.Looping.{begins_at, call_as, cell_at, finds_at, holds_more, loop_holds, loop_known, loop_nearer, loop_standing, move_is, simple_of, so_far_start, standing_start}
+use Rattle.page_machine.proofs.PageCalls.{import_stepped, include_failed_is, include_stepped, include_unflushed, included_run_grows, page_failed, path_failed, path_on, path_page, ran_page}
+use Rattle.page_machine.proofs.TagCalls.{call_with, deeper_none, entered_grows, entered_move, tag_code_fits, tag_deep, tag_failed, tag_gone, tag_made, tag_short}
+use Rattle.page_machine.proofs.Turning.{so_far_on, so_far_over}
+use Rattle.page_machine.specs.Pages.{include_found, included_run}
+use Rattle.page_machine.specs.Turn.{SeatHolds}
+use Rattle.page_meaning.specs.Attributes.{table_of}
+use Rattle.page_meaning.specs.Exports.{exports_of}
+use Rattle.page_meaning.specs.Meaning.{flush_if}
+use Rattle.page_meaning.specs.Tags.{first_frame}
+use Rattle.page_meaning.specs.Variables.{entries_of_frame}
+use Rattle.page_meaning.specs.Went.{Raised, Well}
+use Rattle.page_table.specs.Act.{act, called_out, move_of, with_stack}
+use Rattle.page_table.specs.Calls.{given_called}
+use Rattle.page_table.specs.Checked.{SeatFits, TagsFit}
+use Rattle.page_table.specs.Finds.{Finds}
+use Rattle.page_table.specs.Landing.{thrown}
+use Rattle.page_table.specs.Move.{On}
+use Rattle.page_table.specs.Pages.{include_path, included}
+use Rattle.page_table.specs.Program.{absent, bad, good, plain, tag_at}
+use Rattle.page_table.specs.Seat.{code_of, in_tag}
+use Rattle.pg_text.specs.Failure.{Answers}
+use Rattle.pg_text.specs.declared.place.Place.{Place}
+use Rattle.pg_value.specs.Value.{datum_of}
+use Rattle.pg_value.specs.declared.fault.RunFault.TheVariants as fault
+use Rattle.run_moves.proofs.Acts.{acted_as, acted_on, acted_short}
+use Rattle.run_moves.proofs.Behind.{acted_spent}
+use Rattle.run_moves.specs.Landing.{failing}
+use Rattle.run_moves.specs.Opened.{open_of}
+use Rattle.run_moves.specs.declared.flow.End.TheVariants as ends
+use Rattle.run_moves.specs.declared.flow.Flow.TheVariants as flows
+use Rattle.run_parts.specs.Exports.{change_of, nested_changes}
+use Rattle.run_parts.specs.Given.{given_by}
+use Rattle.run_world.proofs.Knowing.{known_changed, known_done, serves_changed, serves_done, serves_on}
+use Rattle.run_world.specs.Programs.{program_of, stored_of}
+use Rattle.run_world.specs.Seats.{call_of, export_of, seat_of}
+use Rattle.run_world.specs.Tags.{tag_of}
+use Rattle.std.proofs.Common.{Err, None, Ok, Some, [], ap, arith, length, refl, rules, subst, suc, sym, ◌+◌, ◌<◌, ◌^◌, ◌∙◌, ◌≡◌, ◌≤◌}
+use Rattle.std.specs.Prelude.{drop, map, option_map, reverse, take}
+
+-- some place: the beginning of a page's run stands at none
+no_place : Place
+no_place = record { file = []; byte = 0; line = 0; column = 0 }
+
+-- the run of a code
+
+pub turn::run_code-loop-to-init : goal.turn::run_code-loop-to-init
+turn::run_code-loop-to-init g t c = record {
+  left = ap (λ o. o.left) c.fresh-open.ensures;
+  covered = c.requires.covered;
+  known = c.requires.known;
+  holds = c.requires.holds;
+  standing = standing_start (seat_of c.args.seat.now) c.args.at c.args.left (g.W.World.kept c.args.world.now) (open_of c.fresh-open.result) c.requires.at c.fresh-open.ensures;
+  so_far = λ serving serves first origin s stands.
+      so_far_start serving (seat_of c.args.seat.now) c.args.at c.args.left s (g.W.World.reached first origin c.args.world.now) (g.W.World.replies c.args.world.now) (open_of c.fresh-open.result) c.fresh-open.ensures stands;
+}
+
+pub turn::run_code-loop-to-preserved : goal.turn::run_code-loop-to-preserved
+turn::run_code-loop-to-preserved g t c =
+    let seat = seat_of c.args.seat.now in
+    let o = open_of c.loop-to.open in
+    let o2 = open_of c.turn.new.open in
+    let inv = c.loop-to.invariant in
+    let laws = g.met.W.World in
+    record {
+      left = c.turn.ensures.left ∙ inv.left;
+      covered = c.turn.ensures.covered;
+      known = loop_known laws.stores_on laws.again laws.tells c.args.served.now seat c.requires.seat c.loop-to.pc c.in-Go.to o o2 c.loop-to.world c.turn.new.world inv.known c.in-Go.ensures.stepped;
+      holds = loop_holds laws.stores_on laws.again laws.tells c.args.served.now seat c.requires.seat c.loop-to.pc c.in-Go.to o o2 c.loop-to.world c.turn.new.world inv.known c.in-Go.ensures.stepped inv.holds;
+      standing = loop_standing laws.stores_on laws.again laws.tells c.args.served.now seat c.requires.seat c.loop-to.pc c.in-Go.to o o2 c.loop-to.world c.turn.new.world inv.known c.in-Go.ensures.stepped inv.standing;
+      so_far = λ serving serves first origin s stands.
+          let f = inv.so_far serving serves first origin s stands in
+          let k = c.requires.known in
+          let here = inv.so_far k.serving k.serves c.args.world.now k.origin k.state k.stands in
+          let agrees = serves_on laws.stores_on laws.again c.args.served.now c.args.world.now c.loop-to.world k.origin here.state serving here.stood serves in
+          so_far_on serving seat c.args.at c.args.left s (g.W.World.reached first origin c.loop-to.world) (g.W.World.reached first origin c.turn.new.world) (g.W.World.replies c.args.world.now)
+          (g.W.World.replies c.loop-to.world) (g.W.World.replies c.turn.new.world) c.loop-to.pc c.in-Go.to o o2 f (c.in-Go.ensures.stepped.by serving agrees first origin f.state f.stood);
+    }
+
+pub turn::run_code-loop-to-smaller : goal.turn::run_code-loop-to-smaller
+turn::run_code-loop-to-smaller g t c =
+    let laws = g.met.W.World in
+    loop_nearer laws.stores_on laws.again laws.tells c.args.served.now (seat_of c.args.seat.now) c.requires.seat c.loop-to.pc c.in-Go.to (open_of c.loop-to.open) (open_of c.turn.new.open) c.loop-to.world
+    c.turn.new.world c.loop-to.invariant.known c.in-Go.ensures.stepped c.loop-to.invariant.standing
+
+pub turn::run_code-returns-in-Over-clause-ran : goal.turn::run_code-returns-in-Over-clause-ran
+turn::run_code-returns-in-Over-clause-ran g t c =
+    let seat = seat_of c.args.seat.now in
+    let laws = g.met.W.World in
+    record {
+      by = λ serving serves first origin s stands.
+          let f = c.loop-to.invariant.so_far serving serves first origin s stands in
+          let k = c.requires.known in
+          let here = c.loop-to.invariant.so_far k.serving k.serves c.args.world.now k.origin k.state k.stands in
+          let agrees = serves_on laws.stores_on laws.again c.args.served.now c.args.world.now c.loop-to.world k.origin here.state serving here.stood serves in
+          so_far_over serving seat c.args.at c.args.left s (g.W.World.reached first origin c.loop-to.world) (g.W.World.reached first origin c.turn.new.world) (g.W.World.replies c.args.world.now)
+          (g.W.World.replies c.loop-to.world) (g.W.World.replies c.turn.new.world) c.loop-to.pc (open_of c.loop-to.open) (open_of c.turn.new.open) c.in-Over.end f
+          (c.in-Over.ensures.stepped.by serving agrees first origin f.state f.stood);
+    }
+
+-- a turn
+
+pub turn::turn-call_out-requires : goal.turn::turn-call_out-requires
+turn::turn-call_out-requires g t c κs within =
+    let seat = seat_of c.args.seat.now in
+    let o = open_of c.args.open.now in
+    let cell = c.in-Some.cell.now in
+    let e = cell_at (code_of seat) c.code-code.result.now c.args.pc (option_map (λ x. x.now) c.get.result) cell c.code-code.ensures c.get.ensures (ap (option_map (λ x. x.now)) c.in-Some.is) in
+    let counted = c.len.ensures ∙ ap length c.code-code.ensures in
+    let begins = begins_at seat c.requires.seat c.args.pc cell c.in-CallOut.what e c.in-CallOut.is in
+    let finds = subst (Finds (length (code_of seat)) c.args.pc (g.W.World.kept c.args.world.now) o) c.in-CallOut.is
+    (finds_at g.met.W.World.tells c.args.served.now seat c.requires.seat c.args.pc o c.args.world.now c.requires.known c.requires.standing cell e) in
+    search rules
+
+pub turn::turn-returns-in-CallOut-clause-stepped : goal.turn::turn-returns-in-CallOut-clause-stepped
+turn::turn-returns-in-CallOut-clause-stepped g t c =
+    let seat = seat_of c.args.seat.now in
+    let o = open_of c.args.open.now in
+    let cell = c.in-Some.cell.now in
+    let e = cell_at (code_of seat) c.code-code.result.now c.args.pc (option_map (λ x. x.now) c.get.result) cell c.code-code.ensures c.get.ensures (ap (option_map (λ x. x.now)) c.in-Some.is) in
+    stepped_as seat (λ serving s. move_of serving seat c.args.pc s o) (λ serving s. called_out serving seat cell.place (c.args.pc + 1) c.in-CallOut.what s o) c.args.world.now c.call_out.new.world
+    (open_of c.call_out.new.open) c.call_out.result (λ serving h s. move_is serving seat c.args.pc s o cell (instr.CallOut c.in-CallOut.what) e c.in-CallOut.is) c.call_out.ensures.stepped
+
+pub turn::turn-step-requires : goal.turn::turn-step-requires
+turn::turn-step-requires g t c =
+    let seat = seat_of c.args.seat.now in
+    let o = open_of c.args.open.now in
+    let cell = c.in-Some.cell.now in
+    let e = cell_at (code_of seat) c.code-code.result.now c.args.pc (option_map (λ x. x.now) c.get.result) cell c.code-code.ensures c.get.ensures (ap (option_map (λ x. x.now)) c.in-Some.is) in
+    let counted = c.len.ensures ∙ ap length c.code-code.ensures in
+    let finds = finds_at g.met.W.World.tells c.args.served.now seat c.requires.seat c.args.pc o c.args.world.now c.requires.known c.requires.standing cell e in
+    let simple = simple_of cell.instr c.in_default-instr.not-CallOut in
+    search rules
+
+pub turn::turn-returns-in_default-instr-clause-stepped : goal.turn::turn-returns-in_default-instr-clause-stepped
+turn::turn-returns-in_default-instr-clause-stepped g t c =
+    let seat = seat_of c.args.seat.now in
+    let o = open_of c.args.open.now in
+    let cell = c.in-Some.cell.now in
+    let e = cell_at (code_of seat) c.code-code.result.now c.args.pc (option_map (λ x. x.now) c.get.result) cell c.code-code.ensures c.get.ensures (ap (option_map (λ x. x.now)) c.in-Some.is) in
+    acted_stepped seat (λ serving s. move_of serving seat c.args.pc s o) c.args.world.now c.step.new.world (open_of c.step.new.open) c.step.result
+    (λ serving h.
+    acted_as (λ s. move_of serving seat c.args.pc s o) (λ s. act serving seat cell.place c.args.pc s o cell.instr) c.args.world.now c.step.new.world (open_of c.step.new.open) c.step.result
+    (λ s. move_is serving seat c.args.pc s o cell cell.instr e refl) (c.step.ensures.acted.for serving h))
+
+-- a call
+
+pub turn::call_out-returns-in-Tag-clause-stepped : goal.turn::call_out-returns-in-Tag-clause-stepped
+turn::call_out-returns-in-Tag-clause-stepped g t c =
+    call_as (seat_of c.args.seat.now) c.args.place.now (c.args.pc + 1) (open_of c.args.open.now) c.args.what.now (call.Tag c.in-Tag.call) c.args.world.now c.tag_call.new.world (open_of c.tag_call.new.open) c.tag_call.result
+    c.in-Tag.is c.tag_call.ensures.stepped
+
+pub turn::call_out-returns-in-Body-clause-stepped : goal.turn::call_out-returns-in-Body-clause-stepped
+turn::call_out-returns-in-Body-clause-stepped g t c =
+    call_as (seat_of c.args.seat.now) c.args.place.now (c.args.pc + 1) (open_of c.args.open.now) c.args.what.now call.Body c.args.world.now c.given_call.new.world (open_of c.given_call.new.open) c.given_call.result c.in-Body.is
+    c.given_call.ensures.stepped
+
+pub turn::call_out-returns-in-Fragment-clause-stepped : goal.turn::call_out-returns-in-Fragment-clause-stepped
+turn::call_out-returns-in-Fragment-clause-stepped g t c =
+    call_as (seat_of c.args.seat.now) c.args.place.now (c.args.pc + 1) (open_of c.args.open.now) c.args.what.now (call.Fragment c.in-Fragment.name) c.args.world.now c.given_call-in-Fragment.new.world
+    (open_of c.given_call-in-Fragment.new.open) c.given_call-in-Fragment.result c.in-Fragment.is c.given_call-in-Fragment.ensures.stepped
+
+pub turn::call_out-returns-in-Include-clause-stepped : goal.turn::call_out-returns-in-Include-clause-stepped
+turn::call_out-returns-in-Include-clause-stepped g t c =
+    call_as (seat_of c.args.seat.now) c.args.place.now (c.args.pc + 1) (open_of c.args.open.now) c.args.what.now (call.Include c.in-Include.flush c.in-Include.params) c.args.world.now c.include_call.new.world
+    (open_of c.include_call.new.open) c.include_call.result c.in-Include.is c.include_call.ensures.stepped
+
+pub turn::call_out-returns-in-Import-clause-stepped : goal.turn::call_out-returns-in-Import-clause-stepped
+turn::call_out-returns-in-Import-clause-stepped g t c =
+    call_as (seat_of c.args.seat.now) c.args.place.now (c.args.pc + 1) (open_of c.args.open.now) c.args.what.now call.Import c.args.world.now c.import_call.new.world (open_of c.import_call.new.open) c.import_call.result
+    c.in-Import.is c.import_call.ensures.stepped
+
+-- the run of a page
+
+pub pages::page_run-returns-in_default-clause-ran : goal.pages::page_run-returns-in_default-clause-ran
+pages::page_run-returns-in_default-clause-ran g t c =
+    page_failed no_place (program_of c.args.program.now) c.args.params.now c.args.left c.args.world.now c.begin_page.new.world c.in_default.field-0 c.in_default.ensures.does
+
+pub pages::page_run-run_code-requires : goal.pages::page_run-run_code-requires
+pages::page_run-run_code-requires g t c κs within =
+    let known = known_done g.met.W.World.stores_on g.met.W.World.again c.args.served.now c.args.world.now c.begin_page.new.world (Ok tt) c.requires.known c.in-Ok.ensures.does in
+    let tags = subst (λ xs. TagsFit (map tag_of xs)) c.as_slice.ensures c.know_tags.ensures in
+    let fits = c.code.ensures.fits in
+    let first = fits.0 in
+    search rules
+
+pub pages::page_run-returns-clause-ran : goal.pages::page_run-returns-clause-ran
+pages::page_run-returns-clause-ran g t c =
+    ran_page no_place (program_of c.args.program.now) c.args.params.now c.args.left c.args.world.now c.begin_page.new.world c.run_code.new.world c.run_code.result c.in-Ok.ensures.does
+    (λ serving h. serves_done g.met.W.World.stores_on g.met.W.World.again c.args.served.now c.args.world.now c.begin_page.new.world (Ok tt) serving c.requires.known c.in-Ok.ensures.does h) c.run_code.ensures.ran
+
+-- an included page
+
+pub pages::included_page-returns-in_default-clause-stepped : goal.pages::included_page-returns-in_default-clause-stepped
+pages::included_page-returns-in_default-clause-stepped g t c =
+    λ seat.
+    let o = open_of c.args.open.now in
+    let program = program_of c.args.program.now in
+    acted_stepped seat (λ serving s. included_run c.args.place.now program c.args.params.now c.args.left (c.args.pc + 1) s o) c.args.world.now c.push_frame.new.self o (flows.Over ends.NoMemory)
+    (λ serving h.
+    acted_spent (λ s. included_run c.args.place.now program c.args.params.now c.args.left (c.args.pc + 1) s o) c.args.world.now c.push_frame.new.self o
+    (λ s. included_run_grows c.args.place.now program c.args.params.now c.args.left (c.args.pc + 1) s o) c.in_default.ensures.err c.push_frame.ensures.replies)
+
+pub pages::included_page-page_run-requires : goal.pages::included_page-page_run-requires
+pages::included_page-page_run-requires g t c κs within =
+    let laws = g.met.W.World in
+    let counted = c.frames-frames.ensures ∙ ap (λ v. length v.frames) c.scopes.ensures in
+    let known = included_known g.W.World.replies laws.stores_on laws.again laws.tells c.args.served.now (program_of c.args.program.now) c.args.params.now c.args.left c.frame-frame.result c.frames-frames.result c.args.world.now c.push_frame.new.self c.args.world.now
+    c.requires.known c.in-Ok.ensures.ok c.push_frame.ensures.replies c.frame-frame.ensures.current counted in
+    search rules
+
+pub pages::included_page-go_back-requires : goal.pages::included_page-go_back-requires
+pages::included_page-go_back-requires g t c =
+    let laws = g.met.W.World in
+    let counted = c.frames-frames.ensures ∙ ap (λ v. length v.frames) c.scopes.ensures in
+    let room = included_room g.W.World.replies laws.stores_on laws.again laws.tells c.args.served.now (program_of c.args.program.now) c.args.params.now c.args.left c.frame-frame.result c.frames-frames.result c.args.world.now c.push_frame.new.self c.page_run.new.world
+    c.requires.known c.in-Ok.ensures.ok c.push_frame.ensures.replies c.frame-frame.ensures.current counted ends.Normal (λ x. Well tt x) normal_is (λ n t h. h) c.in-Normal.ensures.ran in
+    let there : c.frame-frame.result < c.frames-frames.result = omega (arith, c.frame-frame.ensures.there, counted) in
+    search rules
+
+pub pages::included_page-go_back-requires-in-Raised : goal.pages::included_page-go_back-requires-in-Raised
+pages::included_page-go_back-requires-in-Raised g t c =
+    let laws = g.met.W.World in
+    let counted = c.frames-frames.ensures ∙ ap (λ v. length v.frames) c.scopes.ensures in
+    let room = included_room g.W.World.replies laws.stores_on laws.again laws.tells c.args.served.now (program_of c.args.program.now) c.args.params.now c.args.left c.frame-frame.result c.frames-frames.result c.args.world.now c.push_frame.new.self c.page_run.new.world
+    c.requires.known c.in-Ok.ensures.ok c.push_frame.ensures.replies c.frame-frame.ensures.current counted (ends.Raised c.in-Raised.fault c.in-Raised.place) (λ x. Raised c.in-Raised.fault c.in-Raised.place x) (raised_is c.in-Raised.fault c.in-Raised.place) (λ n t h. h) c.in-Raised.ensures.ran in
+    let there : c.frame-frame.result < c.frames-frames.result = omega (arith, c.frame-frame.ensures.there, counted) in
+    search rules
+
+pub pages::included_page-go_back-requires-in-Redirect : goal.pages::included_page-go_back-requires-in-Redirect
+pages::included_page-go_back-requires-in-Redirect g t c =
+    let laws = g.met.W.World in
+    let counted = c.frames-frames.ensures ∙ ap (λ v. length v.frames) c.scopes.ensures in
+    let room = included_left g.W.World.replies laws.stores_on laws.again laws.tells c.args.served.now (program_of c.args.program.now) c.args.params.now c.args.left c.frame-frame.result c.frames-frames.result c.args.world.now c.push_frame.new.self c.page_run.new.world
+    c.requires.known c.in-Ok.ensures.ok c.push_frame.ensures.replies c.frame-frame.ensures.current counted c.in-Redirect.field-0 c.bodies-bodies.result c.drop_bodies.new.self c.in-Redirect.ensures.ran c.drop_bodies.ensures.left in
+    let there : c.frame-frame.result < c.frames-frames.result = omega (arith, c.frame-frame.ensures.there, counted) in
+    search rules
+
+pub pages::included_page-returns-in-Normal-clause-stepped : goal.pages::included_page-returns-in-Normal-clause-stepped
+pages::included_page-returns-in-Normal-clause-stepped g t c =
+    let laws = g.met.W.World in
+    let counted = c.frames-frames.ensures ∙ ap (λ v. length v.frames) c.scopes.ensures in
+    λ seat. included_on g.W.World.replies laws.stores_on laws.again laws.tells c.args.served.now (program_of c.args.program.now) c.args.params.now c.args.left c.frame-frame.result c.frames-frames.result c.args.world.now c.push_frame.new.self c.page_run.new.world
+    c.requires.known c.in-Ok.ensures.ok c.push_frame.ensures.replies c.frame-frame.ensures.current counted c.args.place.now (c.args.pc + 1) (open_of c.args.open.now) seat
+    c.go_back.new.self c.in-Normal.ensures.ran c.go_back.ensures.back c.go_back.ensures.replies
+
+pub pages::included_page-returns-in-Raised-clause-stepped : goal.pages::included_page-returns-in-Raised-clause-stepped
+pages::included_page-returns-in-Raised-clause-stepped g t c =
+    let laws = g.met.W.World in
+    let counted = c.frames-frames.ensures ∙ ap (λ v. length v.frames) c.scopes.ensures in
+    λ seat. included_thrown g.W.World.replies laws.stores_on laws.again laws.tells c.args.served.now (program_of c.args.program.now) c.args.params.now c.args.left c.frame-frame.result c.frames-frames.result c.args.world.now c.push_frame.new.self c.page_run.new.world
+    c.requires.known c.in-Ok.ensures.ok c.push_frame.ensures.replies c.frame-frame.ensures.current counted c.args.place.now (c.args.pc + 1) (open_of c.args.open.now) seat
+    c.in-Raised.fault c.in-Raised.place c.go_back-in-Raised.new.self c.throw.new.world (open_of c.throw.new.open) c.throw.result c.in-Raised.ensures.ran c.go_back-in-Raised.ensures.back c.go_back-in-Raised.ensures.replies
+    c.throw.ensures.acted
+
+pub pages::included_page-returns-in-Redirect-clause-stepped : goal.pages::included_page-returns-in-Redirect-clause-stepped
+pages::included_page-returns-in-Redirect-clause-stepped g t c =
+    let laws = g.met.W.World in
+    let counted = c.frames-frames.ensures ∙ ap (λ v. length v.frames) c.scopes.ensures in
+    λ seat. included_redirected g.W.World.replies laws.stores_on laws.again laws.tells c.args.served.now (program_of c.args.program.now) c.args.params.now c.args.left c.frame-frame.result c.frames-frames.result c.args.world.now c.push_frame.new.self c.page_run.new.world
+    c.requires.known c.in-Ok.ensures.ok c.push_frame.ensures.replies c.frame-frame.ensures.current counted c.args.place.now (c.args.pc + 1) (open_of c.args.open.now) seat
+    c.in-Redirect.field-0 c.bodies-bodies.result c.drop_bodies.new.self c.go_back-in-Redirect.new.self c.bodies-bodies.ensures c.in-Redirect.ensures.ran c.drop_bodies.ensures.left c.drop_bodies.ensures.replies
+    c.go_back-in-Redirect.ensures.back c.go_back-in-Redirect.ensures.replies
+
+pub pages::included_page-returns-in_default-page_run-clause-stepped : goal.pages::included_page-returns-in_default-page_run-clause-stepped
+pages::included_page-returns-in_default-page_run-clause-stepped g t c =
+    let laws = g.met.W.World in
+    let counted = c.frames-frames.ensures ∙ ap (λ v. length v.frames) c.scopes.ensures in
+    λ seat. included_over g.W.World.replies laws.stores_on laws.again laws.tells c.args.served.now (program_of c.args.program.now) c.args.params.now c.args.left c.frame-frame.result c.frames-frames.result c.args.world.now c.push_frame.new.self c.page_run.new.world
+    c.requires.known c.in-Ok.ensures.ok c.push_frame.ensures.replies c.frame-frame.ensures.current counted c.args.place.now (c.args.pc + 1) (open_of c.args.open.now) seat
+    c.page_run.result (λ l e. c.in_default-page_run.not-Redirect l e) (λ e. c.in_default-page_run.not-Normal e) (λ f p e. c.in_default-page_run.not-Raised f p e) c.page_run.ensures.ran
+
+-- an include of a target
+
+pub pages::include-returns-in-Err-clause-stepped : goal.pages::include-returns-in-Err-clause-stepped
+pages::include-returns-in-Err-clause-stepped g t c = λ seat.
+    let o = open_of c.args.open.now in
+    acted_stepped seat (λ serving s. include_found serving c.args.place.now c.args.found (c.args.pc + 1) s o) c.args.world.now c.fail.new.world (open_of c.fail.new.open) c.fail.result
+    (λ serving h.
+    acted_as (λ s. include_found serving c.args.place.now c.args.found (c.args.pc + 1) s o) (failing c.args.place.now o c.in-Err.failed) c.args.world.now c.fail.new.world (open_of c.fail.new.open) c.fail.result
+    (λ s. ap (λ f. include_found serving c.args.place.now f (c.args.pc + 1) s o) c.in-Err.is ∙ include_failed_is serving c.args.place.now c.in-Err.failed (c.args.pc + 1) s o) c.fail.ensures.acted)
+
+pub pages::include-returns-in_default-clause-stepped : goal.pages::include-returns-in_default-clause-stepped
+pages::include-returns-in_default-clause-stepped g t c = λ seat.
+    let o = open_of c.args.open.now in
+    let none : c.args.open.now.left ≡ 0 = omega (arith, c.in_default.ensures) in
+    acted_stepped seat (λ serving s. include_found serving c.args.place.now c.args.found (c.args.pc + 1) s o) c.args.world.now c.throw.new.world (open_of c.throw.new.open) c.throw.result
+    (λ serving h.
+    acted_as (λ s. include_found serving c.args.place.now c.args.found (c.args.pc + 1) s o) (λ s. On (thrown fault.TooDeep c.args.place.now s o)) c.args.world.now c.throw.new.world (open_of c.throw.new.open) c.throw.result
+    (λ s. ap (λ f. include_found serving c.args.place.now f (c.args.pc + 1) s o) c.in-Ok.is ∙ deeper_none c.args.place.now s o c.args.open.now.left _ none) c.throw.ensures.acted)
+
+pub pages::include-returns-in-Err-page-clause-stepped : goal.pages::include-returns-in-Err-page-clause-stepped
+pages::include-returns-in-Err-page-clause-stepped g t c = λ seat.
+    let o = open_of c.args.open.now in
+    let level : c.args.open.now.left ≡ suc c.in-Some.left = omega (arith, c.in-Some.ensures) in
+    stepped_as seat (λ serving s. include_found serving c.args.place.now c.args.found (c.args.pc + 1) s o)
+    (λ serving s. include_path serving c.args.place.now c.in-Ok.target.params c.in-Ok.target.path (c.args.pc + 1) s o) c.args.world.now c.fail-in-Err-page.new.world (open_of c.fail-in-Err-page.new.open)
+    c.fail-in-Err-page.result (λ serving h s. ap (λ f. include_found serving c.args.place.now f (c.args.pc + 1) s o) c.in-Ok.is)
+    (path_failed c.args.place.now (c.args.pc + 1) c.in-Some.left c.in-Ok.target.params c.in-Ok.target.path o level seat c.args.world.now c.page.new.self c.fail-in-Err-page.new.world c.in-Err-page.failed
+    (open_of c.fail-in-Err-page.new.open) c.fail-in-Err-page.result (λ serving h. c.in-Err-page.ensures.does serving h.stored) c.fail-in-Err-page.ensures.acted c.fail-in-Err-page.ensures.short)
+
+pub pages::include-included_page-requires : goal.pages::include-included_page-requires
+pages::include-included_page-requires g t c κs within =
+    let k = c.requires.known in
+    let known = known_done g.met.W.World.stores_on g.met.W.World.again c.args.served.now c.args.world.now c.page.new.self (Ok c.in-Ok-page.paged) k (c.in-Ok-page.ensures.does k.serving k.serves.stored) in
+    let level : c.args.open.now.left ≡ suc c.in-Some.left = omega (arith, c.in-Some.ensures) in
+    search rules
+
+pub pages::include-returns-in-Page-clause-stepped : goal.pages::include-returns-in-Page-clause-stepped
+pages::include-returns-in-Page-clause-stepped g t c = λ seat.
+    let o = open_of c.args.open.now in
+    let k = c.requires.known in
+    let level : c.args.open.now.left ≡ suc c.in-Some.left = omega (arith, c.in-Some.ensures) in
+    stepped_as seat (λ serving s. include_found serving c.args.place.now c.args.found (c.args.pc + 1) s o)
+    (λ serving s. include_path serving c.args.place.now c.in-Ok.target.params c.in-Ok.target.path (c.args.pc + 1) s o) c.args.world.now c.included_page.new.world (open_of c.included_page.new.open) c.included_page.result
+    (λ serving h s. ap (λ f. include_found serving c.args.place.now f (c.args.pc + 1) s o) c.in-Ok.is)
+    (path_page c.args.place.now (c.args.pc + 1) c.in-Some.left c.in-Ok.target.params c.in-Ok.target.path o level seat c.in-Ok-page.paged c.args.world.now c.page.new.self
+    (λ serving h. c.in-Ok-page.ensures.does serving h.stored) (program_of c.deref.result.now) c.included_page.new.world (open_of c.included_page.new.open) c.included_page.result
+    (λ serving h. sym (c.in-Ok-page.ensures.found serving h.stored) ∙ ap stored_of c.in-Page.is ∙ ap (λ p. good (program_of p)) (sym c.deref.ensures))
+    (λ serving h. serves_done g.met.W.World.stores_on g.met.W.World.again c.args.served.now c.args.world.now c.page.new.self (Ok c.in-Ok-page.paged) serving k (c.in-Ok-page.ensures.does k.serving k.serves.stored) h)
+    (stepped_as seat (λ serving s. included_run c.args.place.now (program_of c.deref.result.now) c.in-Ok.target.params c.in-Some.left (c.args.pc + 1) s o)
+    (λ serving s. included_run c.args.place.now (program_of c.deref.result.now) c.as_slice.result.now c.in-Some.left (c.args.pc + 1) s o) c.page.new.self c.included_page.new.world (open_of c.included_page.new.open)
+    c.included_page.result (λ serving h s. ap (λ ps. included_run c.args.place.now (program_of c.deref.result.now) ps c.in-Some.left (c.args.pc + 1) s o) (sym c.as_slice.ensures))
+    (c.included_page.ensures.stepped seat)))
+
+pub pages::include-returns-in-Plain-clause-stepped : goal.pages::include-returns-in-Plain-clause-stepped
+pages::include-returns-in-Plain-clause-stepped g t c = λ seat.
+    let o = open_of c.args.open.now in
+    let level : c.args.open.now.left ≡ suc c.in-Some.left = omega (arith, c.in-Some.ensures) in
+    stepped_as seat (λ serving s. include_found serving c.args.place.now c.args.found (c.args.pc + 1) s o)
+    (λ serving s. include_path serving c.args.place.now c.in-Ok.target.params c.in-Ok.target.path (c.args.pc + 1) s o) c.args.world.now c.include_text.new.world (open_of c.include_text.new.open) c.include_text.result
+    (λ serving h s. ap (λ f. include_found serving c.args.place.now f (c.args.pc + 1) s o) c.in-Ok.is)
+    (path_on c.args.place.now (c.args.pc + 1) c.in-Some.left c.in-Ok.target.params c.in-Ok.target.path o level seat c.in-Ok-page.paged c.args.world.now c.page.new.self
+    (λ serving h. c.in-Ok-page.ensures.does serving h.stored) (plain c.in-Plain.text) c.include_text.new.world (open_of c.include_text.new.open) c.include_text.result
+    (λ serving h. sym (c.in-Ok-page.ensures.found serving h.stored) ∙ ap stored_of c.in-Plain.is) c.include_text.ensures.acted)
+
+pub pages::include-returns-in-Absent-clause-stepped : goal.pages::include-returns-in-Absent-clause-stepped
+pages::include-returns-in-Absent-clause-stepped g t c = λ seat.
+    let o = open_of c.args.open.now in
+    let level : c.args.open.now.left ≡ suc c.in-Some.left = omega (arith, c.in-Some.ensures) in
+    stepped_as seat (λ serving s. include_found serving c.args.place.now c.args.found (c.args.pc + 1) s o)
+    (λ serving s. include_path serving c.args.place.now c.in-Ok.target.params c.in-Ok.target.path (c.args.pc + 1) s o) c.args.world.now c.page.new.self o (flows.Go (c.args.pc + 1))
+    (λ serving h s. ap (λ f. include_found serving c.args.place.now f (c.args.pc + 1) s o) c.in-Ok.is)
+    (path_on c.args.place.now (c.args.pc + 1) c.in-Some.left c.in-Ok.target.params c.in-Ok.target.path o level seat c.in-Ok-page.paged c.args.world.now c.page.new.self
+    (λ serving h. c.in-Ok-page.ensures.does serving h.stored) (absent) c.page.new.self o (flows.Go (c.args.pc + 1))
+    (λ serving h. sym (c.in-Ok-page.ensures.found serving h.stored) ∙ ap stored_of c.in-Absent.is)
+    (acted_on (λ s. included c.args.place.now c.in-Ok.target.params c.in-Some.left (absent) (c.args.pc + 1) s o) c.page.new.self o (c.args.pc + 1) (λ s. refl)))
+
+pub pages::include-returns-clause-stepped : goal.pages::include-returns-clause-stepped
+pages::include-returns-clause-stepped g t c = λ seat.
+    let o = open_of c.args.open.now in
+    let level : c.args.open.now.left ≡ suc c.in-Some.left = omega (arith, c.in-Some.ensures) in
+    stepped_as seat (λ serving s. include_found serving c.args.place.now c.args.found (c.args.pc + 1) s o)
+    (λ serving s. include_path serving c.args.place.now c.in-Ok.target.params c.in-Ok.target.path (c.args.pc + 1) s o) c.args.world.now c.page.new.self o (flows.Go (c.args.pc + 1))
+    (λ serving h s. ap (λ f. include_found serving c.args.place.now f (c.args.pc + 1) s o) c.in-Ok.is)
+    (path_on c.args.place.now (c.args.pc + 1) c.in-Some.left c.in-Ok.target.params c.in-Ok.target.path o level seat c.in-Ok-page.paged c.args.world.now c.page.new.self
+    (λ serving h. c.in-Ok-page.ensures.does serving h.stored) (bad c.in-Bad.field-0) c.page.new.self o (flows.Go (c.args.pc + 1))
+    (λ serving h. sym (c.in-Ok-page.ensures.found serving h.stored) ∙ ap stored_of c.in-Bad.is)
+    (acted_on (λ s. included c.args.place.now c.in-Ok.target.params c.in-Some.left (bad c.in-Bad.field-0) (c.args.pc + 1) s o) c.page.new.self o (c.args.pc + 1) (λ s. refl)))
+
+-- an include by an address
+
+pub pages::include_call-returns-in_default-clause-stepped : goal.pages::include_call-returns-in_default-clause-stepped
+pages::include_call-returns-in_default-clause-stepped g t c =
+    let o = open_of c.args.open.now in
+    include_unflushed c.args.place.now (c.args.pc + 1) (seat_of c.args.seat.now) o (with_stack (drop (address_with c.args.params) o.stack) o) (reverse (take (address_with c.args.params) o.stack)) c.args.flush c.args.params
+    c.requires.filled refl refl c.args.world.now c.flush_if.new.world o c.in_default.ensures.err c.flush_if.ensures.replies
+
+pub pages::include_call-include-requires : goal.pages::include_call-include-requires
+pages::include_call-include-requires g t c κs within =
+    let known = known_changed g.met.W.World.stores_on g.met.W.World.again c.args.served.now c.args.world.now c.flush_if.new.world (flush_if c.args.flush) c.requires.known c.in-Ok.ensures.ok in
+    search rules
+
+pub pages::include_call-returns-clause-stepped : goal.pages::include_call-returns-clause-stepped
+pages::include_call-returns-clause-stepped g t c =
+    let o = open_of c.args.open.now in
+    include_stepped c.args.place.now (c.args.pc + 1) (seat_of c.args.seat.now) o (with_stack c.drop_top.new.self o) (map datum_of c.top.result.now) c.args.flush c.args.params c.requires.filled
+    (ap (λ xs. with_stack xs o) c.drop_top.ensures) c.top.ensures c.args.world.now c.flush_if.new.world c.include.new.world c.find_target-found.result (open_of c.include.new.open) c.include.result c.find_target-found.ensures
+    c.in-Ok.ensures.ok c.flush_if.ensures.replies
+    (λ serving h. serves_changed g.met.W.World.stores_on g.met.W.World.again c.args.served.now c.args.world.now c.flush_if.new.world (flush_if c.args.flush) serving c.requires.known c.in-Ok.ensures.ok h)
+    (c.include.ensures.stepped (seat_of c.args.seat.now)) c.include.ensures.short
+
+-- an import
+
+pub pages::import_call-returns-clause-stepped : goal.pages::import_call-returns-clause-stepped
+pages::import_call-returns-clause-stepped g t c =
+    let o = open_of c.args.open.now in
+    import_stepped c.args.place.now (c.args.pc + 1) (seat_of c.args.seat.now) o (with_stack c.drop_top.new.self o) (map datum_of c.top.result.now) c.requires.filled (ap (λ xs. with_stack xs o) c.drop_top.ensures) c.top.ensures
+    c.args.world.now c.include.new.world c.import_target-found.result (open_of c.include.new.open) c.include.result c.import_target-found.ensures (c.include.ensures.stepped (seat_of c.args.seat.now)) c.include.ensures.short
+
+-- a body or a fragment that a call gives
+
+pub calls::given_call-given-requires : goal.calls::given_call-given-requires
+calls::given_call-given-requires g t c =
+    let holds = subst (λ x. SeatHolds x (length (g.W.World.variables c.args.world.now).frames)) (ap seat_of c.in-InTag.is) c.requires.holds in
+    record { within = holds.1 }
+
+pub calls::given_call-write_source-requires : goal.calls::given_call-write_source-requires
+calls::given_call-write_source-requires g t c =
+    let holds = subst (λ x. SeatHolds x (length (g.W.World.variables c.args.world.now).frames)) (ap seat_of c.in-InTag.is) c.requires.holds in
+    let there = holds.0 in
+    search rules
+
+pub calls::given_call-copy_out-requires : goal.calls::given_call-copy_out-requires
+calls::given_call-copy_out-requires g t c =
+    let holds = subst (λ x. SeatHolds x (length (g.W.World.variables c.args.world.now).frames)) (ap seat_of c.in-InTag.is) c.requires.holds in
+    let there = holds.0 in
+    search rules
+
+pub calls::given_call-turn_to-requires : goal.calls::given_call-turn_to-requires
+calls::given_call-turn_to-requires g t c =
+    let holds = subst (λ x. SeatHolds x (length (g.W.World.variables c.args.world.now).frames)) (ap seat_of c.in-InTag.is) c.requires.holds in
+    let there : c.in-InTag.call.now.frame < length (g.W.World.variables c.copy_out.new.world).frames = omega (arith, holds.0, c.copy_out.ensures.frames) in
+    search rules
+
+pub calls::given_call-run_code-requires : goal.calls::given_call-run_code-requires
+calls::given_call-run_code-requires g t c κs within =
+    let laws = g.met.W.World in
+    let call = call_of c.in-InTag.call.now in
+    let caller = seat_of c.in-InTag.caller.now in
+    let counted = c.frames-frames.ensures ∙ ap (λ v. length v.frames) c.scopes.ensures in
+    let more : length (g.W.World.variables c.copy_out.new.world).frames ≤ length (g.W.World.variables c.turn_to.new.self).frames = omega (arith, c.turn_to.ensures.frames) in
+    let name = option_map (λ n. n.now) c.args.name in
+    let known = given_known laws.stores_on laws.again laws.tells c.args.served.now call caller c.in-Code.at c.in-Some.left c.frame-frame.result c.frames-frames.result c.args.world.now c.copy_out.new.world c.turn_to.new.self c.args.world.now c.requires.known
+    c.in_default-copy_out.ensures.does c.turn_to.ensures.turned c.turn_to.ensures.replies c.frame-frame.ensures.current counted more in
+    let seated = subst SeatFits (ap seat_of c.in-InTag.is) c.requires.seat in
+    let n = length (g.W.World.variables c.args.world.now).frames in
+    let m = length (g.W.World.variables c.turn_to.new.self).frames in
+    let holds = subst (λ x. SeatHolds x n) (ap seat_of c.in-InTag.is) c.requires.holds in
+    let stands = holds_more caller n m (omega (arith, c.copy_out.ensures.frames, c.turn_to.ensures.frames)) holds.2 in
+    let at = begins_given name call caller c.in-Code.at seated.1 (sym (c.in-Code.ensures caller)) in
+    let fits = seated.2 in
+    search rules
+
+pub calls::given_call-go_back-requires : goal.calls::given_call-go_back-requires
+calls::given_call-go_back-requires g t c =
+    let laws = g.met.W.World in
+    let call = call_of c.in-InTag.call.now in
+    let caller = seat_of c.in-InTag.caller.now in
+    let counted = c.frames-frames.ensures ∙ ap (λ v. length v.frames) c.scopes.ensures in
+    let more : length (g.W.World.variables c.copy_out.new.world).frames ≤ length (g.W.World.variables c.turn_to.new.self).frames = omega (arith, c.turn_to.ensures.frames) in
+    let room = given_room laws.stores_on laws.again laws.tells c.args.served.now call caller c.in-Code.at c.in-Some.left c.frame-frame.result c.frames-frames.result c.args.world.now c.copy_out.new.world c.turn_to.new.self c.run_code.new.world c.requires.known
+    c.in_default-copy_out.ensures.does c.turn_to.ensures.turned c.turn_to.ensures.replies c.frame-frame.ensures.current counted more ends.Normal (λ x. Well tt x) normal_is (λ n t h. h) c.in-Normal.ensures.ran in
+    let there : c.frame-frame.result < c.frames-frames.result = omega (arith, c.frame-frame.ensures.there, counted) in
+    search rules
+
+pub calls::given_call-go_back-requires-in-Raised : goal.calls::given_call-go_back-requires-in-Raised
+calls::given_call-go_back-requires-in-Raised g t c =
+    let laws = g.met.W.World in
+    let call = call_of c.in-InTag.call.now in
+    let caller = seat_of c.in-InTag.caller.now in
+    let counted = c.frames-frames.ensures ∙ ap (λ v. length v.frames) c.scopes.ensures in
+    let more : length (g.W.World.variables c.copy_out.new.world).frames ≤ length (g.W.World.variables c.turn_to.new.self).frames = omega (arith, c.turn_to.ensures.frames) in
+    let room = given_room laws.stores_on laws.again laws.tells c.args.served.now call caller c.in-Code.at c.in-Some.left c.frame-frame.result c.frames-frames.result c.args.world.now c.copy_out.new.world c.turn_to.new.self c.run_code.new.world c.requires.known
+    c.in_default-copy_out.ensures.does c.turn_to.ensures.turned c.turn_to.ensures.replies c.frame-frame.ensures.current counted more (ends.Raised c.in-Raised.fault c.in-Raised.place) (λ x. Raised c.in-Raised.fault c.in-Raised.place x) (raised_is c.in-Raised.fault c.in-Raised.place) (λ n t h. h) c.in-Raised.ensures.ran in
+    let there : c.frame-frame.result < c.frames-frames.result = omega (arith, c.frame-frame.ensures.there, counted) in
+    search rules
+
+pub calls::given_call-returns-in-InPage-clause-stepped : goal.calls::given_call-returns-in-InPage-clause-stepped
+calls::given_call-returns-in-InPage-clause-stepped g t c =
+    let seat = seat_of c.args.seat.now in
+    let o = open_of c.args.open.now in
+    let name = option_map (λ n. n.now) c.args.name in
+    acted_stepped seat (λ serving s. given_called c.args.place.now (given_by name seat) seat (c.args.pc + 1) s o) c.args.world.now c.args.world.now o (flows.Go (c.args.pc + 1))
+    (λ serving h. given_page c.args.place.now (c.args.pc + 1) o name seat c.args.world.now (program_of c.in-InPage.field-0.now) c.in-InPage.field-1.now (ap seat_of c.in-InPage.is))
+
+pub calls::given_call-returns-in-Nothing-clause-stepped : goal.calls::given_call-returns-in-Nothing-clause-stepped
+calls::given_call-returns-in-Nothing-clause-stepped g t c =
+    let seat = seat_of c.args.seat.now in
+    let o = open_of c.args.open.now in
+    let name = option_map (λ n. n.now) c.args.name in
+    acted_stepped seat (λ serving s. given_called c.args.place.now (given_by name seat) seat (c.args.pc + 1) s o) c.args.world.now c.args.world.now o (flows.Go (c.args.pc + 1))
+    (λ serving h. given_none c.args.place.now (c.args.pc + 1) o name seat c.args.world.now (ap (given_by name) (ap seat_of c.in-InTag.is) ∙ sym (c.in-Nothing.ensures (seat_of c.in-InTag.caller.now))))
+
+pub calls::given_call-returns-in-Source-clause-stepped : goal.calls::given_call-returns-in-Source-clause-stepped
+calls::given_call-returns-in-Source-clause-stepped g t c =
+    let seat = seat_of c.args.seat.now in
+    let o = open_of c.args.open.now in
+    let name = option_map (λ n. n.now) c.args.name in
+    acted_stepped seat (λ serving s. given_called c.args.place.now (given_by name seat) seat (c.args.pc + 1) s o) c.args.world.now c.write_source.new.world (open_of c.write_source.new.open) c.write_source.result
+    (λ serving h.
+    c.write_source.ensures.acted name seat (seat_of c.in-InTag.caller.now) (ap seat_of c.in-InTag.is)
+    (ap (given_by name) (ap seat_of c.in-InTag.is) ∙ sym (c.in-Source.ensures (seat_of c.in-InTag.caller.now))))
+
+pub calls::given_call-returns-in_default-clause-stepped : goal.calls::given_call-returns-in_default-clause-stepped
+calls::given_call-returns-in_default-clause-stepped g t c =
+    let seat = seat_of c.args.seat.now in
+    let o = open_of c.args.open.now in
+    let name = option_map (λ n. n.now) c.args.name in
+    let caller = seat_of c.in-InTag.caller.now in
+    let none : c.args.open.now.left ≡ 0 = omega (arith, c.in_default.ensures) in
+    acted_stepped seat (λ serving s. given_called c.args.place.now (given_by name seat) seat (c.args.pc + 1) s o) c.args.world.now c.throw.new.world (open_of c.throw.new.open) c.throw.result
+    (λ serving h.
+    code_deep c.args.place.now (c.args.pc + 1) o name seat (call_of c.in-InTag.call.now) caller (ap seat_of c.in-InTag.is) c.in-Code.at c.args.world.now c.throw.new.world (open_of c.throw.new.open) c.throw.result
+    (ap (given_by name) (ap seat_of c.in-InTag.is) ∙ sym (c.in-Code.ensures caller)) none c.throw.ensures.acted)
+
+pub calls::given_call-returns-in-Err-clause-stepped : goal.calls::given_call-returns-in-Err-clause-stepped
+calls::given_call-returns-in-Err-clause-stepped g t c =
+    let seat = seat_of c.args.seat.now in
+    let o = open_of c.args.open.now in
+    let name = option_map (λ n. n.now) c.args.name in
+    let caller = seat_of c.in-InTag.caller.now in
+    acted_stepped seat (λ serving s. given_called c.args.place.now (given_by name seat) seat (c.args.pc + 1) s o) c.args.world.now c.fail.new.world (open_of c.fail.new.open) c.fail.result
+    (λ serving h.
+    copy_failed c.args.place.now (c.args.pc + 1) o name seat (call_of c.in-InTag.call.now) caller (ap seat_of c.in-InTag.is) c.args.world.now c.copy_out.new.world c.fail.new.world c.in-Err.failed
+    (open_of c.fail.new.open) c.fail.result c.in-Err.ensures.does c.fail.ensures.acted c.fail.ensures.short)
+
+pub calls::given_call-returns-in-Normal-clause-stepped : goal.calls::given_call-returns-in-Normal-clause-stepped
+calls::given_call-returns-in-Normal-clause-stepped g t c =
+    let laws = g.met.W.World in
+    let call = call_of c.in-InTag.call.now in
+    let caller = seat_of c.in-InTag.caller.now in
+    let counted = c.frames-frames.ensures ∙ ap (λ v. length v.frames) c.scopes.ensures in
+    let more : length (g.W.World.variables c.copy_out.new.world).frames ≤ length (g.W.World.variables c.turn_to.new.self).frames = omega (arith, c.turn_to.ensures.frames) in
+    let is = ap seat_of c.in-InTag.is in
+    let name = option_map (λ n. n.now) c.args.name in
+    let gives = ap (given_by name) is ∙ sym (c.in-Code.ensures caller) in
+    let level : c.args.open.now.left ≡ suc c.in-Some.left = omega (arith, c.in-Some.ensures) in
+    given_on laws.stores_on laws.again laws.tells c.args.served.now call caller c.in-Code.at c.in-Some.left c.frame-frame.result c.frames-frames.result c.args.world.now c.copy_out.new.world c.turn_to.new.self c.run_code.new.world c.requires.known
+    c.in_default-copy_out.ensures.does c.turn_to.ensures.turned c.turn_to.ensures.replies c.frame-frame.ensures.current counted more c.args.place.now (c.args.pc + 1) (open_of c.args.open.now) name (seat_of c.args.seat.now) is gives level
+    c.go_back.new.self c.in-Normal.ensures.ran c.go_back.ensures.back c.go_back.ensures.replies
+
+pub calls::given_call-returns-in-Raised-clause-stepped : goal.calls::given_call-returns-in-Raised-clause-stepped
+calls::given_call-returns-in-Raised-clause-stepped g t c =
+    let laws = g.met.W.World in
+    let call = call_of c.in-InTag.call.now in
+    let caller = seat_of c.in-InTag.caller.now in
+    let counted = c.frames-frames.ensures ∙ ap (λ v. length v.frames) c.scopes.ensures in
+    let more : length (g.W.World.variables c.copy_out.new.world).frames ≤ length (g.W.World.variables c.turn_to.new.self).frames = omega (arith, c.turn_to.ensures.frames) in
+    let is = ap seat_of c.in-InTag.is in
+    let name = option_map (λ n. n.now) c.args.name in
+    let gives = ap (given_by name) is ∙ sym (c.in-Code.ensures caller) in
+    let level : c.args.open.now.left ≡ suc c.in-Some.left = omega (arith, c.in-Some.ensures) in
+    given_thrown laws.stores_on laws.again laws.tells c.args.served.now call caller c.in-Code.at c.in-Some.left c.frame-frame.result c.frames-frames.result c.args.world.now c.copy_out.new.world c.turn_to.new.self c.run_code.new.world c.requires.known
+    c.in_default-copy_out.ensures.does c.turn_to.ensures.turned c.turn_to.ensures.replies c.frame-frame.ensures.current counted more c.args.place.now (c.args.pc + 1) (open_of c.args.open.now) name (seat_of c.args.seat.now) is gives level
+    c.in-Raised.fault c.in-Raised.place c.go_back-in-Raised.new.self c.throw-in-Raised.new.world (open_of c.throw-in-Raised.new.open) c.throw-in-Raised.result c.in-Raised.ensures.ran c.go_back-in-Raised.ensures.back
+    c.go_back-in-Raised.ensures.replies c.throw-in-Raised.ensures.acted
+
+pub calls::given_call-returns-in_default-run_code-clause-stepped : goal.calls::given_call-returns-in_default-run_code-clause-stepped
+calls::given_call-returns-in_default-run_code-clause-stepped g t c =
+    let laws = g.met.W.World in
+    let call = call_of c.in-InTag.call.now in
+    let caller = seat_of c.in-InTag.caller.now in
+    let counted = c.frames-frames.ensures ∙ ap (λ v. length v.frames) c.scopes.ensures in
+    let more : length (g.W.World.variables c.copy_out.new.world).frames ≤ length (g.W.World.variables c.turn_to.new.self).frames = omega (arith, c.turn_to.ensures.frames) in
+    let is = ap seat_of c.in-InTag.is in
+    let name = option_map (λ n. n.now) c.args.name in
+    let gives = ap (given_by name) is ∙ sym (c.in-Code.ensures caller) in
+    let level : c.args.open.now.left ≡ suc c.in-Some.left = omega (arith, c.in-Some.ensures) in
+    given_over laws.stores_on laws.again laws.tells c.args.served.now call caller c.in-Code.at c.in-Some.left c.frame-frame.result c.frames-frames.result c.args.world.now c.copy_out.new.world c.turn_to.new.self c.run_code.new.world c.requires.known
+    c.in_default-copy_out.ensures.does c.turn_to.ensures.turned c.turn_to.ensures.replies c.frame-frame.ensures.current counted more c.args.place.now (c.args.pc + 1) (open_of c.args.open.now) name (seat_of c.args.seat.now) is gives level
+    c.run_code.result (λ e. c.in_default-run_code.not-Normal e) (λ f p e. c.in_default-run_code.not-Raised f p e) c.run_code.ensures.ran
+
+-- a call of a tag file
+
+pub calls::tag_call-returns-in_default-clause-stepped : goal.calls::tag_call-returns-in_default-clause-stepped
+calls::tag_call-returns-in_default-clause-stepped g t c =
+    let seat = seat_of c.args.seat.now in
+    let o = open_of c.args.open.now in
+    let this = c.args.call.now in
+    let n = length this.names in
+    let next = c.args.pc + 1 in
+    let p = with_stack c.drop_top.new.self o in
+    let rest = ap (λ xs. with_stack xs o) c.drop_top.ensures ∙ ap (λ k. with_stack (drop k o.stack) o) c.len-count.ensures in
+    let found = option_map (λ tag. tag_of tag.now) c.tag_at.result in
+    let finds = ap (λ q. tag_at this.path q.tags) (sym c.program.ensures) ∙ sym c.tag_at.ensures in
+    let size : c.args.pc + 1 + c.size_of.result ≡ next + call_size this = ap (λ k. c.args.pc + 1 + k) c.size_of.ensures in
+    let none : found ≡ None = ap (option_map (λ tag. tag_of tag.now)) c.in_default.is in
+    acted_stepped seat (λ serving s. called_out serving seat c.args.place.now next (call.Tag this) s o) c.args.world.now c.args.world.now p (flows.Go (c.args.pc + 1 + c.size_of.result))
+    (λ serving h. tag_gone c.args.place.now this next seat o p (reverse (take n o.stack)) c.requires.filled rest refl found finds serving c.args.world.now (c.args.pc + 1 + c.size_of.result) none size)
+
+pub calls::tag_call-enter_call-requires : goal.calls::tag_call-enter_call-requires
+calls::tag_call-enter_call-requires g t c κs within =
+    let seat = seat_of c.args.seat.now in
+    let o = open_of c.args.open.now in
+    let this = c.args.call.now in
+    let n = length this.names in
+    let next = c.args.pc + 1 in
+    let p = with_stack c.drop_top-2.new.self o in
+    let rest = ap (λ xs. with_stack xs o) c.drop_top-2.ensures ∙ ap (λ k. with_stack (drop k o.stack) o) c.len-count.ensures in
+    let found = option_map (λ tag. tag_of tag.now) c.tag_at.result in
+    let finds = ap (λ q. tag_at this.path q.tags) (sym c.program.ensures) ∙ sym c.tag_at.ensures in
+    let values = map datum_of c.top.result.now in
+    let taken = c.top.ensures ∙ ap (λ k. reverse (take k o.stack)) c.len-count.ensures in
+    let tag = tag_of c.in-Some.tag.now in
+    let is : found ≡ Some tag = ap (option_map (λ tag. tag_of tag.now)) c.in-Some.is in
+    let fits = tag_code_fits seat c.requires.seat this.path tag (finds ∙ is) in
+    search rules
+
+pub calls::tag_call-returns-in-Ok-clause-stepped : goal.calls::tag_call-returns-in-Ok-clause-stepped
+calls::tag_call-returns-in-Ok-clause-stepped g t c =
+    let seat = seat_of c.args.seat.now in
+    let o = open_of c.args.open.now in
+    let this = c.args.call.now in
+    let n = length this.names in
+    let next = c.args.pc + 1 in
+    let p = with_stack c.drop_top-2.new.self o in
+    let rest = ap (λ xs. with_stack xs o) c.drop_top-2.ensures ∙ ap (λ k. with_stack (drop k o.stack) o) c.len-count.ensures in
+    let found = option_map (λ tag. tag_of tag.now) c.tag_at.result in
+    let finds = ap (λ q. tag_at this.path q.tags) (sym c.program.ensures) ∙ sym c.tag_at.ensures in
+    let values = map datum_of c.top.result.now in
+    let taken = c.top.ensures ∙ ap (λ k. reverse (take k o.stack)) c.len-count.ensures in
+    let tag = tag_of c.in-Some.tag.now in
+    let is : found ≡ Some tag = ap (option_map (λ tag. tag_of tag.now)) c.in-Some.is in
+    let entries = c.in-Ok.entries in
+    let made = ap (λ ns. first_frame tag.decl (table_of ns values)) (sym c.as_slice.ensures) ∙ c.in-Ok.ensures in
+    stepped_as seat (λ serving s. called_out serving seat c.args.place.now next (call.Tag this) s o) (λ serving s. entered_move c.args.place.now this next seat p tag entries s) c.args.world.now c.enter_call.new.world (open_of c.enter_call.new.open) c.enter_call.result
+    (λ serving h s. tag_made c.args.place.now this next seat o p values c.requires.filled rest taken found finds serving tag is entries made s) c.enter_call.ensures.stepped
+
+pub calls::tag_call-returns-in-Err-clause-stepped : goal.calls::tag_call-returns-in-Err-clause-stepped
+calls::tag_call-returns-in-Err-clause-stepped g t c =
+    let seat = seat_of c.args.seat.now in
+    let o = open_of c.args.open.now in
+    let this = c.args.call.now in
+    let n = length this.names in
+    let next = c.args.pc + 1 in
+    let p = with_stack c.drop_top-2.new.self o in
+    let rest = ap (λ xs. with_stack xs o) c.drop_top-2.ensures ∙ ap (λ k. with_stack (drop k o.stack) o) c.len-count.ensures in
+    let found = option_map (λ tag. tag_of tag.now) c.tag_at.result in
+    let finds = ap (λ q. tag_at this.path q.tags) (sym c.program.ensures) ∙ sym c.tag_at.ensures in
+    let values = map datum_of c.top.result.now in
+    let taken = c.top.ensures ∙ ap (λ k. reverse (take k o.stack)) c.len-count.ensures in
+    let tag = tag_of c.in-Some.tag.now in
+    let is : found ≡ Some tag = ap (option_map (λ tag. tag_of tag.now)) c.in-Some.is in
+    acted_stepped seat (λ serving s. called_out serving seat c.args.place.now next (call.Tag this) s o) c.args.world.now c.fail.new.world (open_of c.fail.new.open) c.fail.result
+    (λ serving h.
+    tag_failed c.args.place.now this next seat o p values c.requires.filled rest taken found finds serving tag is c.args.world.now c.fail.new.world c.in-Err.failed (open_of c.fail.new.open) c.fail.result
+    (subst (λ ns. Answers (first_frame tag.decl (table_of ns values)) (Err c.in-Err.failed)) c.as_slice.ensures c.in-Err.ensures) c.fail.ensures.acted c.fail.ensures.short)
+
+pub calls::enter_call-returns-in_default-clause-stepped : goal.calls::enter_call-returns-in_default-clause-stepped
+calls::enter_call-returns-in_default-clause-stepped g t c =
+    let seat = seat_of c.args.seat.now in
+    let o = open_of c.args.open.now in
+    let this = c.args.call.now in
+    let next = c.args.pc + 1 in
+    let tag = tag_of c.args.tag.now in
+    let entries = c.args.entries in
+    let none : c.args.open.now.left ≡ 0 = omega (arith, c.in_default.ensures) in
+    acted_stepped seat (λ serving s. entered_move c.args.place.now this next seat o tag entries s) c.args.world.now c.throw.new.world (open_of c.throw.new.open) c.throw.result
+    (λ serving h. tag_deep c.args.place.now this next seat o tag entries c.args.world.now c.throw.new.world (open_of c.throw.new.open) c.throw.result none c.throw.ensures.acted)
+
+pub calls::enter_call-returns-in_default-exports_of-clause-stepped : goal.calls::enter_call-returns-in_default-exports_of-clause-stepped
+calls::enter_call-returns-in_default-exports_of-clause-stepped g t c =
+    let seat = seat_of c.args.seat.now in
+    let o = open_of c.args.open.now in
+    let this = c.args.call.now in
+    let next = c.args.pc + 1 in
+    let tag = tag_of c.args.tag.now in
+    let entries = c.args.entries in
+    acted_stepped seat (λ serving s. entered_move c.args.place.now this next seat o tag entries s) c.args.world.now c.args.world.now o (flows.Over ends.NoMemory)
+    (λ serving h. acted_short (λ s. entered_move c.args.place.now this next seat o tag entries s) c.args.world.now o (λ s. entered_grows c.args.place.now this next seat o tag entries s))
+
+pub calls::enter_call-returns-in_default-nested_changes-clause-stepped : goal.calls::enter_call-returns-in_default-nested_changes-clause-stepped
+calls::enter_call-returns-in_default-nested_changes-clause-stepped g t c =
+    let seat = seat_of c.args.seat.now in
+    let o = open_of c.args.open.now in
+    let this = c.args.call.now in
+    let next = c.args.pc + 1 in
+    let tag = tag_of c.args.tag.now in
+    let entries = c.args.entries in
+    acted_stepped seat (λ serving s. entered_move c.args.place.now this next seat o tag entries s) c.args.world.now c.args.world.now o (flows.Over ends.NoMemory)
+    (λ serving h. acted_short (λ s. entered_move c.args.place.now this next seat o tag entries s) c.args.world.now o (λ s. entered_grows c.args.place.now this next seat o tag entries s))
+
+pub calls::enter_call-returns-in_default-push_frame_of-clause-stepped : goal.calls::enter_call-returns-in_default-push_frame_of-clause-stepped
+calls::enter_call-returns-in_default-push_frame_of-clause-stepped g t c =
+    let seat = seat_of c.args.seat.now in
+    let o = open_of c.args.open.now in
+    let this = c.args.call.now in
+    let next = c.args.pc + 1 in
+    let tag = tag_of c.args.tag.now in
+    let entries = c.args.entries in
+    acted_stepped seat (λ serving s. entered_move c.args.place.now this next seat o tag entries s) c.args.world.now c.push_frame_of.new.self o (flows.Over ends.NoMemory)
+    (λ serving h. tag_short c.args.place.now this next seat o tag entries c.args.world.now c.push_frame_of.new.self o c.in_default-push_frame_of.ensures.err c.push_frame_of.ensures.replies)
+
+pub calls::enter_call-run_code-requires : goal.calls::enter_call-run_code-requires
+calls::enter_call-run_code-requires g t c κs within =
+    let seat = seat_of c.args.seat.now in
+    let o = open_of c.args.open.now in
+    let this = c.args.call.now in
+    let next = c.args.pc + 1 in
+    let tag = tag_of c.args.tag.now in
+    let entries = c.args.entries in
+    let laws = g.met.W.World in
+    let exports = map export_of c.as_slice-exports.result.now in
+    let fragments = c.as_slice-2.result.now in
+    let counted = c.frames-frames.ensures ∙ ap (λ v. length v.frames) c.scopes.ensures in
+    let inner = call_with tag this.body fragments next exports c.frame-frame.result in
+    let known = entered_known g.W.World.replies laws.stores_on laws.again laws.tells c.args.served.now c.args.place.now this next seat o tag entries exports fragments c.frame-frame.result c.frames-frames.result c.in-Some.left c.args.world.now c.push_frame_of.new.self c.args.world.now c.requires.known c.in-Ok-push_frame_of.ensures.ok c.push_frame_of.ensures.replies
+    c.frame-frame.ensures.current c.frame-frame.ensures.there counted in
+    let more = entered_more g.W.World.replies laws.stores_on laws.again laws.tells c.args.served.now c.args.place.now this next seat o tag entries exports fragments c.frame-frame.result c.frames-frames.result c.in-Some.left c.args.world.now c.push_frame_of.new.self c.args.world.now c.requires.known c.in-Ok-push_frame_of.ensures.ok c.push_frame_of.ensures.replies
+    c.frame-frame.ensures.current c.frame-frame.ensures.there counted in
+    let n = length (g.W.World.variables c.push_frame_of.new.self).frames in
+    let seated : SeatFits (in_tag inner seat) =
+    (c.requires.tag, (c.requires.fits.0, subst (λ fs. FragmentsBegin (code_of seat) (next + body_size this.body) fs) (sym c.as_slice-2.ensures) c.requires.fits.1), c.requires.seat) in
+    let stands : c.frame-frame.result < n = omega (arith, c.frame-frame.ensures.there, more) in
+    let holds : SeatHolds (in_tag inner seat) n =
+    (stands, subst (λ fs. next + (body_size this.body + fragments_size fs) < 2 ^ 64) (sym c.as_slice-2.ensures) c.requires.within, holds_more seat (length (g.W.World.variables c.args.world.now).frames) n more c.requires.holds) in
+    let begins = c.requires.tag.0 in
+    search rules
+
+pub calls::enter_call-give_back-requires : goal.calls::enter_call-give_back-requires
+calls::enter_call-give_back-requires g t c =
+    let seat = seat_of c.args.seat.now in
+    let o = open_of c.args.open.now in
+    let this = c.args.call.now in
+    let next = c.args.pc + 1 in
+    let tag = tag_of c.args.tag.now in
+    let entries = c.args.entries in
+    let laws = g.met.W.World in
+    let exports = map export_of c.as_slice-exports.result.now in
+    let fragments = c.as_slice-2.result.now in
+    let counted = c.frames-frames.ensures ∙ ap (λ v. length v.frames) c.scopes.ensures in
+    let room = entered_room g.W.World.replies laws.stores_on laws.again laws.tells c.args.served.now c.args.place.now this next seat o tag entries exports fragments c.frame-frame.result c.frames-frames.result c.in-Some.left c.args.world.now c.push_frame_of.new.self c.run_code.new.world c.requires.known c.in-Ok-push_frame_of.ensures.ok c.push_frame_of.ensures.replies
+    c.frame-frame.ensures.current c.frame-frame.ensures.there counted ends.Normal (λ x. Well tt x) normal_is (λ n t h. h) c.in-Normal.ensures.ran in
+    let there : c.frame-frame.result < c.frames-frames.result = omega (arith, c.frame-frame.ensures.there, counted) in
+    let stands : c.frame-frame.result < length (g.W.World.variables c.run_code.new.world).frames = omega (arith, there, room) in
+    search rules
+
+pub calls::enter_call-go_back-requires : goal.calls::enter_call-go_back-requires
+calls::enter_call-go_back-requires g t c =
+    let seat = seat_of c.args.seat.now in
+    let o = open_of c.args.open.now in
+    let this = c.args.call.now in
+    let next = c.args.pc + 1 in
+    let tag = tag_of c.args.tag.now in
+    let entries = c.args.entries in
+    let laws = g.met.W.World in
+    let exports = map export_of c.as_slice-exports.result.now in
+    let fragments = c.as_slice-2.result.now in
+    let counted = c.frames-frames.ensures ∙ ap (λ v. length v.frames) c.scopes.ensures in
+    let room = entered_room g.W.World.replies laws.stores_on laws.again laws.tells c.args.served.now c.args.place.now this next seat o tag entries exports fragments c.frame-frame.result c.frames-frames.result c.in-Some.left c.args.world.now c.push_frame_of.new.self c.run_code.new.world c.requires.known c.in-Ok-push_frame_of.ensures.ok c.push_frame_of.ensures.replies
+    c.frame-frame.ensures.current c.frame-frame.ensures.there counted ends.Normal (λ x. Well tt x) normal_is (λ n t h. h) c.in-Normal.ensures.ran in
+    let there : c.frame-frame.result < c.frames-frames.result = omega (arith, c.frame-frame.ensures.there, counted) in
+    let all : c.frames-frames.result ≤ length (g.W.World.variables c.give_back.new.world).frames = omega (arith, room, c.give_back.ensures.frames) in
+    search rules
+
+pub calls::enter_call-go_back-requires-in-Raised : goal.calls::enter_call-go_back-requires-in-Raised
+calls::enter_call-go_back-requires-in-Raised g t c =
+    let seat = seat_of c.args.seat.now in
+    let o = open_of c.args.open.now in
+    let this = c.args.call.now in
+    let next = c.args.pc + 1 in
+    let tag = tag_of c.args.tag.now in
+    let entries = c.args.entries in
+    let laws = g.met.W.World in
+    let exports = map export_of c.as_slice-exports.result.now in
+    let fragments = c.as_slice-2.result.now in
+    let counted = c.frames-frames.ensures ∙ ap (λ v. length v.frames) c.scopes.ensures in
+    let room = entered_room g.W.World.replies laws.stores_on laws.again laws.tells c.args.served.now c.args.place.now this next seat o tag entries exports fragments c.frame-frame.result c.frames-frames.result c.in-Some.left c.args.world.now c.push_frame_of.new.self c.run_code.new.world c.requires.known c.in-Ok-push_frame_of.ensures.ok c.push_frame_of.ensures.replies
+    c.frame-frame.ensures.current c.frame-frame.ensures.there counted (ends.Raised c.in-Raised.fault c.in-Raised.place) (λ x. Raised c.in-Raised.fault c.in-Raised.place x) (raised_is c.in-Raised.fault c.in-Raised.place) (λ n t h. h) c.in-Raised.ensures.ran in
+    let there : c.frame-frame.result < c.frames-frames.result = omega (arith, c.frame-frame.ensures.there, counted) in
+    search rules
+
+pub calls::enter_call-returns-in-Ok-give_back-clause-stepped : goal.calls::enter_call-returns-in-Ok-give_back-clause-stepped
+calls::enter_call-returns-in-Ok-give_back-clause-stepped g t c =
+    let seat = seat_of c.args.seat.now in
+    let o = open_of c.args.open.now in
+    let this = c.args.call.now in
+    let next = c.args.pc + 1 in
+    let tag = tag_of c.args.tag.now in
+    let entries = c.args.entries in
+    let laws = g.met.W.World in
+    let exports = map export_of c.as_slice-exports.result.now in
+    let fragments = c.as_slice-2.result.now in
+    let counted = c.frames-frames.ensures ∙ ap (λ v. length v.frames) c.scopes.ensures in
+    let level : c.args.open.now.left ≡ suc c.in-Some.left = omega (arith, c.in-Some.ensures) in
+    let made = ap (map export_of) c.as_slice-exports.ensures.value ∙ c.in-Ok.ensures ∙ ap (exports_of entries) c.as_slice.ensures in
+    entered_on g.W.World.replies laws.stores_on laws.again laws.tells c.args.served.now c.args.place.now this next seat o tag entries exports fragments c.frame-frame.result c.frames-frames.result c.in-Some.left c.args.world.now c.push_frame_of.new.self c.run_code.new.world c.requires.known c.in-Ok-push_frame_of.ensures.ok c.push_frame_of.ensures.replies
+    c.frame-frame.ensures.current c.frame-frame.ensures.there counted
+    (c.args.pc + 1 + c.size_of.result) (ap (λ k. c.args.pc + 1 + k) c.size_of.ensures) level made c.as_slice-2.ensures c.give_back.new.world c.go_back.new.self c.in-Normal.ensures.ran
+    (λ s e. c.in-Ok-give_back.ensures.does s.scopes (ap (map change_of) c.as_slice-in-Normal.ensures.value ∙ c.in-Ok-nested_changes.ensures ∙ ap (λ v. nested_changes exports (entries_of_frame v v.current)) (c.scopes-2.ensures ∙ e)
+    ∙ ap (λ k. nested_changes exports (entries_of_frame s.scopes k)) (sym (c.frame-frame.ensures.current ∙ ap (λ v. v.current) e))))
+    c.go_back.ensures.back c.go_back.ensures.replies
+
+pub calls::enter_call-returns-in-Normal-clause-stepped : goal.calls::enter_call-returns-in-Normal-clause-stepped
+calls::enter_call-returns-in-Normal-clause-stepped g t c =
+    let seat = seat_of c.args.seat.now in
+    let o = open_of c.args.open.now in
+    let this = c.args.call.now in
+    let next = c.args.pc + 1 in
+    let tag = tag_of c.args.tag.now in
+    let entries = c.args.entries in
+    let laws = g.met.W.World in
+    let exports = map export_of c.as_slice-exports.result.now in
+    let fragments = c.as_slice-2.result.now in
+    let counted = c.frames-frames.ensures ∙ ap (λ v. length v.frames) c.scopes.ensures in
+    let level : c.args.open.now.left ≡ suc c.in-Some.left = omega (arith, c.in-Some.ensures) in
+    let made = ap (map export_of) c.as_slice-exports.ensures.value ∙ c.in-Ok.ensures ∙ ap (exports_of entries) c.as_slice.ensures in
+    entered_failed g.W.World.replies laws.stores_on laws.again laws.tells c.args.served.now c.args.place.now this next seat o tag entries exports fragments c.frame-frame.result c.frames-frames.result c.in-Some.left c.args.world.now c.push_frame_of.new.self c.run_code.new.world c.requires.known c.in-Ok-push_frame_of.ensures.ok c.push_frame_of.ensures.replies
+    c.frame-frame.ensures.current c.frame-frame.ensures.there counted
+    (next + call_size this) refl level made c.as_slice-2.ensures c.give_back.new.world c.fail.new.world c.in-Err.failed (open_of c.fail.new.open) c.fail.result c.in-Normal.ensures.ran
+    (λ s e. c.in-Err.ensures.does s.scopes (ap (map change_of) c.as_slice-in-Normal.ensures.value ∙ c.in-Ok-nested_changes.ensures ∙ ap (λ v. nested_changes exports (entries_of_frame v v.current)) (c.scopes-2.ensures ∙ e)
+    ∙ ap (λ k. nested_changes exports (entries_of_frame s.scopes k)) (sym (c.frame-frame.ensures.current ∙ ap (λ v. v.current) e))))
+    c.fail.ensures.acted c.fail.ensures.short
+
+pub calls::enter_call-returns-in-Raised-clause-stepped : goal.calls::enter_call-returns-in-Raised-clause-stepped
+calls::enter_call-returns-in-Raised-clause-stepped g t c =
+    let seat = seat_of c.args.seat.now in
+    let o = open_of c.args.open.now in
+    let this = c.args.call.now in
+    let next = c.args.pc + 1 in
+    let tag = tag_of c.args.tag.now in
+    let entries = c.args.entries in
+    let laws = g.met.W.World in
+    let exports = map export_of c.as_slice-exports.result.now in
+    let fragments = c.as_slice-2.result.now in
+    let counted = c.frames-frames.ensures ∙ ap (λ v. length v.frames) c.scopes.ensures in
+    let level : c.args.open.now.left ≡ suc c.in-Some.left = omega (arith, c.in-Some.ensures) in
+    let made = ap (map export_of) c.as_slice-exports.ensures.value ∙ c.in-Ok.ensures ∙ ap (exports_of entries) c.as_slice.ensures in
+    entered_thrown g.W.World.replies laws.stores_on laws.again laws.tells c.args.served.now c.args.place.now this next seat o tag entries exports fragments c.frame-frame.result c.frames-frames.result c.in-Some.left c.args.world.now c.push_frame_of.new.self c.run_code.new.world c.requires.known c.in-Ok-push_frame_of.ensures.ok c.push_frame_of.ensures.replies
+    c.frame-frame.ensures.current c.frame-frame.ensures.there counted
+    (next + call_size this) refl level made c.as_slice-2.ensures c.in-Raised.fault c.in-Raised.place c.go_back-in-Raised.new.self c.throw-in-Raised.new.world (open_of c.throw-in-Raised.new.open) c.throw-in-Raised.result c.in-Raised.ensures.ran
+    c.go_back-in-Raised.ensures.back c.go_back-in-Raised.ensures.replies c.throw-in-Raised.ensures.acted
+
+pub calls::enter_call-returns-clause-stepped : goal.calls::enter_call-returns-clause-stepped
+calls::enter_call-returns-clause-stepped g t c =
+    let seat = seat_of c.args.seat.now in
+    let o = open_of c.args.open.now in
+    let this = c.args.call.now in
+    let next = c.args.pc + 1 in
+    let tag = tag_of c.args.tag.now in
+    let entries = c.args.entries in
+    let laws = g.met.W.World in
+    let exports = map export_of c.as_slice-exports.result.now in
+    let fragments = c.as_slice-2.result.now in
+    let counted = c.frames-frames.ensures ∙ ap (λ v. length v.frames) c.scopes.ensures in
+    let level : c.args.open.now.left ≡ suc c.in-Some.left = omega (arith, c.in-Some.ensures) in
+    let made = ap (map export_of) c.as_slice-exports.ensures.value ∙ c.in-Ok.ensures ∙ ap (exports_of entries) c.as_slice.ensures in
+    entered_over g.W.World.replies laws.stores_on laws.again laws.tells c.args.served.now c.args.place.now this next seat o tag entries exports fragments c.frame-frame.result c.frames-frames.result c.in-Some.left c.args.world.now c.push_frame_of.new.self c.run_code.new.world c.requires.known c.in-Ok-push_frame_of.ensures.ok c.push_frame_of.ensures.replies
+    c.frame-frame.ensures.current c.frame-frame.ensures.there counted
+    (next + call_size this) refl level made c.as_slice-2.ensures c.run_code.result (λ e. c.in_default-run_code.not-Normal e) (λ f q e. c.in_default-run_code.not-Raised f q e) c.run_code.ensures.ran

@@ -1,0 +1,62 @@
+use Rattle.std.proofs.Common.{◌≡◌, ◌+◌, ◌-◌, ◌*◌, length}
+use Rattle.run_world.specs.Known.{Known, ServesSo}
+use Rattle.run_world.specs.Origin.{Origin}
+use Rattle.run_moves.specs.Opened.{open_of}
+use Rattle.run_world.specs.Seats.{seat_of}
+use Rattle.page_machine.specs.Turn.{SeatHolds, Standing}
+use Rattle.page_machine.proofs.Turning.{SoFar}
+use Rattle.page_machine.proofs.+machine.Given as goal
+use Rattle.page_meaning.specs.State.{State}
+use Rattle.page_meaning.specs.Work.{visit_limit}
+use Rattle.page_table.specs.Measure.{span, weight}
+use Rattle.page_table.specs.Program.{Serving}
+use Rattle.page_table.specs.Seat.{code_of}
+
+abbrev pub decreases-turn::run_code : goal.decreases-turn::run_code
+decreases-turn::run_code g l = 8 * l.left + 7
+
+abbrev pub decreases-turn::turn : goal.decreases-turn::turn
+decreases-turn::turn g l = 8 * l.open.now.left + 6
+
+abbrev pub decreases-turn::call_out : goal.decreases-turn::call_out
+decreases-turn::call_out g l = 8 * l.open.now.left + 5
+
+abbrev pub decreases-calls::tag_call : goal.decreases-calls::tag_call
+decreases-calls::tag_call g l = 8 * l.open.now.left + 4
+
+abbrev pub decreases-calls::enter_call : goal.decreases-calls::enter_call
+decreases-calls::enter_call g l = 8 * l.open.now.left + 3
+
+abbrev pub decreases-calls::given_call : goal.decreases-calls::given_call
+decreases-calls::given_call g l = 8 * l.open.now.left + 4
+
+abbrev pub decreases-pages::include_call : goal.decreases-pages::include_call
+decreases-pages::include_call g l = 8 * l.open.now.left + 4
+
+abbrev pub decreases-pages::import_call : goal.decreases-pages::import_call
+decreases-pages::import_call g l = 8 * l.open.now.left + 4
+
+abbrev pub decreases-pages::include : goal.decreases-pages::include
+decreases-pages::include g l = 8 * l.open.now.left + 3
+
+abbrev pub decreases-pages::included_page : goal.decreases-pages::included_page
+decreases-pages::included_page g l = 8 * l.left + 9
+
+abbrev pub decreases-pages::page_run : goal.decreases-pages::page_run
+decreases-pages::page_run g l = 8 * l.left + 8
+
+-- the turns that are left: page_table's number, with the visits that the world has counted
+abbrev pub decreases-turn::run_code-loop-to : goal.decreases-turn::run_code-loop-to
+decreases-turn::run_code-loop-to g l =
+    (visit_limit - g.W.World.visits l.world) * span (code_of (seat_of l.seat)) + weight (length (code_of (seat_of l.seat))) l.pc (open_of l.open).catches
+
+abbrev pub invariant-turn::run_code-loop-to : goal.invariant-turn::run_code-loop-to
+invariant-turn::run_code-loop-to g l = record {
+  left : l.open.left ≡ l.left;
+  covered : g.W.World.covered l.world;
+  known : Known g.W.World.reached g.W.World.stores l.served l.world;
+  holds : SeatHolds (seat_of l.seat) (length (g.W.World.variables l.world).frames);
+  standing : Standing (seat_of l.seat) l.pc (g.W.World.kept l.world) (open_of l.open);
+  so_far : (serving : Serving) → ServesSo g.W.World.stores l.served l.fn.world serving → (first : g.row.W.Denot) (origin : Origin) (s : State) → g.W.World.reached first origin l.fn.world s
+      → SoFar serving (seat_of l.seat) l.at l.left s (g.W.World.reached first origin l.world) (g.W.World.replies l.fn.world) (g.W.World.replies l.world) l.pc (open_of l.open);
+}

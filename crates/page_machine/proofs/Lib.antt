@@ -1,0 +1,12 @@
+pub mod CallExits
+pub mod Calling
+pub mod Entering
+pub mod GivenCalls
+pub mod GivenRuns
+pub mod IncludedRuns
+pub mod Lending
+pub mod Looping
+pub mod PageCalls
+pub mod Room
+pub mod TagCalls
+pub mod Turning

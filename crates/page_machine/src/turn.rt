@@ -1,0 +1,116 @@
+// The run of a code.
+ghost use Rattle.std.specs.Prelude.{◌≡◌, ◌+◌, ◌<◌, ◌^◌, length};
+ghost use Rattle.page_code.specs.Fits.{Carries};
+ghost use Rattle.page_code.specs.Shapes.{empty_shape};
+ghost use Rattle.page_machine.specs.Turn.{CallBegins, CodeRuns, Ran, SeatHolds, Standing, Stepped};
+ghost use Rattle.page_table.specs.Act.{called_out, move_of};
+ghost use Rattle.page_table.specs.Checked.{SeatFits};
+ghost use Rattle.page_table.specs.Finds.{CallFinds};
+ghost use Rattle.page_table.specs.Seat.{code_of};
+ghost use Rattle.run_moves.specs.Opened.{open_of};
+ghost use Rattle.run_world.specs.Known.{Known, ServesSo};
+ghost use Rattle.run_world.specs.Seats.{seat_of};
+
+use crate::calls::{given_call, tag_call};
+use crate::pages::{import_call, include_call};
+use page_code::{CallOut, Instr};
+use pg_text::Place;
+use run_moves::{End, Flow, Open, step};
+use run_world::{Seat, Served, World};
+use std::alloc::Global;
+
+/// Runs a checked code from a place in it to its end.
+#[cycle(machine)]
+pub(crate) fn run_code<W: World>(
+    alloc: Global,
+    served: &Served,
+    seat: &Seat,
+    at: usize,
+    left: u32,
+    world: &mut W,
+) -> End
+    requires covered { W.covered world.old }
+    requires known { Known W.reached W.stores served.now world.old }
+    requires seat { SeatFits (seat_of seat.now) }
+    requires holds { SeatHolds (seat_of seat.now) (length (W.variables world.old).frames) }
+    requires at { Carries (code_of (seat_of seat.now)) at empty_shape }
+    ensures covered { W.covered world.new }
+    ensures ran { Ran W.reached W.replies (ServesSo W.stores served.now) (CodeRuns (seat_of seat.now) at left) world.old world.new result }
+{
+    let mut open = Open::fresh(alloc, left);
+    let mut pc = at;
+    loop {
+        match turn(alloc, served, seat, pc, &mut open, world) {
+            Flow::Go(to) => pc = to,
+            Flow::Over(end) => return end,
+        }
+    }
+}
+
+// One instruction, with the run that it calls.
+#[cycle(machine)]
+fn turn<W: World>(
+    alloc: Global,
+    served: &Served,
+    seat: &Seat,
+    pc: usize,
+    open: &mut Open,
+    world: &mut W,
+) -> Flow
+    requires covered { W.covered world.old }
+    requires known { Known W.reached W.stores served.now world.old }
+    requires seat { SeatFits (seat_of seat.now) }
+    requires holds { SeatHolds (seat_of seat.now) (length (W.variables world.old).frames) }
+    requires standing { Standing (seat_of seat.now) pc (W.kept world.old) (open_of open.old) }
+    ensures covered { W.covered world.new }
+    ensures stepped { Stepped W.reached W.replies (ServesSo W.stores served.now) (seat_of seat.now) (λ serving s. move_of serving (seat_of seat.now) pc s (open_of open.old)) world.old world.new (open_of open.new) result }
+    ensures left { open.new.left ≡ open.old.left }
+{
+    let code = seat.code();
+    if pc >= code.len() {
+        unreachable!()
+    }
+    let Some(cell) = code.get(pc) else {
+        unreachable!()
+    };
+    match &cell.instr {
+        Instr::CallOut(what) => call_out(alloc, served, seat, pc, &cell.place, what, open, world),
+        instr => step(alloc, served, seat, pc, &cell.place, instr, open, world),
+    }
+}
+
+// One call, with the run that it goes into.
+#[cycle(machine)]
+fn call_out<W: World>(
+    alloc: Global,
+    served: &Served,
+    seat: &Seat,
+    pc: usize,
+    place: &Place,
+    what: &CallOut,
+    open: &mut Open,
+    world: &mut W,
+) -> Flow
+    requires covered { W.covered world.old }
+    requires known { Known W.reached W.stores served.now world.old }
+    requires seat { SeatFits (seat_of seat.now) }
+    requires holds { SeatHolds (seat_of seat.now) (length (W.variables world.old).frames) }
+    requires within { length (code_of (seat_of seat.now)) < 2 ^ 64 }
+    requires begins { CallBegins (code_of (seat_of seat.now)) (pc + 1) what.now }
+    requires finds { CallFinds (length (code_of (seat_of seat.now))) (pc + 1) (open_of open.old) what.now }
+    ensures covered { W.covered world.new }
+    ensures stepped { Stepped W.reached W.replies (ServesSo W.stores served.now) (seat_of seat.now) (λ serving s. called_out serving (seat_of seat.now) place.now (pc + 1) what.now s (open_of open.old)) world.old world.new (open_of open.new) result }
+    ensures left { open.new.left ≡ open.old.left }
+{
+    match what {
+        CallOut::Tag(call) => tag_call(alloc, served, seat, pc, place, call, open, world),
+        CallOut::Body => given_call(alloc, served, seat, pc, place, None, open, world),
+        CallOut::Fragment(name) => {
+            given_call(alloc, served, seat, pc, place, Some(name), open, world)
+        }
+        CallOut::Include { flush, params } => {
+            include_call(alloc, served, seat, pc, place, *flush, *params, open, world)
+        }
+        CallOut::Import => import_call(alloc, served, seat, pc, place, open, world),
+    }
+}
