@@ -10,6 +10,7 @@ mod cells;
 mod choosing;
 mod enclosing;
 
+pub use arranging::{arranged, swapped};
 pub use calling::{Handed, ended, tag_call};
 pub use cells::{call, leave, operation};
 pub use choosing::{chosen, where_null};

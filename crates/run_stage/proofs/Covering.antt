@@ -1,5 +1,5 @@
 -- What a request's promise covers, and what stays covered while a run asks.
-use Rattle.std.proofs.Common.{◌≡◌, ◌⊎◌, inl, inr, ◌≤◌, ◌<◌, ◌+◌, ℕ, Bool, true, false, List, Option, refl, ◌∙◌, arith}
+use Rattle.std.proofs.Common.{◌≡◌, ◌⊎◌, inl, inr, ◌≤◌, ◌<◌, ◌+◌, ℕ, Bool, true, false, List, Option, refl, ap, ◌∙◌, arith}
 use Rattle.std.specs.Prelude.{◌&&◌, ◌||◌, nat_le, nat_lt, not}
 use Rattle.std.proofs.lemmas.Bool.Decides.{nat_tests}
 use Rattle.page_meaning.specs.Work.{charge_limit}
@@ -106,6 +106,14 @@ pub covered_looked : (attributes : Option Entries) (id : Option (List ℕ)) (vis
 covered_looked attributes id visited n m old new path file c looked claims is =
     let low = look_low (page_claim path) n claims c.charge in
     covered_asked attributes id visited n m old new c looked.has_session (omega (arith, is, low)) (omega (arith, is, looked.left, look_claimed path file))
+
+-- so does one for which memory was wanting, whether it was looked for or not
+pub covered_short : (attributes : Option Entries) (id : Option (List ℕ)) (visited n m : ℕ) (old new : Asking) (path : List ℕ) (file : Option File) → Covered attributes id visited n old → HasLooked old new path file ⊎ (new ≡ old)
+    → (page_claim path ≡ 0) ⊎ ((n < 1048576) × (page_claim path ≤ 2208)) → m ≡ n + page_claim path → Covered attributes id visited m new
+covered_short attributes id visited n m old new path file c (inl looked) claims is = covered_looked attributes id visited n m old new path file c looked claims is
+covered_short attributes id visited n m old new path file c (inr e) claims is =
+    let low = look_low (page_claim path) n claims c.charge in
+    covered_asked attributes id visited n m old new c (ap (λ (a : Asking). a.has_session) e) (omega (arith, is, low)) (omega (arith, is, ap (λ (a : Asking). a.left) e))
 
 -- so does one that claims nothing
 pub covered_plain : (attributes : Option Entries) (id : Option (List ℕ)) (visited n : ℕ) (old new : Asking) (path : List ℕ) (file : Option File) → Covered attributes id visited n old → HasLooked old new path file → page_claim path ≡ 0

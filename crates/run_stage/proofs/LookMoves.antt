@@ -1,5 +1,5 @@
 -- What a look at a path does of the state for which a stage stands.
-use Rattle.std.proofs.Common.{◌≡◌, ◌⊎◌, inl, ◌≤◌, ◌+◌, ◌*◌, ℕ, Bool, true, false, List, [], ◌∷◌, ◌++◌, length, Option, Some, None, Ok, Err, refl, sym, ap, ◌∙◌, subst, append-nil, arith}
+use Rattle.std.proofs.Common.{◌≡◌, ◌⊎◌, inl, inr, ◌≤◌, ◌+◌, ◌*◌, ℕ, Bool, true, false, List, [], ◌∷◌, ◌++◌, length, Option, Some, None, Ok, Err, refl, sym, ap, ◌∙◌, subst, append-nil, arith}
 use Rattle.std.specs.Prelude.{◌&&◌, if◌then◌else◌, nat_le}
 use Rattle.page_meaning.specs.Growth.{state_of, Grows}
 use Rattle.page_meaning.specs.Includes.{ask_page, fetched_or_fault}
@@ -110,6 +110,26 @@ module _ {P K : Type 0} {taken : K → Option (List ℕ)} {faults : K → ℕ} {
     };
   }
 
+  -- memory was wanting before anything was looked for
+  pub unlooked_doing : (leads_on : (first second third : P) → leads first second → leads second third → leads first third) → (w : Stage P K) (port : P) (serving : Serving) (path : List ℕ) → (is_page path && nat_le charge_limit w.around.now.charge) ≡ false
+      → leads w.port.now port → tree port ≡ tree w.port.now → asking port ≡ asking w.port.now → (n : ℕ) → n ≡ w.around.now.charge + page_claim path → (n ≡ w.around.now.charge) ⊎ (n ≤ 4197000)
+      → Doing (Reached taken faults leads asking tree) (λ w. (asking w.port.now).answers) (λ (p : Paged Program). paged_of (stored_of p)) (λ place. ask_page (served_of serving) place path) w (asked_stage w port n)
+      (Err failure.NoMemory)
+  unlooked_doing leads_on w port serving path allowed on same e n is rise = record {
+    by = λ first origin s r.
+        let after : State = record s { asked = s.asked; charge = n } in
+        record {
+          got = [];
+          replies = ap (λ (a : Asking). a.answers) e ∙ sym (append-nil (asking w.port.now).answers);
+          after = after;
+          stood = stage_asked leads_on first w origin s port n n [] s.asked r on same (ap (λ (a : Asking). a.asked) e ∙ sym (append-nil (asking w.port.now).asked)) (sym (append-nil s.asked)) rise
+              (omega (arith, ap (λ (a : Asking). a.left) e, is)) refl;
+          went = λ place future.
+              subst (λ x. Grows after (state_of x)) (sym (look_goes serving place path (given future s) w.around.now.charge (serving.stored path) allowed r.charge refl))
+              (unfetched_grows (serving.stored path) place path after (given future s) refl refl);
+        };
+  }
+
   module _ (made : Program → List File → List ℕ → Type 0) (faulty : PageFault → List File → List ℕ → Type 0) (leads_on : (first second third : P) → leads first second → leads second third → leads first third)
       (w : Stage P K) (port : P) (serving : Serving) (path : List ℕ) (allowed : (is_page path && nat_le charge_limit w.around.now.charge) ≡ false) (stores : StoresSo made faulty (tree w.port.now) serving.stored)
       (on : leads w.port.now port) (same : tree port ≡ tree w.port.now) (looked : HasLooked (asking w.port.now) (asking port) path (file_at path (tree w.port.now))) where
@@ -199,3 +219,14 @@ module _ {P K : Type 0} {taken : K → Option (List ℕ)} {faults : K → ℕ} {
                   (look_grows file (serving.stored path) place path s after (given future s) (stores.pages path) refl refl refl);
             };
       }
+
+  -- memory was wanting to tell what stands there, whether it was looked for or not
+  pub short_doing : (made : Program → List File → List ℕ → Type 0) (faulty : PageFault → List File → List ℕ → Type 0) (leads_on : (first second third : P) → leads first second → leads second third → leads first third)
+      (w : Stage P K) (port : P) (serving : Serving) (path : List ℕ) (allowed : (is_page path && nat_le charge_limit w.around.now.charge) ≡ false) (stores : StoresSo made faulty (tree w.port.now) serving.stored)
+      (on : leads w.port.now port) (same : tree port ≡ tree w.port.now)
+      → HasLooked (asking w.port.now) (asking port) path (file_at path (tree w.port.now)) ⊎ (asking port ≡ asking w.port.now)
+      → (n : ℕ) → n ≡ w.around.now.charge + page_claim path → (n ≡ w.around.now.charge) ⊎ (n ≤ 4197000)
+      → Doing (Reached taken faults leads asking tree) (λ w. (asking w.port.now).answers) (λ (p : Paged Program). paged_of (stored_of p)) (λ place. ask_page (served_of serving) place path) w (asked_stage w port n)
+      (Err failure.NoMemory)
+  short_doing made faulty leads_on w port serving path allowed stores on same (inl looked) n is rise = untold_doing made faulty leads_on w port serving path allowed stores on same looked n is rise
+  short_doing made faulty leads_on w port serving path allowed stores on same (inr e) n is rise = unlooked_doing leads_on w port serving path allowed on same e n is rise

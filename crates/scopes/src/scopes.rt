@@ -1,7 +1,7 @@
 ghost use Rattle.std.specs.Prelude.{◌≡◌, ◌<◌, [], length, option_map, unwrap_or, IsNone, OnOk, OnErr, IfOk};
 ghost use Rattle.pg_text.specs.Failure.{Answers};
 ghost use Rattle.pg_value.specs.Value.{datum_of};
-ghost use Rattle.scopes.specs.Scopes.{starting, entries_in, found_in, found, with_variable, without_variable, set_answer, record_answer, with_frame, with_frame_of, without_frame, turned_to, with_session};
+ghost use Rattle.scopes.specs.Scopes.{starting, entries_in, found_in, found, with_variable, without_variable, set_answer, record_answer, restarted, with_frame, with_frame_of, without_frame, turned_to, with_session};
 
 use crate::attributes;
 use crate::held_scope::HeldScope;
@@ -170,6 +170,16 @@ impl Scopes {
         let last = self.frames.len() - 1;
         self.frames.truncate(last);
         self.current = (last - 1) as u32;
+    }
+
+    /// Leaves one frame, an empty one, as at the beginning of a page run.
+    pub fn restart(&mut self)
+        ensures { self.new ≡ restarted self.old }
+    {
+        let frame = Attrs::empty(*self.frames.allocator());
+        self.frames.truncate(1);
+        self.frames[0] = frame;
+        self.current = 0;
     }
 
     /// Makes the frame of this number current, counted from 0, and answers the number of the one that was.

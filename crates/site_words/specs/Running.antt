@@ -1,5 +1,5 @@
 -- What a running page asks, and what it is answered.
-use Rattle.std.specs.Prelude.{◌≡◌, ℕ, ◌+◌, ◌*◌, ◌≤◌, ◌||◌, Bool, true, false, List, [], ◌∷◌, ◌++◌, length, codes, nat_eq, Option, Some, None, Result, Ok, Err, if◌then◌else◌, ⊤}
+use Rattle.std.specs.Prelude.{◌≡◌, ◌⊎◌, ℕ, ◌+◌, ◌*◌, ◌≤◌, ◌||◌, Bool, true, false, List, [], ◌∷◌, ◌++◌, length, codes, nat_eq, Option, Some, None, Result, Ok, Err, if◌then◌else◌, ⊤}
 use Rattle.std.specs.Arc.{arc_value}
 use Rattle.std.specs.List.{ends_with}
 use Rattle.pg_text.specs.declared.place.PageFault.{PageFault}
@@ -78,6 +78,11 @@ pub record HasLooked (old new : Asking) (path : List ℕ) (found : Option File) 
   pub answers : new.answers ≡ old.answers
   pub has_session : new.has_session ≡ old.has_session
   pub left : old.left ≤ new.left + look_claim path found
+
+-- what stands at a path was looked for; where memory was wanting it may not have been
+abbrev pub Looks : Asking → Asking → List ℕ → Option File → {A E : Type 0} → Result A E → Type 0
+Looks old new path found (Ok a) = HasLooked old new path found
+Looks old new path found (Err e) = HasLooked old new path found ⊎ (new ≡ old)
 
 -- a file that isn't a page is answered by its text
 abbrev pub IsPlain : List ℕ → Option File → List ℕ → Type 0

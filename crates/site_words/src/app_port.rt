@@ -3,7 +3,7 @@ ghost use Rattle.pg_text.specs.declared.place.PageFault.{PageFault as Fault};
 ghost use Rattle.source_tree.specs.Edits.{file_at};
 ghost use Rattle.source_tree.specs.declared.file.File.{File};
 ghost use Rattle.site_words.specs.Fits.{fits_step};
-ghost use Rattle.site_words.specs.Running.{Asking, HasLooked, IsGivenSession, IsPaged, IsTold, page_claim};
+ghost use Rattle.site_words.specs.Running.{Asking, IsGivenSession, IsPaged, IsTold, Looks, page_claim};
 ghost use Rattle.site_words.specs.Weights.{end_weight, step_weight, value_limit};
 
 use crate::port::Fresh;
@@ -57,7 +57,7 @@ pub trait AppPort<P> {
     fn page(&mut self, path: &Path) -> Result<Paged<P>, AllocError>
         requires room { page_claim path.now + end_weight ≤ (asking self.old).left }
         ensures paged { IfOk result (λ paged. IsPaged made faulty (tree self.old) path.now paged) }
-        ensures looked { HasLooked (asking self.old) (asking self.new) path.now (file_at path.now (tree self.old)) }
+        ensures looked { Looks (asking self.old) (asking self.new) path.now (file_at path.now (tree self.old)) result }
         ensures tree { tree self.new ≡ tree self.old }
         ensures leads { leads self.old self.new };
 

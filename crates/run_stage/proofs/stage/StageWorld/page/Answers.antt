@@ -1,6 +1,6 @@
 use Rattle.std.proofs.Common.{◌≤◌, ◌+◌, ap, refl, subst, sym, arith}
-use Rattle.run_stage.proofs.Covering.{covered_looked, covered_plain, look_claims, look_low, look_rises, look_room}
-use Rattle.run_stage.proofs.LookMoves.{absent_doing, bad_doing, page_doing, plain_claimed, plain_doing, plain_steps, refused_doing, untold_doing}
+use Rattle.run_stage.proofs.Covering.{covered_looked, covered_plain, covered_short, look_claims, look_low, look_rises, look_room}
+use Rattle.run_stage.proofs.LookMoves.{absent_doing, bad_doing, page_doing, plain_claimed, plain_doing, plain_steps, refused_doing, short_doing}
 use Rattle.run_stage.proofs.stage.StageWorld.page.Goals as goal
 use Rattle.run_world.specs.Programs.{program_of}
 use Rattle.run_world.specs.declared.program.Program as machine_program
@@ -40,7 +40,7 @@ returns-in_default-clause-covered g c =
     let claim = c.look_charge-charge.ensures in
     let short : page_claim path ≤ 2208 = omega (arith, claim.claim, claim.short) in
     let claims = look_claims path w.around.now.charge (sym c.if-is_refused.ensures) short in
-    covered_looked w.scopes.now.session w.around.now.id w.around.now.visits w.around.now.charge (w.around.now.charge + c.look_charge-charge.result) (g.P.AppPort.asking w.port.now) (g.P.AppPort.asking c.page.new.self) path
+    covered_short w.scopes.now.session w.around.now.id w.around.now.visits w.around.now.charge (w.around.now.charge + c.look_charge-charge.result) (g.P.AppPort.asking w.port.now) (g.P.AppPort.asking c.page.new.self) path
     (file_at path (g.P.AppPort.tree w.port.now)) c.requires.covered c.in_default.ensures.looked claims (ap (λ k. w.around.now.charge + k) claim.claim)
 
 pub returns-in_default-clause-does : goal.returns-in_default-clause-does
@@ -50,7 +50,7 @@ returns-in_default-clause-does g c = λ serving stores.
     let claim = c.look_charge-charge.ensures in
     let short : page_claim path ≤ 2208 = omega (arith, claim.claim, claim.short) in
     let claims = look_claims path w.around.now.charge (sym c.if-is_refused.ensures) short in
-    untold_doing g.P.AppPort.made g.P.AppPort.faulty g.met.P.AppPort.leads_on w c.page.new.self serving path (sym c.if-is_refused.ensures) stores c.in_default.ensures.leads c.in_default.ensures.tree c.in_default.ensures.looked (w.around.now.charge + c.look_charge-charge.result) (ap (λ k. w.around.now.charge + k) claim.claim)
+    short_doing g.P.AppPort.made g.P.AppPort.faulty g.met.P.AppPort.leads_on w c.page.new.self serving path (sym c.if-is_refused.ensures) stores c.in_default.ensures.leads c.in_default.ensures.tree c.in_default.ensures.looked (w.around.now.charge + c.look_charge-charge.result) (ap (λ k. w.around.now.charge + k) claim.claim)
     (look_rises (page_claim path) w.around.now.charge (w.around.now.charge + c.look_charge-charge.result) claims (ap (λ k. w.around.now.charge + k) claim.claim))
 
 pub returns-in-Absent-clause-does : goal.returns-in-Absent-clause-does
