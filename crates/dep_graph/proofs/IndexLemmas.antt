@@ -1,75 +1,28 @@
--- An index stays one of what the paths need.
-use Rattle.std.proofs.Common.{◌≡◌, ◌<◌, ◌≤◌, ℕ, ◌+◌, Bool, true, false, not, List, [], ◌∷◌, ◌++◌, length, get_or, map, filter, take, drop, set, zero, suc, Option, Some, None, option_map, Result, Ok, Err, refl, sym, ap, subst, ◌∙◌, inl, inr, if◌then◌else◌, arith}
+-- An index tells who needs a name, once a path needs more names or fewer.
+use Rattle.std.proofs.Common.{◌≡◌, ◌<◌, ℕ, ◌+◌, Bool, true, false, List, [], ◌∷◌, ◌++◌, length, get_or, take, drop, set, zero, suc, Option, Some, None, option_map, Result, Ok, Err, refl, sym, ap, ◌∙◌, if◌then◌else◌, arith}
 use Rattle.std.specs.Prelude.{◌||◌, ◌==◌}
 use Rattle.std.specs.Cmp.Lexicographic.{same_text}
-use Rattle.std.specs.List.{All, insert}
+use Rattle.std.specs.List.{insert, remove}
+use Rattle.std.specs.Ordering.{match_ordering}
+use Rattle.std.specs.Result.{OnOk, is_err}
 use Rattle.std.specs.Str.{bytes_eq}
-use Rattle.std.specs.declared.cmp.Ordering.TheVariants.{Less, Greater}
-use Rattle.std.proofs.lemmas.Cmp.{nat_list_eq_equiv}
+use Rattle.std.specs.declared.cmp.Ordering.{Ordering}
+use Rattle.std.specs.declared.cmp.Ordering.TheVariants.{Less, Equal, Greater}
 use Rattle.std.proofs.lemmas.Bool.Decides.{nat_tests}
-use Rattle.std.proofs.lemmas.List.{drop_more, map-append}
-use Rattle.std.proofs.lemmas.List.Elements.{All-filter, All-map, filter-append}
-use Rattle.pg_text.specs.Names.{has_name, with_name, without_name}
-use Rattle.pg_text.specs.Order.{AreRising, IsPlace, IsSplit, item_at, path_cmp, with_item, without_item}
+use Rattle.std.proofs.lemmas.Cmp.{nat_list_eq_equiv}
+use Rattle.std.proofs.lemmas.List.{drop_more, take_more}
 use Rattle.std.proofs.lemmas.List.Kept.{AllPairs-filter}
-use Rattle.pg_text.proofs.ItemLemmas.{IsBelow, at_with, changed_at, changed_order, keep, kept_at, order_with}
-use Rattle.pg_text.proofs.NameLemmas.{put_twice, with_higher, with_lower}
-use Rattle.pg_text.proofs.PlaceLemmas.{with_absent, with_found, with_split, without_split}
-use Rattle.dep_graph.specs.declared.entries.Dependent.{Dependent}
+use Rattle.pg_text.specs.Names.{has_name, with_name, without_name}
+use Rattle.pg_text.specs.Order.{AreRising, IsPlace, item_at, path_cmp, with_item}
+use Rattle.pg_text.proofs.ItemLemmas.{IsBelow, at_with, at_without, order_with}
+use Rattle.pg_text.proofs.PlaceLemmas.{item_absent, item_found, with_absent, with_found, without_absent, without_found}
 use Rattle.dep_graph.specs.declared.entries.Named.{Named}
-use Rattle.dep_graph.specs.Deps.{IsIndexOf, all_indexed, has_some, indexed, is_used, kept_for, let_go, name_of, path_of, some_paths, unindexed, users_of}
+use Rattle.dep_graph.specs.Deps.{IsNew, Tells, all_indexed, all_unlisted, indexed, kept_for, name_of, relisted, some_paths, unlisted}
+use Rattle.dep_graph.proofs.UserLemmas.{added, added_twice, dropped, dropped_twice, taken_back}
 
 -- the users that an index tells of a name
-abbrev pub told : List ℕ → List Named → Option (List (List ℕ))
+abbrev told : List ℕ → List Named → Option (List (List ℕ))
 told name index = option_map (λ (named : Named). named.users) (item_at name_of name index)
-
--- the paths, with this one where it needs the name
-abbrev pub added : Bool → List ℕ → List (List ℕ) → List (List ℕ)
-added true path paths = with_name path paths
-added false path paths = paths
-
-pub used_is : (paths : List (List ℕ)) → not (length paths == 0) ≡ has_some paths
-used_is [] = refl
-used_is (path ∷ paths) = let few : (length (path ∷ paths) == 0) ≡ false = grind (arith, nat_tests) in ap not few
-
--- a path that needs nothing any more
-
-module _ (path name : List ℕ) where
-  -- one dependent more, which has the path or another one, and needs the name or doesn't
-  unused_more : (has_path needs : Bool) (dependent : Dependent) (others users : List Dependent) → bytes_eq dependent.path path ≡ has_path → has_name name dependent.names ≡ needs
-      → users_of name others ≡ without_name path (map path_of users)
-      → users_of name (if not has_path then dependent ∷ others else others) ≡ without_name path (map path_of (if needs then dependent ∷ users else users))
-  unused_more true true dependent others users same uses more = rw same more
-  unused_more true false dependent others users same uses more = more
-  unused_more false true dependent others users other uses more = rw (uses, other) (ap (λ l. dependent.path ∷ l) more)
-  unused_more false false dependent others users other uses more = rw uses more
-
-  unused : (dependents : List Dependent) → users_of name (without_item path_of path dependents) ≡ without_name path (users_of name dependents)
-  unused [] = refl
-  unused (dependent ∷ dependents) =
-      unused_more (bytes_eq dependent.path path) (has_name name dependent.names) dependent (without_item path_of path dependents) (filter (λ (other : Dependent). has_name name other.names) dependents) refl refl (unused dependents)
-
-  some : (kept : List ℕ) (paths : List (List ℕ)) → option_map (λ (named : Named). named.users) (if has_some paths then Some (record { name = kept; users = paths }) else None) ≡ some_paths paths
-  some kept [] = refl
-  some kept (first ∷ paths) = refl
-
-  let_all_go : (found : Option Named) (users : List (List ℕ)) → option_map (λ (named : Named). named.users) found ≡ some_paths users
-      → option_map (λ (named : Named). named.users) (keep name_of is_used (option_map (let_go path) found)) ≡ some_paths (without_name path users)
-  let_all_go None [] is = refl
-  let_all_go None (user ∷ users) is = absurd (cc)
-  let_all_go (Some named) [] is = absurd (cc)
-  let_all_go (Some named) (user ∷ users) is =
-      let same : named.users ≡ user ∷ users = cc in
-      some named.name (without_name path named.users) ∙ ap (λ l. some_paths (without_name path l)) same
-
-pub unindexed_is : (path : List ℕ) (dependents : List Dependent) (index : List Named) → AreRising name_of index → IsIndexOf dependents index → IsIndexOf (without_item path_of path dependents) (unindexed path index)
-unindexed_is path dependents index order is = λ name.
-    ap (option_map (λ (named : Named). named.users))
-    (kept_at name_of is_used name (map (let_go path) index) (changed_order name_of (let_go path) (λ named. refl) index order) ∙ ap (keep name_of is_used) (changed_at name_of (let_go path) (λ named. refl) name index))
-    ∙ let_all_go path name (item_at name_of name index) (users_of name dependents) (is name)
-    ∙ ap some_paths (sym (unused path name dependents))
-
--- a path that needs more names
 
 kept_is : (found : Option Named) (users : List (List ℕ)) → option_map (λ (named : Named). named.users) found ≡ some_paths users → kept_for found ≡ users
 kept_is None [] is = refl
@@ -78,23 +31,17 @@ kept_is (Some named) [] is = absurd (cc)
 kept_is (Some named) (user ∷ users) is = cc
 
 some_with : (path : List ℕ) (paths : List (List ℕ)) → Some (with_name path paths) ≡ some_paths (with_name path paths)
-some_with path paths = go (with_name path paths) (some_there paths)
+some_with path [] = refl
+some_with path (first ∷ paths) = go (path_cmp path first)
   where
-    some_there : (paths : List (List ℕ)) → has_some (with_name path paths) ≡ true
-    some_there [] = refl
-    some_there (first ∷ paths) = elim (path_cmp path first) as (λ o. has_some (Rattle.std.specs.Ordering.match_ordering o (path ∷ first ∷ paths) (first ∷ paths) (first ∷ with_name path paths)) ≡ true) [ Rattle.std.specs.declared.cmp.Ordering.TheVariants.Less ↦ refl | Rattle.std.specs.declared.cmp.Ordering.TheVariants.Equal ↦ refl | Rattle.std.specs.declared.cmp.Ordering.TheVariants.Greater ↦ refl ]
+    go : (o : Ordering) → Some (match_ordering o (path ∷ first ∷ paths) (first ∷ paths) (first ∷ with_name path paths)) ≡ some_paths (match_ordering o (path ∷ first ∷ paths) (first ∷ paths) (first ∷ with_name path paths))
+    go Less = refl
+    go Equal = refl
+    go Greater = refl
 
-    go : (paths : List (List ℕ)) → has_some paths ≡ true → Some paths ≡ some_paths paths
-    go [] there = absurd (cc)
-    go (first ∷ paths) there = refl
+-- a path that needs more names
 
-twice : (a b : Bool) (path : List ℕ) (paths : List (List ℕ)) → added b path (added a path paths) ≡ added (a || b) path paths
-twice true true path paths = put_twice path paths
-twice true false path paths = refl
-twice false b path paths = refl
-
-indexed_is : (path name : List ℕ) (index : List Named) (users : List ℕ → List (List ℕ)) → ((other : List ℕ) → told other index ≡ some_paths (users other))
-    → (other : List ℕ) → told other (indexed path name index) ≡ some_paths (added (bytes_eq other name) path (users other))
+indexed_is : (path name : List ℕ) (index : List Named) (users : List ℕ → List (List ℕ)) → Tells index users → Tells (indexed path name index) (λ other. added (bytes_eq other name) path (users other))
 indexed_is path name index users is other =
     let item : Named = record { name = name; users = with_name path (kept_for (item_at name_of name index)) } in
     ap (option_map (λ (named : Named). named.users)) (at_with name_of item other index) ∙ go (bytes_eq name other) refl
@@ -107,82 +54,139 @@ indexed_is path name index users is other =
         ap (λ l. Some (with_name path l)) here ∙ some_with path (users other)
     go false away = is other
 
-pub all_indexed_is : (path : List ℕ) (names : List (List ℕ)) (index : List Named) (users : List ℕ → List (List ℕ)) → ((other : List ℕ) → told other index ≡ some_paths (users other))
-    → (other : List ℕ) → told other (all_indexed path names index) ≡ some_paths (added (has_name other names) path (users other))
+pub all_indexed_is : (path : List ℕ) (names : List (List ℕ)) (index : List Named) (users : List ℕ → List (List ℕ)) → Tells index users → Tells (all_indexed path names index) (λ other. added (has_name other names) path (users other))
 all_indexed_is path [] index users is other = is other
 all_indexed_is path (name ∷ names) index users is other =
     all_indexed_is path names (indexed path name index) (λ o. added (bytes_eq o name) path (users o)) (indexed_is path name index users is) other
-    ∙ ap some_paths (twice (bytes_eq other name) (has_name other names) path (users other))
-
-pub all_indexed_order : (path : List ℕ) (names : List (List ℕ)) (index : List Named) → AreRising name_of index → AreRising name_of (all_indexed path names index)
-all_indexed_order path [] index order = order
-all_indexed_order path (name ∷ names) index order = all_indexed_order path names (indexed path name index) (order_with name_of _ index order)
+    ∙ ap some_paths (added_twice (bytes_eq other name) (has_name other names) path (users other))
 
 pub indexed_order : (path name : List ℕ) (index : List Named) → AreRising name_of index → AreRising name_of (indexed path name index)
 indexed_order path name index order = order_with name_of _ index order
 
--- who needs a name once a path needs other names
+-- a path that needs fewer names
 
-module _ (dependent : Dependent) (dependents : List Dependent) (name : List ℕ) where
-  -- the users among some dependents, those with one more behind others, and those of the lower and the higher ones
-  behind : (low high : List (List ℕ)) → All (λ n. path_cmp n dependent.path ≡ Less) low → All (λ n. path_cmp n dependent.path ≡ Greater) high
-      → (b : Bool) (higher : List Dependent) → map path_of higher ≡ high → low ++ map path_of (if b then dependent ∷ higher else higher) ≡ added b dependent.path (low ++ high)
-  behind low high all_low all_high true higher is =
-      sym (with_lower dependent.path low high all_low ∙ ap (λ l. low ++ l) (with_higher dependent.path high all_high ∙ ap (λ l. dependent.path ∷ l) (sym is)))
-  behind low high all_low all_high false higher is = ap (λ l. low ++ l) is
+unlisted_is : (path name : List ℕ) (index : List Named) (users : List ℕ → List (List ℕ)) → Tells index users → Tells (unlisted path name index) (λ other. dropped (bytes_eq other name) path (users other))
+unlisted_is path name index users is other =
+    go (without_name path (kept_for (item_at name_of name index))) (ap (without_name path) (kept_is (item_at name_of name index) (users name) (is name)))
+    ∙ ap (λ b. some_paths (dropped b path (users other))) (nat_list_eq_equiv.symm name other)
+  where
+    here : (left : List (List ℕ)) → left ≡ without_name path (users name) → (found : Option Named) → option_map (λ (named : Named). named.users) found ≡ some_paths left → (b : Bool) → bytes_eq name other ≡ b
+        → option_map (λ (named : Named). named.users) (if b then found else item_at name_of other index) ≡ some_paths (dropped b path (users other))
+    here left of found tells true same = tells ∙ ap some_paths (of ∙ ap (λ n. without_name path (users n)) (same_text name other (sym same)))
+    here left of found tells false away = is other
 
-  users_split : (lower same higher : List Dependent) → IsSplit path_of dependent.path dependents lower same higher
-      → users_of name (with_item path_of dependent dependents) ≡ added (has_name name dependent.names) dependent.path (users_of name (without_item path_of dependent.path dependents))
-  users_split lower same higher split =
-      let h : Dependent → Bool = λ other. has_name name other.names in
-      let low : List (List ℕ) = map path_of (filter h lower) in
-      let high : List (List ℕ) = map path_of (filter h higher) in
-      let all_low : All (λ n. path_cmp n dependent.path ≡ Less) low = All-map (λ n. path_cmp n dependent.path ≡ Less) path_of (filter h lower) (All-filter h (λ other. path_cmp other.path dependent.path ≡ Less) lower split.below) in
-      let all_high : All (λ n. path_cmp n dependent.path ≡ Greater) high = All-map (λ n. path_cmp n dependent.path ≡ Greater) path_of (filter h higher) (All-filter h (λ other. path_cmp other.path dependent.path ≡ Greater) higher split.above) in
-      let parts : (more : List Dependent) → users_of name (lower ++ more) ≡ low ++ users_of name more = λ more. ap (map path_of) (filter-append h lower more) ∙ map-append path_of (filter h lower) (filter h more) in
-      ap (users_of name) (with_split path_of dependent dependents lower same higher split) ∙ parts (dependent ∷ higher)
-      ∙ behind low high all_low all_high (has_name name dependent.names) (filter h higher) refl
-      ∙ ap (added (has_name name dependent.names) dependent.path) (sym (ap (users_of name) (without_split path_of dependent.path dependents lower same higher split) ∙ parts higher))
+    go : (left : List (List ℕ)) → left ≡ without_name path (users name) → told other (relisted name left index) ≡ some_paths (dropped (bytes_eq name other) path (users other))
+    go [] of = ap (option_map (λ (named : Named). named.users)) (at_without name_of name other index) ∙ here [] of None refl (bytes_eq name other) refl
+    go (user ∷ left) of =
+        let item : Named = record { name = name; users = user ∷ left } in
+        ap (option_map (λ (named : Named). named.users)) (at_with name_of item other index) ∙ here (user ∷ left) of (Some item) refl (bytes_eq name other) refl
 
-  users_placed : (place : Result ℕ ℕ) → IsPlace path_of dependent.path dependents place
-      → users_of name (with_item path_of dependent dependents) ≡ added (has_name name dependent.names) dependent.path (users_of name (without_item path_of dependent.path dependents))
-  users_placed (Ok at) place = users_split _ _ _ place.1
-  users_placed (Err at) place = users_split _ _ _ place.1
+pub all_unlisted_is : (path : List ℕ) (names : List (List ℕ)) (index : List Named) (users : List ℕ → List (List ℕ)) → Tells index users → Tells (all_unlisted path names index) (λ other. dropped (has_name other names) path (users other))
+all_unlisted_is path [] index users is other = is other
+all_unlisted_is path (name ∷ names) index users is other =
+    all_unlisted_is path names (unlisted path name index) (λ o. dropped (bytes_eq o name) path (users o)) (unlisted_is path name index users is) other
+    ∙ ap some_paths (dropped_twice (bytes_eq other name) (has_name other names) path (users other))
 
--- the index goes along with a path that needs other names
-pub with_is : (dependent : Dependent) (dependents : List Dependent) (index : List Named) (place : Result ℕ ℕ) → IsPlace path_of dependent.path dependents place → AreRising name_of index → IsIndexOf dependents index
-    → IsIndexOf (with_item path_of dependent dependents) (all_indexed dependent.path dependent.names (unindexed dependent.path index))
-with_is dependent dependents index place placed order is = λ name.
-    all_indexed_is dependent.path dependent.names (unindexed dependent.path index) (λ other. users_of other (without_item path_of dependent.path dependents)) (unindexed_is dependent.path dependents index order is) name
-    ∙ ap some_paths (sym (users_placed dependent dependents name place placed))
+pub unlisted_order : (path name : List ℕ) (index : List Named) → AreRising name_of index → AreRising name_of (unlisted path name index)
+unlisted_order path name index order = go (without_name path (kept_for (item_at name_of name index)))
+  where
+    go : (left : List (List ℕ)) → AreRising name_of (relisted name left index)
+    go [] = AllPairs-filter (IsBelow name_of) _ index order
+    go (user ∷ left) = order_with name_of _ index order
 
-pub unindexed_order : (path : List ℕ) (index : List Named) → AreRising name_of index → AreRising name_of (unindexed path index)
-unindexed_order path index order = AllPairs-filter (IsBelow name_of) is_used (map (let_go path) index) (changed_order name_of (let_go path) (λ named. refl) index order)
+-- the same index tells the same
+pub retold : (index next : List Named) (users more : List ℕ → List (List ℕ)) → Tells index users → next ≡ index → ((name : List ℕ) → users name ≡ more name) → Tells next more
+retold index next users more is same each name = ap (told name) same ∙ is name ∙ ap some_paths (each name)
+
+-- names that a path needed for a while only
+pub taken_out : (path : List ℕ) (names : List (List ℕ)) (index : List Named) (users : List ℕ → List (List ℕ)) → Tells index users → IsNew path names users → Tells (all_unlisted path names (all_indexed path names index)) users
+taken_out path names index users is new other =
+    all_unlisted_is path names (all_indexed path names index) (λ o. added (has_name o names) path (users o)) (all_indexed_is path names index users is) other
+    ∙ ap some_paths (taken_back (has_name other names) path (users other) (new other))
+
+-- what is ensured of a call that doesn't fail
+pub done_where : {T E P : Type 0} (r : Result T E) → false ≡ is_err r → OnOk r P → P
+done_where (Ok v) fine ensured = ensured
+done_where (Err e) fails ensured = absurd (cc)
+
+-- one name after the other
+
+indexed_behind : (path : List ℕ) (names more : List (List ℕ)) (index : List Named) → all_indexed path (names ++ more) index ≡ all_indexed path more (all_indexed path names index)
+indexed_behind path [] more index = refl
+indexed_behind path (name ∷ names) more index = indexed_behind path names more (indexed path name index)
+
+pub indexed_more : (path : List ℕ) (names : List (List ℕ)) (i : ℕ) (name : List ℕ) (index old next : List Named) → i < length names → name ≡ get_or names i name → index ≡ all_indexed path (take i names) old → next ≡ indexed path name index
+    → next ≡ all_indexed path (take (i + 1) names) old
+indexed_more path names i name index old next within read sofar is =
+    is ∙ ap (indexed path name) sofar
+    ∙ sym (ap (λ l. all_indexed path l old) (take_more names i name within ∙ ap (λ n. take i names ++ n ∷ []) (sym read)) ∙ indexed_behind path (take i names) (name ∷ []) old)
 
 -- the names that are left make the same of the index after the next one
-pub indexed_more : (path : List ℕ) (names : List (List ℕ)) (i : ℕ) (name : List ℕ) (index next : List Named) → i < length names → name ≡ get_or names i name → next ≡ indexed path name index
-    → all_indexed path (drop (i + 1) names) next ≡ all_indexed path (drop i names) index
-indexed_more path names i name index next within read is =
-    ap (all_indexed path (drop (i + 1) names)) (is ∙ ap (λ n. indexed path n index) read) ∙ sym (ap (λ left. all_indexed path left index) (drop_more names i name within))
+pub unlisted_more : (path : List ℕ) (names : List (List ℕ)) (i : ℕ) (name : List ℕ) (index next : List Named) → i < length names → name ≡ get_or names i name → next ≡ unlisted path name index
+    → all_unlisted path (drop (i + 1) names) next ≡ all_unlisted path (drop i names) index
+unlisted_more path names i name index next within read is =
+    ap (all_unlisted path (drop (i + 1) names)) (is ∙ ap (λ n. unlisted path n index) read) ∙ sym (ap (λ left. all_unlisted path left index) (drop_more names i name within))
 
--- the place in an index where users are written, or a name is put
-module _ (path name : List ℕ) (index : List Named) (at : ℕ) (item : Named) where
-  pub add_found : IsPlace name_of name index (Ok at) → item ≡ record { name = name; users = with_name path (kept_for (item_at name_of name index)) } → set index at item ≡ indexed path name index
-  add_found place is = ap (set index at) is ∙ with_found name_of (record { name = name; users = with_name path (kept_for (item_at name_of name index)) }) index at place
-
-  pub add_absent : IsPlace name_of name index (Err at) → item ≡ record { name = name; users = with_name path (kept_for (item_at name_of name index)) } → insert index at item ≡ indexed path name index
-  add_absent place is = ap (insert index at) is ∙ with_absent name_of (record { name = name; users = with_name path (kept_for (item_at name_of name index)) }) index at place
-
--- an index of these dependents, where both are equal to others
-pub same_index : (dependents others : List Dependent) (index more : List Named) → dependents ≡ others → index ≡ more → IsIndexOf others more → IsIndexOf dependents index
-same_index dependents others index more same told is = subst (λ d. IsIndexOf d index) (sym same) (subst (λ i. IsIndexOf others i) (sym told) is)
-
--- items that are changed one after the other
-pub walked : {A : Type 0} (f : A → A) (xs ys : List A) (i n : ℕ) (y z : A) → n ≡ suc i → i < length xs → ys ≡ map f (take i xs) ++ drop i xs → y ≡ get_or ys i y → z ≡ f y → set ys i z ≡ map f (take n xs) ++ drop n xs
-walked {A} f xs ys i n y z next within sofar read is =
-    ap (λ l. set l i z) sofar ∙ go xs i within (read ∙ ap (λ l. get_or l i y) sofar) ∙ ap (λ k. map f (take k xs) ++ drop k xs) (sym next)
+has_first : (name : List ℕ) (names : List (List ℕ)) (i : ℕ) → has_name name (take i names) ≡ true → has_name name names ≡ true
+has_first name names zero there = absurd (cc)
+has_first name [] (suc i) there = absurd (cc)
+has_first name (n ∷ names) (suc i) there = go (bytes_eq name n) there (has_first name names i)
   where
-    go : (xs : List A) (i : ℕ) → i < length xs → y ≡ get_or (map f (take i xs) ++ drop i xs) i y → set (map f (take i xs) ++ drop i xs) i z ≡ map f (take (suc i) xs) ++ drop (suc i) xs
-    go [] i within read = absurd (omega arith)
-    go (x ∷ xs) zero within read = ap (λ w. w ∷ xs) (is ∙ ap f read)
-    go (x ∷ xs) (suc i) within read = ap (λ l. f x ∷ l) (go xs i (omega arith) read)
+    go : (b : Bool) → (b || has_name name (take i names)) ≡ true → (has_name name (take i names) ≡ true → has_name name names ≡ true) → (b || has_name name names) ≡ true
+    go true is more = refl
+    go false is more = more is
+
+-- some of the first names, where all are new
+pub new_first : (path : List ℕ) (names : List (List ℕ)) (i : ℕ) (users : List ℕ → List (List ℕ)) → IsNew path names users → IsNew path (take i names) users
+new_first path names i users new name there = new name (has_first name names i there)
+
+-- the place in an index where users are written, or a name is put or taken out
+
+found_name : (name : List ℕ) (index : List Named) (item : Named) → item_at name_of name index ≡ Some item → item.name ≡ name
+found_name name [] item found = absurd (cc)
+found_name name (named ∷ index) item found = go (bytes_eq named.name name) refl found (found_name name index item)
+  where
+    go : (b : Bool) → bytes_eq named.name name ≡ b → (if b then Some named else item_at name_of name index) ≡ Some item → (item_at name_of name index ≡ Some item → item.name ≡ name) → item.name ≡ name
+    go true same is more = let this : named ≡ item = cc in ap (λ (n : Named). n.name) (sym this) ∙ same_text named.name name (sym same)
+    go false away is more = more is
+
+remove_set : {A : Type 0} (xs : List A) (i : ℕ) (y : A) → remove (set xs i y) i ≡ remove xs i
+remove_set [] i y = refl
+remove_set (x ∷ xs) zero y = refl
+remove_set (x ∷ xs) (suc i) y = ap (λ l. x ∷ l) (remove_set xs i y)
+
+module _ (path name : List ℕ) (index : List Named) (at : ℕ) where
+  pub add_absent : (item : Named) → IsPlace name_of name index (Err at) → item ≡ record { name = name; users = with_name path [] } → insert index at item ≡ indexed path name index
+  add_absent item place is =
+      let none : with_name path [] ≡ with_name path (kept_for (item_at name_of name index)) = ap (λ f. with_name path (kept_for f)) (sym (item_absent name_of name index at place)) in
+      ap (insert index at) (is ∙ ap (λ (l : List (List ℕ)). record { name = name; users = l }) none) ∙ with_absent name_of (record { name = name; users = with_name path (kept_for (item_at name_of name index)) }) index at place
+
+  module _ (item : Named) (place : IsPlace name_of name index (Ok at)) (read : item ≡ get_or index at item) where
+    found : item_at name_of name index ≡ Some item
+    found = item_found name_of name index at item place read
+
+    pub add_found : (new : Named) → new ≡ record { name = item.name; users = with_name path item.users } → set index at new ≡ indexed path name index
+    add_found new is =
+        let as_kept : with_name path item.users ≡ with_name path (kept_for (item_at name_of name index)) = ap (λ f. with_name path (kept_for f)) (sym found) in
+        ap (set index at) (is ∙ (λ i. record { name = found_name name index item found i; users = as_kept i }))
+        ∙ with_found name_of (record { name = name; users = with_name path (kept_for (item_at name_of name index)) }) index at place
+
+    pub drop_found : (new : Named) → new ≡ record { name = item.name; users = without_name path item.users } → (length new.users == 0) ≡ true → remove (set index at new) at ≡ unlisted path name index
+    drop_found new is none = remove_set index at new ∙ without_found name_of name index at place ∙ ap (λ l. relisted name l index) (empty new.users none) ∙ ap (λ l. relisted name l index) (ap (λ (n : Named). n.users) is ∙ ap (λ f. without_name path (kept_for f)) (sym found))
+      where
+        empty : (users : List (List ℕ)) → (length users == 0) ≡ true → [] ≡ users
+        empty [] none = refl
+        empty (user ∷ users) none = let some : (length (user ∷ users) == 0) ≡ false = grind (arith, nat_tests) in absurd (cc)
+
+    pub keep_found : (new : Named) → new ≡ record { name = item.name; users = without_name path item.users } → (length new.users == 0) ≡ false → set index at new ≡ unlisted path name index
+    keep_found new is some =
+        let same : new ≡ record { name = name; users = new.users } = λ i. record { name = (ap (λ (n : Named). n.name) is ∙ found_name name index item found) i; users = new.users } in
+        ap (set index at) same ∙ with_found name_of (record { name = name; users = new.users }) index at place ∙ listed new.users some
+        ∙ ap (λ l. relisted name l index) (ap (λ (n : Named). n.users) is ∙ ap (λ f. without_name path (kept_for f)) (sym found))
+      where
+        listed : (users : List (List ℕ)) → (length users == 0) ≡ false → with_item name_of (record { name = name; users = users }) index ≡ relisted name users index
+        listed [] some = absurd (cc)
+        listed (user ∷ users) some = refl
+
+  pub drop_absent : IsPlace name_of name index (Err at) → index ≡ unlisted path name index
+  drop_absent place = without_absent name_of name index at place ∙ ap (λ f. relisted name (without_name path (kept_for f)) index) (sym (item_absent name_of name index at place))

@@ -1,1 +1,6 @@
+mod UserLemmas
 mod IndexLemmas
+mod DirtyLemmas
+mod PlaceOfUsers
+pub mod TakenLemmas
+mod TogetherLemmas

@@ -1,6 +1,8 @@
-ghost use Rattle.std.specs.Prelude.{◌≡◌, [], ◌∷◌, ◌++◌, option_map, IfOk, OnOk, OnErr, if◌then◌else◌};
-ghost use Rattle.pg_text.specs.Order.{AreRising, IsPlace, path_cmp, with_item, without_item};
-ghost use Rattle.dep_graph.specs.Deps.{dirty_of, meets, path_of, some_paths, users_of};
+ghost use Rattle.std.specs.Prelude.{◌≡◌, ◌<◌, [], filter, not, option_map, IfOk, OnOk, OnErr};
+ghost use Rattle.std.specs.Vec.{vec_len, vec_capacity};
+ghost use Rattle.pg_text.specs.Names.{has_name};
+ghost use Rattle.pg_text.specs.Order.{AreRising, IsPlace, item_at, path_cmp, with_item, without_item};
+ghost use Rattle.dep_graph.specs.Deps.{dirty_of, names_at, path_of, some_paths, users_of, with_names, without_paths};
 
 use crate::entries::{Dependent, Named};
 use crate::index;
@@ -8,6 +10,9 @@ use pg_text::{Names, Path};
 use std::alloc::{AllocError, Global};
 use std::cmp::Ordering;
 use std::marker::Model;
+
+// One in so many paths is many: then all are gone over.
+const MANY: usize = 2;
 
 /// Paths with the names that each needs, in byte order of the paths, and an index of them by name. Contracts see the list of
 /// each path with its names.
@@ -53,15 +58,28 @@ impl Deps {
         }
     }
 
-    /// The paths that need one of the changed names.
+    /// The paths that need one of the changed names. It looks at these paths alone.
     pub fn dirty(&self, changed: &Names) -> Result<Names, AllocError>
         ensures { IfOk result (λ paths. paths ≡ dirty_of changed.now self.now) }
     {
-        let paths = dirty_paths(*self.dependents.allocator(), &self.dependents, changed)?;
-        Ok(Names::new(paths))
+        let mut paths = Names::empty(*self.dependents.allocator());
+        for name in changed.as_slice() {
+            self.add_users(name, &mut paths)?;
+        }
+        Ok(paths)
     }
 
-    /// The path needs these names, and no longer those that it needed before. All memory is taken before the first change.
+    // Adds the users of the name to the paths.
+    fn add_users(&self, name: &Path, paths: &mut Names) -> Result<(), AllocError>
+        ensures { OnOk result (paths.new ≡ with_names (users_of name.now self.now) paths.old) }
+    {
+        match self.users(name) {
+            Some(users) => add_paths(paths, users.as_slice()),
+            None => Ok(()),
+        }
+    }
+
+    /// The path needs these names, and no longer those that it needed before. Where memory ends they are as before.
     pub fn add(&mut self, path: &Path, names: &Names) -> Result<(), AllocError>
         ensures ok { OnOk result (self.new ≡ with_item path_of (record { path = path.now; names = names.now }) self.old) }
         ensures err { OnErr result (self.new ≡ self.old) }
@@ -70,7 +88,14 @@ impl Deps {
             path: path.copy()?,
             names: names.copy()?,
         };
-        *self = self.with(dependent)?;
+        let before = names_of(*self.dependents.allocator(), &self.dependents, path)?;
+        let fresh = besides(names, &before)?;
+        let stale = besides(&before, names)?;
+        self.dependents.try_reserve(1)?;
+        index::add_all(&mut self.index, &fresh, path)?;
+        index::remove_all(&mut self.index, &stale, path);
+        let place = place_of(&self.dependents, path);
+        put(&mut self.dependents, place, dependent);
         Ok(())
     }
 
@@ -78,34 +103,38 @@ impl Deps {
     pub fn remove(&mut self, path: &Path)
         ensures { self.new ≡ without_item path_of path.now self.old }
     {
-        take_out(&mut self.dependents, path);
-        index::remove_all(&mut self.index, path);
+        if let Ok(at) = place_of(&self.dependents, path) {
+            let dependent = self.dependents.remove(at);
+            index::remove_all(&mut self.index, dependent.names.as_slice(), path);
+        }
     }
 
-    // These, with the dependent in the place of the one with its path.
-    fn with(&self, dependent: Dependent) -> Result<Self, AllocError>
-        ensures { IfOk result (λ deps. deps ≡ with_item path_of dependent self.now) }
+    /// None of the paths needs anything. It takes no memory. Few paths are looked up one by one; for many all are gone over once.
+    pub fn remove_all(&mut self, paths: &Names)
+        ensures { self.new ≡ without_paths paths.now self.old }
     {
-        let alloc = *self.dependents.allocator();
-        let mut dependents = copied(alloc, &self.dependents)?;
-        let mut index = index::copied(alloc, &self.index)?;
-        index::remove_all(&mut index, &dependent.path);
-        index::add_all(&mut index, dependent.names.as_slice(), &dependent.path)?;
-        let place = place_of(&dependents, &dependent.path);
-        put(&mut dependents, place, dependent)?;
-        Ok(Deps { dependents, index })
+        if paths.len() < self.dependents.len() / MANY {
+            self.remove_each(paths);
+        } else {
+            self.remove_together(paths);
+        }
     }
-}
 
-// Equal dependents.
-fn copied(alloc: Global, dependents: &[Dependent]) -> Result<Vec<Dependent>, AllocError>
-    ensures { IfOk result (λ copies. copies.items ≡ dependents.now) }
-{
-    let mut copies = Vec::with_capacity(alloc, dependents.len())?;
-    for dependent in dependents {
-        copies.push(dependent.copy()?)?;
+    fn remove_each(&mut self, paths: &Names)
+        ensures { self.new ≡ without_paths paths.now self.old }
+    {
+        for path in paths.as_slice() {
+            self.remove(path);
+        }
     }
-    Ok(copies)
+
+    fn remove_together(&mut self, paths: &Names)
+        ensures { self.new ≡ without_paths paths.now self.old }
+    {
+        self.dependents
+            .retain(|dependent| !paths.contains(&dependent.path));
+        index::remove_users(&mut self.index, paths);
+    }
 }
 
 // The index of the path, or the one at which it would stand.
@@ -122,59 +151,48 @@ fn compare(dependent: &Dependent, path: &Path) -> Ordering
     dependent.path.as_bytes().cmp(path.as_bytes())
 }
 
+// The names that the path needs.
+fn names_of(alloc: Global, dependents: &[Dependent], path: &Path) -> Result<Names, AllocError>
+    requires { AreRising path_of dependents.now }
+    ensures { IfOk result (λ names. names ≡ names_at (item_at path_of path.now dependents.now)) }
+{
+    match place_of(dependents, path) {
+        Ok(at) => dependents[at].names.copy(),
+        Err(_) => Ok(Names::empty(alloc)),
+    }
+}
+
+// Those of the names that aren't among the others.
+fn besides(names: &Names, others: &Names) -> Result<Vec<Path>, AllocError>
+    ensures { IfOk result (λ left. left.items ≡ filter (λ name. not (has_name name others.now)) names.now) }
+{
+    let mut left = names.copy()?.into_vec();
+    left.retain(|name| !others.contains(name));
+    Ok(left)
+}
+
 // Puts the dependent at its place, in the place of the one with its path.
-fn put(
-    dependents: &mut Vec<Dependent>,
-    place: Result<usize, usize>,
-    dependent: Dependent,
-) -> Result<(), AllocError>
-    requires { IsPlace path_of dependent.path dependents.old.items place }
-    ensures { OnOk result (dependents.new.items ≡ with_item path_of dependent dependents.old.items) }
+fn put(dependents: &mut Vec<Dependent>, place: Result<usize, usize>, dependent: Dependent)
+    requires place { IsPlace path_of dependent.path dependents.old.items place }
+    requires room { vec_len dependents.old < vec_capacity dependents.old }
+    ensures { dependents.new.items ≡ with_item path_of dependent dependents.old.items }
 {
     match place {
         Ok(at) => dependents[at] = dependent,
-        Err(at) => dependents.insert(at, dependent)?,
+        Err(at) => {
+            let Ok(()) = dependents.insert(at, dependent) else {
+                unreachable!()
+            };
+        }
+    }
+}
+
+// Adds the users to the paths.
+fn add_paths(paths: &mut Names, users: &[Path]) -> Result<(), AllocError>
+    ensures { OnOk result (paths.new ≡ with_names users.now paths.old) }
+{
+    for user in users {
+        paths.insert(user.copy()?)?;
     }
     Ok(())
-}
-
-// Takes out the dependent with this path, where there is one.
-fn take_out(dependents: &mut Vec<Dependent>, path: &Path)
-    requires { AreRising path_of dependents.old.items }
-    ensures { dependents.new.items ≡ without_item path_of path.now dependents.old.items }
-{
-    if let Ok(at) = place_of(dependents, path) {
-        dependents.remove(at);
-    }
-}
-
-// The paths that need one of the changed names.
-fn dirty_paths(
-    alloc: Global,
-    dependents: &[Dependent],
-    changed: &Names,
-) -> Result<Vec<Path>, AllocError>
-    ensures { IfOk result (λ paths. paths.items ≡ dirty_of changed.now dependents.now) }
-{
-    let mut paths = Vec::new(alloc);
-    for dependent in dependents {
-        tell(dependent, changed, &mut paths)?;
-    }
-    Ok(paths)
-}
-
-// Tells the path where it needs one of the changed names.
-fn tell(dependent: &Dependent, changed: &Names, paths: &mut Vec<Path>) -> Result<(), AllocError>
-    ensures { OnOk result (paths.new.items ≡ (if meets dependent.now.names changed.now then paths.old.items ++ dependent.now.path ∷ [] else paths.old.items)) }
-{
-    if is_dirty(dependent.names.as_slice(), changed) {
-        paths.push(dependent.path.copy()?)?;
-    }
-    Ok(())
-}
-
-fn is_dirty(names: &[Path], changed: &Names) -> bool
-    ensures { result ≡ meets names.now changed.now }
-{
-    names.iter().any(|name| changed.contains(name))
 }

@@ -1,12 +1,14 @@
 //! The names that are needed, each with the paths that need it, in byte order of the names.
-ghost use Rattle.std.specs.Prelude.{◌≡◌, filter, map, IfOk, OnOk};
+ghost use Rattle.std.specs.Prelude.{◌≡◌, ◌≤◌, ℕ, List, length, map, take, IfErr, OnOk, OnErr};
+ghost use Rattle.pg_text.specs.Names.{AreInOrder, with_name, without_name};
 ghost use Rattle.pg_text.specs.Order.{AreRising, IsPlace, path_cmp, item_at};
-ghost use Rattle.dep_graph.specs.Deps.{all_indexed, indexed, is_used, kept_for, let_go, name_of, unindexed};
+ghost use Rattle.dep_graph.specs.Deps.{IsNew, Tells, all_indexed, all_unlisted, indexed, is_used, itself, let_go, name_of, unindexed, unlisted};
 
 use crate::entries::Named;
 use pg_text::{Names, Path};
 use std::alloc::{AllocError, Global};
 use std::cmp::Ordering;
+use std::mem;
 
 // The index of the name, or the one at which it would stand.
 pub(crate) fn place_of(index: &[Named], name: &Path) -> Result<usize, usize>
@@ -22,25 +24,33 @@ fn compare(named: &Named, name: &Path) -> Ordering
     named.name.as_bytes().cmp(name.as_bytes())
 }
 
-// An equal index.
-pub(crate) fn copied(alloc: Global, index: &[Named]) -> Result<Vec<Named>, AllocError>
-    ensures { IfOk result (λ copies. copies.items ≡ index.now) }
-{
-    let mut copies = Vec::with_capacity(alloc, index.len())?;
-    for named in index {
-        copies.push(named.copy()?)?;
-    }
-    Ok(copies)
-}
-
-// The path needs all these names, too.
+// The path needs all these names, too. Where memory ends, those that it needs already are taken back.
 pub(crate) fn add_all(index: &mut Vec<Named>, names: &[Path], path: &Path) -> Result<(), AllocError>
     requires { AreRising name_of index.old.items }
-    ensures index { OnOk result (index.new.items ≡ all_indexed path.now names.now index.old.items) }
-    ensures order { OnOk result (AreRising name_of index.new.items) }
+    ensures ok { OnOk result (index.new.items ≡ all_indexed path.now names.now index.old.items) }
+    ensures err { OnErr result ((users : List ℕ → List (List ℕ)) → Tells index.old.items users → IsNew path.now names.now users → Tells index.new.items users) }
+    ensures order { AreRising name_of index.new.items }
 {
-    for name in names {
-        add(index, name, path)?;
+    match add_some(index, names, path) {
+        Ok(()) => Ok(()),
+        Err(done) => {
+            remove_all(index, &names[..done], path);
+            Err(AllocError)
+        }
+    }
+}
+
+// The path needs these names, too, or so many of the first of them, where memory ends.
+fn add_some(index: &mut Vec<Named>, names: &[Path], path: &Path) -> Result<(), usize>
+    requires { AreRising name_of index.old.items }
+    ensures ok { OnOk result (index.new.items ≡ all_indexed path.now names.now index.old.items) }
+    ensures err { IfErr result (λ done. (done ≤ length names.now) × (index.new.items ≡ all_indexed path.now (take done names.now) index.old.items)) }
+    ensures order { AreRising name_of index.new.items }
+{
+    for at in 0..names.len() {
+        if add(index, &names[at], path).is_err() {
+            return Err(at);
+        }
     }
     Ok(())
 }
@@ -48,37 +58,90 @@ pub(crate) fn add_all(index: &mut Vec<Named>, names: &[Path], path: &Path) -> Re
 // The path needs the name, too.
 fn add(index: &mut Vec<Named>, name: &Path, path: &Path) -> Result<(), AllocError>
     requires { AreRising name_of index.old.items }
-    ensures { OnOk result (index.new.items ≡ indexed path.now name.now index.old.items) }
-{
-    let mut users = users_of(*index.allocator(), index, name)?;
-    users.insert(path.copy()?)?;
-    let named = Named {
-        name: name.copy()?,
-        users,
-    };
-    match place_of(index, name) {
-        Ok(at) => index[at] = named,
-        Err(at) => index.insert(at, named)?,
-    }
-    Ok(())
-}
-
-// Equal users of the name, none where the index has none.
-fn users_of(alloc: Global, index: &[Named], name: &Path) -> Result<Names, AllocError>
-    requires { AreRising name_of index.now }
-    ensures { IfOk result (λ users. users ≡ kept_for (item_at name_of name.now index.now)) }
+    ensures ok { OnOk result (index.new.items ≡ indexed path.now name.now index.old.items) }
+    ensures err { OnErr result (index.new.items ≡ index.old.items) }
 {
     match place_of(index, name) {
-        Ok(at) => index[at].users.copy(),
-        Err(_) => Ok(Names::empty(alloc)),
+        Ok(at) => add_user(&mut index[at], path),
+        Err(at) => {
+            let mut users = Names::empty(*index.allocator());
+            users.insert(path.copy()?)?;
+            let name = name.copy()?;
+            index.insert(at, Named { name, users })?;
+            Ok(())
+        }
     }
 }
 
-// The path needs nothing. Names that nothing else needs are dropped.
-pub(crate) fn remove_all(index: &mut Vec<Named>, path: &Path)
-    ensures { index.new.items ≡ unindexed path.now index.old.items }
+fn add_user(named: &mut Named, path: &Path) -> Result<(), AllocError>
+    ensures ok { OnOk result (named.new ≡ record { name = named.old.name; users = with_name path.now named.old.users }) }
+    ensures err { OnErr result (named.new ≡ named.old) }
 {
-    let_all_go(index, path);
+    named.users.insert(path.copy()?)
+}
+
+// The path needs none of these names any more.
+pub(crate) fn remove_all(index: &mut Vec<Named>, names: &[Path], path: &Path)
+    requires { AreRising name_of index.old.items }
+    ensures index { index.new.items ≡ all_unlisted path.now names.now index.old.items }
+    ensures order { AreRising name_of index.new.items }
+{
+    for name in names {
+        remove(index, name, path);
+    }
+}
+
+// The path doesn't need the name any more. A name that nothing else needs is dropped.
+fn remove(index: &mut Vec<Named>, name: &Path, path: &Path)
+    requires { AreRising name_of index.old.items }
+    ensures { index.new.items ≡ unlisted path.now name.now index.old.items }
+{
+    if let Ok(at) = place_of(index, name) {
+        let alloc = *index.allocator();
+        remove_user(alloc, &mut index[at], path);
+        if index[at].users.is_empty() {
+            index.remove(at);
+        }
+    }
+}
+
+fn remove_user(alloc: Global, named: &mut Named, path: &Path)
+    ensures { named.new ≡ record { name = named.old.name; users = without_name path.now named.old.users } }
+{
+    let mut users = mem::replace(&mut named.users, Names::empty(alloc)).into_vec();
+    take_out(&mut users, path);
+    named.users = Names::new(users);
+}
+
+// Takes the path out of the users, where it is one of them.
+fn take_out(users: &mut Vec<Path>, path: &Path)
+    requires { AreInOrder users.old.items }
+    ensures { users.new.items ≡ without_name path.now users.old.items }
+{
+    if let Ok(at) = user_place(users, path) {
+        users.remove(at);
+    }
+}
+
+// The index of the path among the users, or the one at which it would stand.
+fn user_place(users: &[Path], path: &Path) -> Result<usize, usize>
+    requires { AreInOrder users.now }
+    ensures { IsPlace itself path.now users.now result }
+{
+    users.binary_search_by(|user| order(user, path))
+}
+
+fn order(user: &Path, path: &Path) -> Ordering
+    ensures { result ≡ path_cmp user.now path.now }
+{
+    user.as_bytes().cmp(path.as_bytes())
+}
+
+// None of the paths needs anything: all names are gone over. Those that nothing else needs are dropped.
+pub(crate) fn remove_users(index: &mut Vec<Named>, paths: &Names)
+    ensures { index.new.items ≡ unindexed paths.now index.old.items }
+{
+    let_all_go(index, paths);
     index.retain(is_used);
 }
 
@@ -88,10 +151,19 @@ fn is_used(named: &Named) -> bool
     !named.users.is_empty()
 }
 
-fn let_all_go(index: &mut Vec<Named>, path: &Path)
-    ensures { index.new.items ≡ map (let_go path.now) index.old.items }
+fn let_all_go(index: &mut Vec<Named>, paths: &Names)
+    ensures { index.new.items ≡ map (let_go paths.now) index.old.items }
 {
+    let alloc = *index.allocator();
     for named in index.iter_mut() {
-        named.users.remove(path);
+        let_go(alloc, named, paths);
     }
+}
+
+fn let_go(alloc: Global, named: &mut Named, paths: &Names)
+    ensures { named.new ≡ let_go paths.now named.old }
+{
+    let mut users = mem::replace(&mut named.users, Names::empty(alloc)).into_vec();
+    users.retain(|user| !paths.contains(user));
+    named.users = Names::new(users);
 }

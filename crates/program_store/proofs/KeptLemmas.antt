@@ -1,32 +1,44 @@
--- What is done to shelves is done to what they keep.
-use Rattle.std.proofs.Common.{◌≡◌, ◌<◌, ◌≤◌, ℕ, zero, suc, ◌+◌, Bool, true, false, not, List, [], ◌∷◌, ◌++◌, length, get_or, map, filter, take, drop, set, Option, Some, None, option_map, Ok, Err, refl, sym, ap, subst, ◌∙◌, if◌then◌else◌, arith}
+-- What is done to shelves is done to what they keep, and to what their paths need.
+use Rattle.std.proofs.Common.{◌≡◌, ◌<◌, ℕ, ◌+◌, Bool, true, false, not, List, [], ◌∷◌, ◌++◌, length, get_or, map, filter, drop, Option, Some, option_map, refl, sym, ap, ◌∙◌, if◌then◌else◌}
 use Rattle.std.specs.Prelude.{◌&&◌}
-use Rattle.std.specs.Arc.{arc_value}
-use Rattle.std.specs.List.{insert}
+use Rattle.std.specs.List.{All}
 use Rattle.std.specs.Ordering.{is_lt, is_gt}
 use Rattle.std.specs.Str.{bytes_eq}
-use Rattle.std.proofs.lemmas.List.{append-nil, drop_more, map-append}
-use Rattle.std.proofs.lemmas.List.Kept.{AllPairs-filter}
-use Rattle.pg_text.specs.Order.{AreRising, IsPlace, item_at, path_cmp, with_item}
-use Rattle.pg_text.proofs.ItemLemmas.{IsBelow}
-use Rattle.pg_text.proofs.PlaceLemmas.{with_absent, with_found}
+use Rattle.std.specs.declared.cmp.Ordering.TheVariants.{Less}
+use Rattle.std.proofs.lemmas.Cmp.{nat_list_eq_equiv}
+use Rattle.std.proofs.lemmas.List.{drop_more, map-append}
+use Rattle.std.proofs.lemmas.List.Elements.{All-filter, All-head, All-map, All-tail, All-weaker}
+use Rattle.std.proofs.lemmas.List.Folds.{list_any_none}
+use Rattle.pg_text.specs.Names.{has_name}
+use Rattle.pg_text.specs.Order.{AreRising, item_at, path_cmp, with_item}
+use Rattle.pg_text.proofs.ItemLemmas.{IsBelow, later, rest}
+use Rattle.pg_text.proofs.OrderLemmas.{eq_tested}
 use Rattle.source_tree.specs.declared.file.File.{File}
 use Rattle.source_tree.specs.declared.need.Need.{Need}
-use Rattle.site_words.specs.Trees.{agrees, meets, opt_eq}
 use Rattle.source_tree.specs.Stamps.{stamp_of}
+use Rattle.site_words.specs.Trees.{agrees, opt_eq}
 use Rattle.program_store.specs.declared.shelf.Shelf.{Shelf}
-use Rattle.program_store.specs.Store.{clean_in, dirty_in, hit_of, is_dirty, kept_of, kept_path, shelf_path, value_for, with_value}
+use Rattle.program_store.specs.Store.{clean_in, dirty_in, hit_of, is_dirty, kept_of, kept_path, others, shelf_path, value_for, without_values}
 
-module _ {A B : Type 0} (f : A → B) (p : B → Bool) where
+module _ {A B : Type 0} (f : A → B) where
   map_kept : (b : Bool) (x : A) (xs ys : List A) → map f (if b then x ∷ xs else ys) ≡ (if b then f x ∷ map f xs else map f ys)
   map_kept true x xs ys = refl
   map_kept false x xs ys = refl
 
   -- a filter before a map
-  pub map_filter : (xs : List A) → map f (filter (λ x. p (f x)) xs) ≡ filter p (map f xs)
-  map_filter [] = refl
-  map_filter (x ∷ xs) =
-      map_kept (p (f x)) x (filter (λ x. p (f x)) xs) (filter (λ x. p (f x)) xs) ∙ ap (λ l. if p (f x) then f x ∷ l else l) (map_filter xs)
+  pub map_filter : (p : B → Bool) (xs : List A) → map f (filter (λ x. p (f x)) xs) ≡ filter p (map f xs)
+  map_filter p [] = refl
+  map_filter p (x ∷ xs) =
+      map_kept (p (f x)) x (filter (λ x. p (f x)) xs) (filter (λ x. p (f x)) xs) ∙ ap (λ l. if p (f x) then f x ∷ l else l) (map_filter p xs)
+
+  -- an item that is put
+  pub map_with : (path_of : B → List ℕ) (item : A) (items : List A) → map f (with_item (λ x. path_of (f x)) item items) ≡ with_item path_of (f item) (map f items)
+  map_with path_of item items =
+      let low : B → Bool = λ other. is_lt (path_cmp (path_of other) (path_of (f item))) in
+      let high : B → Bool = λ other. is_gt (path_cmp (path_of other) (path_of (f item))) in
+      map-append f (filter (λ other. low (f other)) items) (item ∷ filter (λ other. high (f other)) items)
+      ∙ ap (λ l. l ++ f item ∷ map f (filter (λ other. high (f other)) items)) (map_filter low items)
+      ∙ ap (λ l. filter low (map f items) ++ f item ∷ l) (map_filter high items)
 
 -- one need more stands so, or doesn't
 pub agrees_more : (needs : List Need) (i : ℕ) (need : Need) (tree : List File) → i < length needs → need ≡ get_or needs i need
@@ -49,43 +61,49 @@ module _ {P : Type 0} where
       → hit_of needed path tree (map kept_of shelves) ≡ value_for needed tree (option_map kept_of found)
   hit_at needed path tree shelves found is = ap (value_for needed tree) (found_kept path shelves ∙ ap (option_map kept_of) is)
 
-  -- a shelf that is put keeps its value for its path
-  pub kept_with : (shelf : Shelf P) (shelves : List (Shelf P)) → map kept_of (with_item shelf_path shelf shelves) ≡ with_value shelf.path (arc_value shelf.made) (map kept_of shelves)
-  kept_with shelf shelves =
-      let low : List ℕ × P → Bool = λ k. is_lt (path_cmp k.0 shelf.path) in
-      let high : List ℕ × P → Bool = λ k. is_gt (path_cmp k.0 shelf.path) in
-      map-append kept_of (filter (λ (other : Shelf P). low (kept_of other)) shelves) (shelf ∷ filter (λ (other : Shelf P). high (kept_of other)) shelves)
-      ∙ ap (λ l. l ++ kept_of shelf ∷ map kept_of (filter (λ (other : Shelf P). high (kept_of other)) shelves)) (map_filter kept_of low shelves)
-      ∙ ap (λ l. filter low (map kept_of shelves) ++ kept_of shelf ∷ l) (map_filter kept_of high shelves)
+-- the items with other paths than those that pass a test
 
-  pub kept_found : (shelf : Shelf P) (shelves : List (Shelf P)) (at : ℕ) → IsPlace shelf_path shelf.path shelves (Ok at) → map kept_of (set shelves at shelf) ≡ with_value shelf.path (arc_value shelf.made) (map kept_of shelves)
-  kept_found shelf shelves at place = ap (map kept_of) (with_found shelf_path shelf shelves at place) ∙ kept_with shelf shelves
+module _ {A : Type 0} (path_of : A → List ℕ) (p : A → Bool) where
+  apart : (item : A) (items : List A) → AreRising path_of (item ∷ items) → All (λ other. bytes_eq (path_of item) (path_of other) ≡ false) items
+  apart item items order = All-weaker (IsBelow path_of item) (λ other. bytes_eq (path_of item) (path_of other) ≡ false) (λ other below. eq_tested (path_of item) (path_of other) Less below) items (later path_of item items order)
 
-  pub kept_absent : (shelf : Shelf P) (shelves : List (Shelf P)) (at : ℕ) → IsPlace shelf_path shelf.path shelves (Err at) → map kept_of (insert shelves at shelf) ≡ with_value shelf.path (arc_value shelf.made) (map kept_of shelves)
-  kept_absent shelf shelves at place = ap (map kept_of) (with_absent shelf_path shelf shelves at place) ∙ kept_with shelf shelves
+  not_among : (path : List ℕ) (paths : List (List ℕ)) (items : List A) → All (λ other. bytes_eq path (path_of other) ≡ false) items
+      → filter (λ x. not (has_name (path_of x) (path ∷ paths))) items ≡ filter (λ x. not (has_name (path_of x) paths)) items
+  not_among path paths [] all = refl
+  not_among path paths (x ∷ items) all =
+      rw (nat_list_eq_equiv.symm (path_of x) path ∙ All-head (λ other. bytes_eq path (path_of other) ≡ false) x items all)
+      (ap (λ l. if not (has_name (path_of x) paths) then x ∷ l else l) (not_among path paths items (All-tail (λ other. bytes_eq path (path_of other) ≡ false) x items all)))
 
-module _ {P : Type 0} (needed : P → List Need) (names : List (List ℕ)) where
-  -- the paths that shelves tell are those of what they keep
-  pub dirty_kept : (shelves : List (Shelf P)) → dirty_in needed names (map kept_of shelves) ≡ map shelf_path (filter (λ (shelf : Shelf P). is_dirty needed names (kept_of shelf)) shelves)
-  dirty_kept shelves = ap (map kept_path) (sym (map_filter kept_of (is_dirty needed names) shelves)) ∙ both (filter (λ (shelf : Shelf P). is_dirty needed names (kept_of shelf)) shelves)
+  -- the items whose paths aren't those of the ones that pass a test are those that don't pass it
+  pub others_left : (items : List A) → AreRising path_of items → filter (λ x. not (has_name (path_of x) (map path_of (filter p items)))) items ≡ filter (λ x. not (p x)) items
+  others_left [] order = refl
+  others_left (item ∷ items) order = go (p item) (others_left items (rest path_of item items order))
     where
-      both : (shelves : List (Shelf P)) → map kept_path (map kept_of shelves) ≡ map shelf_path shelves
-      both [] = refl
-      both (shelf ∷ shelves) = ap (λ l. shelf.path ∷ l) (both shelves)
+      paths : List (List ℕ)
+      paths = map path_of (filter p items)
 
-  pub clean_kept : (shelves : List (Shelf P)) → map kept_of (filter (λ (shelf : Shelf P). not (is_dirty needed names (kept_of shelf))) shelves) ≡ clean_in needed names (map kept_of shelves)
-  clean_kept shelves = map_filter kept_of (λ k. not (is_dirty needed names k)) shelves
+      none : has_name (path_of item) paths ≡ false
+      none = list_any_none (bytes_eq (path_of item)) paths (All-map (λ other. bytes_eq (path_of item) other ≡ false) path_of (filter p items) (All-filter p (λ other. bytes_eq (path_of item) (path_of other) ≡ false) items (apart item items order)))
 
-  -- shelves that are left are in order
-  pub clean_order : (shelves new : List (Shelf P)) → new ≡ filter (λ (shelf : Shelf P). not (is_dirty needed names (kept_of shelf))) shelves → AreRising shelf_path shelves → AreRising shelf_path new
-  clean_order shelves new is order = subst (AreRising shelf_path) (sym is) (AllPairs-filter (IsBelow shelf_path) (λ (shelf : Shelf P). not (is_dirty needed names (kept_of shelf))) shelves order)
+      go : (b : Bool) → filter (λ x. not (has_name (path_of x) paths)) items ≡ filter (λ x. not (p x)) items
+          → filter (λ x. not (has_name (path_of x) (map path_of (if b then item ∷ filter p items else filter p items)))) (item ∷ items) ≡ (if not b then item ∷ filter (λ x. not (p x)) items else filter (λ x. not (p x)) items)
+      go true more = rw (nat_list_eq_equiv.refl (path_of item)) (not_among (path_of item) paths items (apart item items order) ∙ more)
+      go false more = rw none (ap (λ l. item ∷ l) more)
 
-drop_end : {A : Type 0} (xs : List A) (i : ℕ) → length xs ≤ i → drop i xs ≡ []
-drop_end [] zero past = refl
-drop_end [] (suc i) past = refl
-drop_end (x ∷ xs) zero past = absurd (omega arith)
-drop_end (x ∷ xs) (suc i) past = drop_end xs i (omega arith)
+-- what shelves keep for other paths than these
+pub left_kept : {P : Type 0} (paths : List (List ℕ)) (shelves : List (Shelf P)) → map kept_of (others shelf_path paths shelves) ≡ without_values paths (map kept_of shelves)
+left_kept {P} paths shelves = map_filter kept_of (λ (k : List ℕ × P). not (has_name k.0 paths)) shelves
 
--- past the end all is told
-pub told_end : {A B : Type 0} (f : A → B) (p : A → Bool) (before whole : List B) (xs : List A) (i : ℕ) → length xs ≤ i → before ++ map f (filter p (drop i xs)) ≡ whole → before ≡ whole
-told_end f p before whole xs i past sofar = sym (append-nil before) ∙ ap (λ l. before ++ map f (filter p l)) (sym (drop_end xs i past)) ∙ sofar
+-- the paths of what is dirty taken out, what is clean is left
+pub cleared : {P : Type 0} (needed : P → List Need) (names paths : List (List ℕ)) (shelves : List (Shelf P)) → AreRising shelf_path shelves → paths ≡ dirty_in needed names (map kept_of shelves)
+    → without_values paths (map kept_of shelves) ≡ clean_in needed names (map kept_of shelves)
+cleared {P} needed names paths shelves order is =
+    let dirty : Shelf P → Bool = λ shelf. is_dirty needed names (kept_of shelf) in
+    let told : paths ≡ map shelf_path (filter dirty shelves) = is ∙ ap (map kept_path) (sym (map_filter kept_of (is_dirty needed names) shelves)) ∙ paths_are (filter dirty shelves) in
+    ap (λ l. without_values l (map kept_of shelves)) told
+    ∙ sym (map_filter kept_of (λ k. not (has_name k.0 (map shelf_path (filter dirty shelves)))) shelves)
+    ∙ ap (map kept_of) (others_left shelf_path dirty shelves order) ∙ map_filter kept_of (λ k. not (is_dirty needed names k)) shelves
+  where
+    paths_are : (shelves : List (Shelf P)) → map kept_path (map kept_of shelves) ≡ map shelf_path shelves
+    paths_are [] = refl
+    paths_are (shelf ∷ shelves) = ap (λ l. shelf.path ∷ l) (paths_are shelves)

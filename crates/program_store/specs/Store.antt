@@ -1,11 +1,26 @@
 -- What is kept for paths: a list of each path with its value, in byte order of the paths.
-use Rattle.std.specs.Prelude.{ℕ, Bool, not, List, [], ◌∷◌, map, filter, Option, Some, None, if◌then◌else◌}
+use Rattle.std.specs.Prelude.{ℕ, Bool, not, List, [], map, filter, Option, Some, None, if◌then◌else◌}
 use Rattle.std.specs.Arc.{arc_value}
+use Rattle.pg_text.specs.Names.{has_name}
 use Rattle.pg_text.specs.Order.{item_at, with_item}
+use Rattle.dep_graph.specs.Deps.{with_names}
+use Rattle.dep_graph.specs.declared.entries.Dependent.{Dependent}
 use Rattle.source_tree.specs.declared.file.File.{File}
 use Rattle.source_tree.specs.declared.need.Need.{Need}
 use Rattle.site_words.specs.Trees.{agrees, meets}
 use Rattle.program_store.specs.declared.shelf.Shelf.{Shelf}
+
+-- the name of a need
+abbrev pub need_name : Need → List ℕ
+need_name need = need.name
+
+-- the names of needs, in order
+abbrev pub names_in : List Need → List (List ℕ)
+names_in needs = with_names (map need_name needs) []
+
+-- the items with other paths than these
+abbrev pub others : {A : Type 0} → (A → List ℕ) → List (List ℕ) → List A → List A
+others path_of paths items = filter (λ item. not (has_name (path_of item) paths)) items
 
 module _ {P : Type 0} where
   -- the path of a shelf
@@ -28,6 +43,10 @@ module _ {P : Type 0} where
   abbrev pub with_value : List ℕ → P → List (List ℕ × P) → List (List ℕ × P)
   with_value path value kept = with_item kept_path (path, value) kept
 
+  -- what is kept for other paths than these
+  abbrev pub without_values : List (List ℕ) → List (List ℕ × P) → List (List ℕ × P)
+  without_values paths kept = others kept_path paths kept
+
 module _ {P : Type 0} (needed : P → List Need) where
   -- the value, where its needs stand so in the tree
   abbrev pub value_for : List File → Option (List ℕ × P) → Option P
@@ -49,3 +68,11 @@ module _ {P : Type 0} (needed : P → List Need) where
   -- the values that need none of them
   abbrev pub clean_in : List (List ℕ) → List (List ℕ × P) → List (List ℕ × P)
   clean_in names kept = filter (λ k. not (is_dirty names k)) kept
+
+  -- what a shelf says of its path: the names that its value needs
+  abbrev pub dependent_of : Shelf P → Dependent
+  dependent_of shelf = record { path = shelf.path; names = names_in (needed (arc_value shelf.made)) }
+
+  -- the paths of shelves with the names that they need
+  abbrev pub needing : List (Shelf P) → List Dependent
+  needing shelves = map dependent_of shelves

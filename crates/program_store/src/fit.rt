@@ -1,8 +1,7 @@
 ghost use Rattle.std.specs.Prelude.{◌≡◌};
-ghost use Rattle.site_words.specs.Trees.{agrees, meets, opt_eq};
+ghost use Rattle.site_words.specs.Trees.{agrees, opt_eq};
 ghost use Rattle.source_tree.specs.Stamps.{stamp_of};
 
-use pg_text::Names;
 use site_words::Compiled;
 use source_tree::{Need, Tree};
 
@@ -33,11 +32,4 @@ fn stands(need: &Need, tree: &Tree) -> bool
         (None, None) => true,
         _ => false,
     }
-}
-
-// Whether a need has one of the names.
-pub(crate) fn meets(needs: &[Need], names: &Names) -> bool
-    ensures { result ≡ meets needs.now names.now }
-{
-    needs.iter().any(|need| names.contains(&need.name))
 }

@@ -1,12 +1,14 @@
-ghost use Rattle.std.specs.Prelude.{◌≡◌, ◌<◌, [], ◌∷◌, ◌++◌, option_map, IfOk, OnOk, OnErr, if◌then◌else◌};
+ghost use Rattle.std.specs.Prelude.{◌≡◌, ◌<◌, ℕ, List, [], option_map, IfOk, OnOk, OnErr, if◌then◌else◌};
 ghost use Rattle.std.specs.Arc.{arc_value};
 ghost use Rattle.std.specs.Vec.{vec_len, vec_capacity};
-ghost use Rattle.pg_text.specs.Order.{AreRising, IsPlace, path_cmp};
-ghost use Rattle.site_words.specs.Trees.{agrees, meets};
-ghost use Rattle.program_store.specs.Store.{clean_in, dirty_in, hit_of, kept_in, kept_of, shelf_path, value_for, with_value};
+ghost use Rattle.pg_text.specs.Order.{AreRising, IsPlace, path_cmp, with_item, without_item};
+ghost use Rattle.site_words.specs.Trees.{agrees};
+ghost use Rattle.program_store.specs.Store.{clean_in, dirty_in, hit_of, kept_in, kept_of, needing, others, shelf_path, value_for, with_value, without_values};
 
-use crate::fit::{fits, meets};
+use crate::fit::fits;
+use crate::needs::names_of;
 use crate::shelf::Shelf;
+use dep_graph::Deps;
 use pg_text::{Names, Path};
 use site_words::Compiled;
 use source_tree::Tree;
@@ -14,11 +16,17 @@ use std::alloc::{AllocError, Global};
 use std::cmp::Ordering;
 use std::sync::Arc;
 
-/// What is kept, in byte order of the paths. Contracts see the list of each path with its value.
+// One in so many paths is many: then all are gone over.
+const MANY: usize = 2;
+
+/// What is kept, in byte order of the paths, and which of the paths need a name. Contracts see the list of each path with its
+/// value.
 #[derive(Drop)]
-pub struct Store<P> {
+pub struct Store<P: Compiled> {
     pub shelves: Vec<Shelf<P>>,
+    deps: Deps,
     ghost in_order: { AreRising shelf_path shelves.items },
+    ghost in_step: { deps ≡ needing P.needed shelves.items },
 }
 
 impl<P: Compiled> Store<P> {
@@ -28,6 +36,7 @@ impl<P: Compiled> Store<P> {
     {
         Store {
             shelves: Vec::new(alloc),
+            deps: Deps::new(alloc),
         }
     }
 
@@ -41,20 +50,16 @@ impl<P: Compiled> Store<P> {
         }
     }
 
-    /// Takes room for one value more.
-    pub fn reserve(&mut self) -> Result<(), AllocError>
-        ensures same { kept_in self.new.shelves.items ≡ kept_in self.old.shelves.items }
-        ensures room { OnOk result (vec_len self.new.shelves < vec_capacity self.new.shelves) }
+    /// Keeps the value for the path, in the place of the one that was kept for it. Where memory ends all is as before.
+    pub fn put(&mut self, path: Path, made: Arc<P>) -> Result<(), AllocError>
+        ensures ok { OnOk result (kept_in self.new.shelves.items ≡ with_value path (arc_value made) (kept_in self.old.shelves.items)) }
+        ensures err { OnErr result (kept_in self.new.shelves.items ≡ kept_in self.old.shelves.items) }
     {
-        self.shelves.try_reserve(1)
-    }
-
-    /// Keeps the value for the path. It takes no memory, since there is room.
-    pub fn put(&mut self, path: Path, made: Arc<P>)
-        requires { vec_len self.old.shelves < vec_capacity self.old.shelves }
-        ensures { kept_in self.new.shelves.items ≡ with_value path (arc_value made) (kept_in self.old.shelves.items) }
-    {
+        let names = names_of(*self.shelves.allocator(), made.stamps().as_slice())?;
+        self.shelves.try_reserve(1)?;
+        self.deps.add(&path, &names)?;
         put(&mut self.shelves, Shelf { path, made });
+        Ok(())
     }
 
     /// Keeps the value for the path where its needs stand so in the latest tree, and says whether they do.
@@ -66,25 +71,26 @@ impl<P: Compiled> Store<P> {
         if !fits(&*made, latest) {
             return Ok(false);
         }
-        let path = path.copy()?;
-        self.reserve()?;
-        self.put(path, made);
+        self.put(path.copy()?, made)?;
         Ok(true)
     }
 
-    /// The paths whose values need one of the names. Nothing is changed, so that a publishing can be weighed first.
+    /// The paths whose values need one of the names. Nothing is changed, so that a publishing can be weighed first. It looks at
+    /// these paths alone.
     pub fn dirty(&self, names: &Names) -> Result<Names, AllocError>
         ensures { IfOk result (λ dirty. dirty ≡ dirty_in P.needed names.now (kept_in self.now.shelves.items)) }
     {
-        let paths = dirty_paths(*self.shelves.allocator(), &self.shelves, names)?;
-        Ok(Names::new(paths))
+        self.deps.dirty(names)
     }
 
-    /// Takes out the values that need one of the names. It takes no memory.
-    pub fn clear(&mut self, names: &Names)
-        ensures { kept_in self.new.shelves.items ≡ clean_in P.needed names.now (kept_in self.old.shelves.items) }
+    /// Takes out the values of these paths, which are those of all that is dirty where a publishing clears it. It takes no memory.
+    pub fn clear(&mut self, paths: &Names)
+        ensures left { kept_in self.new.shelves.items ≡ without_values paths.now (kept_in self.old.shelves.items) }
+        ensures clean { (names : List (List ℕ)) → paths.now ≡ dirty_in P.needed names (kept_in self.old.shelves.items)
+            → kept_in self.new.shelves.items ≡ clean_in P.needed names (kept_in self.old.shelves.items) }
     {
-        clear(&mut self.shelves, names);
+        clear(&mut self.shelves, paths);
+        self.deps.remove_all(paths);
     }
 
     /// Takes out the values that need one of the names, and tells their paths.
@@ -93,7 +99,7 @@ impl<P: Compiled> Store<P> {
         ensures err { OnErr result (kept_in self.new.shelves.items ≡ kept_in self.old.shelves.items) }
     {
         let dirty = self.dirty(names)?;
-        self.clear(names);
+        self.clear(&dirty);
         Ok(dirty)
     }
 }
@@ -127,8 +133,7 @@ fn compare<P>(shelf: &Shelf<P>, path: &Path) -> Ordering
 fn put<P: Drop>(shelves: &mut Vec<Shelf<P>>, shelf: Shelf<P>)
     requires order { AreRising shelf_path shelves.old.items }
     requires room { vec_len shelves.old < vec_capacity shelves.old }
-    ensures kept { kept_in shelves.new.items ≡ with_value shelf.path (arc_value shelf.made) (kept_in shelves.old.items) }
-    ensures order { AreRising shelf_path shelves.new.items }
+    ensures { shelves.new.items ≡ with_item shelf_path shelf shelves.old.items }
 {
     match place_of(shelves, &shelf.path) {
         Ok(at) => shelves[at] = shelf,
@@ -140,47 +145,33 @@ fn put<P: Drop>(shelves: &mut Vec<Shelf<P>>, shelf: Shelf<P>)
     }
 }
 
-// The paths of the shelves whose values need one of the names.
-fn dirty_paths<P: Compiled>(
-    alloc: Global,
-    shelves: &[Shelf<P>],
-    names: &Names,
-) -> Result<Vec<Path>, AllocError>
-    ensures { IfOk result (λ paths. paths.items ≡ dirty_in P.needed names.now (kept_in shelves.now)) }
-{
-    let mut paths = Vec::new(alloc);
-    for shelf in shelves {
-        tell(shelf, names, &mut paths)?;
-    }
-    Ok(paths)
-}
-
-// Tells the path of a shelf whose value needs one of the names.
-fn tell<P: Compiled>(
-    shelf: &Shelf<P>,
-    names: &Names,
-    paths: &mut Vec<Path>,
-) -> Result<(), AllocError>
-    ensures { OnOk result (paths.new.items ≡ (if meets (P.needed (arc_value shelf.now.made)) names.now then paths.old.items ++ shelf.now.path ∷ [] else paths.old.items)) }
-{
-    if is_dirty(shelf, names) {
-        paths.push(shelf.path.copy()?)?;
-    }
-    Ok(())
-}
-
-// Whether the value of a shelf needs one of the names.
-fn is_dirty<P: Compiled>(shelf: &Shelf<P>, names: &Names) -> bool
-    ensures { result ≡ meets (P.needed (arc_value shelf.now.made)) names.now }
-{
-    meets(shelf.made.stamps().as_slice(), names)
-}
-
-// Takes out the shelves whose values need one of the names.
-fn clear<P: Compiled>(shelves: &mut Vec<Shelf<P>>, names: &Names)
+// Takes out the shelves of the paths. Few are looked up one by one; for many all are gone over once.
+fn clear<P: Drop>(shelves: &mut Vec<Shelf<P>>, paths: &Names)
     requires { AreRising shelf_path shelves.old.items }
-    ensures kept { kept_in shelves.new.items ≡ clean_in P.needed names.now (kept_in shelves.old.items) }
-    ensures order { AreRising shelf_path shelves.new.items }
+    ensures { shelves.new.items ≡ others shelf_path paths.now shelves.old.items }
 {
-    shelves.retain(|shelf| !is_dirty(shelf, names));
+    if paths.len() < shelves.len() / MANY {
+        take_out_each(shelves, paths);
+    } else {
+        shelves.retain(|shelf| !paths.contains(&shelf.path));
+    }
+}
+
+fn take_out_each<P: Drop>(shelves: &mut Vec<Shelf<P>>, paths: &Names)
+    requires { AreRising shelf_path shelves.old.items }
+    ensures { shelves.new.items ≡ others shelf_path paths.now shelves.old.items }
+{
+    for path in paths.as_slice() {
+        take_out(shelves, path);
+    }
+}
+
+// Takes out the shelf of the path, where there is one.
+fn take_out<P: Drop>(shelves: &mut Vec<Shelf<P>>, path: &Path)
+    requires { AreRising shelf_path shelves.old.items }
+    ensures { shelves.new.items ≡ without_item shelf_path path.now shelves.old.items }
+{
+    if let Ok(at) = place_of(shelves, path) {
+        shelves.remove(at);
+    }
 }

@@ -5,8 +5,8 @@ ghost use Rattle.site_words.specs.Fits.{fits};
 ghost use Rattle.site_words.specs.State.{after};
 ghost use Rattle.site_core_tests.specs.Roll.{is_roll};
 
-use crate::line::outcome_text;
-use crate::script::{Line, is_count, number, op_of, pass_of, words};
+use crate::line::{entry_text, file_text, outcome_text};
+use crate::script::{Line, Question, asked, number, op_of, pass_of, path_of, picture, words};
 use crate::word::Word;
 use pg_text::{BadPath, Failure};
 use site_core::{Act, Given, Site};
@@ -27,16 +27,16 @@ pub fn told(
         let Some((line, behind)) = rest.split_once('\n') else {
             break;
         };
-        tell(alloc, site, asked(line), &mut lines)?;
+        tell(alloc, site, before_mark(line), &mut lines)?;
         rest = behind;
     }
     Ok(lines)
 }
 
 // What stands before the mark.
-fn asked(line: &str) -> &str {
+fn before_mark(line: &str) -> &str {
     match line.split_once(" > ") {
-        Some((asked, _)) => asked,
+        Some((before, _)) => before,
         None => line,
     }
 }
@@ -67,15 +67,42 @@ fn times(line: &str) -> (u64, &str) {
     }
 }
 
-// What the line comes to. One that asks for the count is told how many entries the journal has.
-fn answer(alloc: Global, site: &mut Site<Word>, asked: &Line) -> Result<String, Failure<BadPath>> {
-    if is_count(asked) {
-        let count = site.len();
-        return Ok(format!(in alloc; "{count}")?);
+// What the line comes to.
+fn answer(alloc: Global, site: &mut Site<Word>, line: &Line) -> Result<String, Failure<BadPath>> {
+    match asked(line) {
+        Question::Count => Ok(count_text(alloc, site)?),
+        Question::Entry(place) => Ok(entry_at(alloc, site, place)?),
+        Question::File(path) => file(alloc, site, pass_of(line), path),
+        Question::Operation => {
+            let op = op_of(alloc, line)?;
+            let outcome = step(alloc, site, pass_of(line), op)?;
+            Ok(outcome_text(alloc, &outcome)?)
+        }
     }
-    let op = op_of(alloc, asked)?;
-    let outcome = step(alloc, site, pass_of(asked), op)?;
-    Ok(outcome_text(alloc, &outcome)?)
+}
+
+fn count_text(alloc: Global, site: &Site<Word>) -> Result<String, AllocError> {
+    let count = site.len();
+    format!(in alloc; "{count}")
+}
+
+fn entry_at(alloc: Global, site: &Site<Word>, place: u64) -> Result<String, AllocError> {
+    match site.history().iter().nth(place as usize) {
+        Some(entry) => entry_text(alloc, entry),
+        None => String::from_str(alloc, "none"),
+    }
+}
+
+// The file of the latest tree, as a picture shows it.
+fn file(
+    alloc: Global,
+    site: &mut Site<Word>,
+    pass: u8,
+    path: &str,
+) -> Result<String, Failure<BadPath>> {
+    let path = path_of(alloc, path)?;
+    let outcome = step(alloc, site, pass, picture(alloc, "-")?)?;
+    Ok(file_text(alloc, &outcome, &path)?)
 }
 
 /// One operation of a pass, with a value for an Offer. None where it doesn't meet the condition of a step, and for a Roll.

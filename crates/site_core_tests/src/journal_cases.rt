@@ -31,7 +31,7 @@ fn a_busy_session_is_told_before_a_full_journal(rt: HostRuntime) -> Result<(), F
 }
 
 const READS: &str =
-    "0 publish - /x.jsp 0 > version 1, 0 dirty\n0 begin - 0 > begun 0 1 - -\n0 fetch 0 /x.jsp > hit false\n0 offer 0 /x.jsp > kept true\n11780 times 0 get 0 > null\n1 begin - 0 > full 1048774 3276704\n0 end 0 - > ended\n1 begin - 0 > full 1048854 0\n0 count > 11785\n";
+    "0 publish - /x.jsp 0 > version 1, 0 dirty\n0 begin - 0 > begun 0 1 - -\n1 begin - 0 > full 182 4325296\n0 fetch 0 /x.jsp > hit false\n0 offer 0 /x.jsp > kept true\n1 begin - 0 > full 354 4325124\n0 get 0 > null\n1 begin - 0 > full 443 4325035\n11779 times 0 get 0 > null\n1 begin - 0 > full 1048774 3276704\n0 end 0 - > ended\n1 begin - 0 > full 1048854 0\n0 count > 11785\n";
 
 #[test]
 fn a_request_reads_an_absent_name_11780_times_and_ends(rt: HostRuntime) -> Result<(), Fail> {

@@ -16,7 +16,7 @@ mod word;
 
 pub use calls::{step, told};
 pub use fresh_site::{played, session_id};
-pub use line::{outcome_text, replied};
+pub use line::{entry_text, file_text, outcome_text, replied};
 pub use opening::{AMPLE, Unsound, opened};
-pub use script::{Line, is_count, number, op_of, pass_of, put, words};
+pub use script::{Line, Question, asked, number, op_of, pass_of, path_of, picture, put, words};
 pub use word::Word;

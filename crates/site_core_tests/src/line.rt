@@ -1,7 +1,9 @@
 use crate::word::Word;
+use pg_text::Path;
 use pg_value::{Attrs, Value};
 use site_core::{Gift, Given};
-use site_words::{Acted, AppReply, Refusal, Reply};
+use site_words::{Acted, AppReply, AppStep, Entry, Op, Refusal, Reply};
+use source_tree::Tree;
 use std::alloc::{AllocError, Global};
 
 /// What an outcome is told as.
@@ -106,5 +108,62 @@ fn app_told(alloc: Global, reply: &AppReply) -> Result<String, AllocError> {
         AppReply::Done => String::from_str(alloc, "done"),
         AppReply::Created => String::from_str(alloc, "created"),
         AppReply::Large { weight } => format!(in alloc; "large {weight}"),
+    }
+}
+
+/// The version that put the file with this path, and its length, in the tree of a picture.
+pub fn file_text(
+    alloc: Global,
+    outcome: &Option<Acted<Given<Word>, Refusal>>,
+    path: &Path,
+) -> Result<String, AllocError> {
+    match outcome {
+        Some(Acted::Did(given)) => match &given.gift {
+            Gift::Picture(tree, _, _) => stamped(alloc, tree, path),
+            _ => String::from_str(alloc, "no picture"),
+        },
+        _ => outcome_text(alloc, outcome),
+    }
+}
+
+fn stamped(alloc: Global, tree: &Tree, path: &Path) -> Result<String, AllocError> {
+    match tree.get(path) {
+        Some(file) => {
+            let (stamp, bytes) = (file.stamp, file.text.as_str().len());
+            format!(in alloc; "{stamp} {bytes}")
+        }
+        None => String::from_str(alloc, "none"),
+    }
+}
+
+/// The pass, the operation and the reply of an entry.
+pub fn entry_text(alloc: Global, entry: &Entry) -> Result<String, AllocError> {
+    let (pass, verb) = (entry.pass, verb(&entry.op));
+    let reply = replied(alloc, &entry.reply)?;
+    format!(in alloc; "{pass} {verb} {reply}")
+}
+
+fn verb(op: &Op) -> &'static str {
+    match op {
+        Op::Publish { .. } => "publish",
+        Op::Begin { .. } => "begin",
+        Op::App { step, .. } => step_verb(step),
+        Op::Fresh { .. } => "fresh",
+        Op::Fetch { .. } => "fetch",
+        Op::Offer { .. } => "offer",
+        Op::End { .. } => "end",
+        Op::Abandon { .. } => "abandon",
+        Op::Snapshot { .. } => "picture",
+        Op::Roll => "roll",
+    }
+}
+
+fn step_verb(step: &AppStep) -> &'static str {
+    match step {
+        AppStep::Get(_) => "get",
+        AppStep::Set(_, _) => "set",
+        AppStep::Remove(_) => "remove",
+        AppStep::Ensure(_, _) => "ensure",
+        AppStep::All => "all",
     }
 }

@@ -44,9 +44,26 @@ pub fn pass_of(line: &Line) -> u8 {
     line.pass.parse::<u8>().unwrap_or(u8::MAX)
 }
 
-/// Whether a line asks how many entries the journal has.
-pub fn is_count(line: &Line) -> bool {
-    line.verb == "count"
+/// What a line asks for.
+#[derive(Clone, Copy)]
+pub enum Question<'a> {
+    /// How many entries the journal has.
+    Count,
+    /// The entry at this place of the journal.
+    Entry(u64),
+    /// The file with this path in the latest tree, by a picture.
+    File(&'a str),
+    Operation,
+}
+
+/// What the line asks for.
+pub fn asked<'a>(line: &Line<'a>) -> Question<'a> {
+    match line.verb {
+        "count" => Question::Count,
+        "entry" => Question::Entry(number(line.first)),
+        "file" => Question::File(line.first),
+        _ => Question::Operation,
+    }
 }
 
 /// The operation of a line, and a Roll for a word that says none.
@@ -54,11 +71,16 @@ pub fn op_of(alloc: Global, line: &Line) -> Result<Op, Failure<BadPath>> {
     match line.verb {
         "begin" => Ok(begin(alloc, line)?),
         "publish" => publish(alloc, line),
-        "picture" => Ok(Op::Snapshot {
-            cookie: cookie(alloc, line.first)?,
-        }),
+        "picture" => Ok(picture(alloc, line.first)?),
         _ => of_request(alloc, number(line.first), line),
     }
+}
+
+/// A picture with this cookie.
+pub fn picture(alloc: Global, word: &str) -> Result<Op, AllocError> {
+    Ok(Op::Snapshot {
+        cookie: cookie(alloc, word)?,
+    })
 }
 
 fn begin(alloc: Global, line: &Line) -> Result<Op, AllocError> {
@@ -124,7 +146,8 @@ fn of_request(alloc: Global, request: u64, line: &Line) -> Result<Op, Failure<Ba
     }
 }
 
-fn path_of(alloc: Global, word: &str) -> Result<Path, Failure<BadPath>> {
+/// The path that a word is.
+pub fn path_of(alloc: Global, word: &str) -> Result<Path, Failure<BadPath>> {
     resolve(alloc, None, word)
 }
 

@@ -3,7 +3,7 @@ use crate::opening::AMPLE;
 use std::test::Fail;
 
 const TWO_PASSES: &str =
-    "0 begin - 0 > begun 0 0 - -\n1 begin - 0 > begun 1 0 - -\n0 get 0 > null\n1 get 1 > null\n0 set 0 1 > done\n1 set 1 1 > done\n1 get 1 > 1\n2 begin - 0 > full 629 8650123\n0 count > 7\n";
+    "0 begin - 0 > begun 0 0 - -\n1 begin - 0 > begun 1 0 - -\n2 begin - 0 > full 160 8650592\n0 get 0 > null\n2 begin - 0 > full 249 8650503\n1 get 1 > null\n2 begin - 0 > full 338 8650414\n0 set 0 1 > done\n2 begin - 0 > full 435 8650317\n1 set 1 1 > done\n2 begin - 0 > full 532 8650220\n1 get 1 > 1\n0 entry 2 > 0 get null\n0 entry 3 > 1 get null\n0 entry 4 > 0 set done\n0 entry 5 > 1 set done\n0 entry 6 > 1 get 1\n0 count > 7\n";
 
 #[test]
 fn two_passes_each_read_a_name_and_set_it(rt: HostRuntime) -> Result<(), Fail> {
@@ -23,7 +23,7 @@ fn refusals_come_in_their_order(rt: HostRuntime) -> Result<(), Fail> {
 }
 
 const BASES: &str =
-    "0 publish - /a.jsp 1 > version 1, 0 dirty\n0 publish 1 /a.jsp 2 > version 2, 0 dirty\n0 publish - /b.jsp 1 > version 3, 0 dirty\n0 publish 2 /a.jsp 3 > stale 3\n0 publish 3 /a.jsp 3 > version 4, 0 dirty\n";
+    "0 publish - /a.jsp 1 > version 1, 0 dirty\n0 publish 1 /a.jsp 2 > version 2, 0 dirty\n0 publish - /b.jsp 1 > version 3, 0 dirty\n0 publish 2 /a.jsp 3 > stale 3\n0 file /a.jsp > 2 2\n0 publish 3 /a.jsp 3 > version 4, 0 dirty\n0 file /a.jsp > 4 3\n0 file /b.jsp > 3 1\n0 file /c.jsp > none\n";
 
 #[test]
 fn a_publishing_names_its_base(rt: HostRuntime) -> Result<(), Fail> {

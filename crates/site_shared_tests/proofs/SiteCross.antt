@@ -7,6 +7,7 @@ use Rattle.std.proofs.Crossing.{crosses}
 use Rattle.std.proofs.option.Option.TheSendSync as option
 use Rattle.std.proofs.alloc.Global.TheSendSync as global
 use Rattle.pg_text.proofs.path.Path.TheSendSync as path
+use Rattle.dep_graph.proofs.deps.Deps.TheSendSync as deps
 use Rattle.pg_text.proofs.listed.Listed.TheSendSync as listed
 use Rattle.source_tree.proofs.tree.Tree.TheSendSync as tree
 use Rattle.program_store.specs.contracts.shelf.Shelf as Shelf
@@ -36,11 +37,11 @@ use Rattle.site_shared_tests.proofs.WordsCross.{attrs_send, entry_send}
 shelf_send : (P : RattleType) → IsSend P → IsSync P → IsSend (Shelf.the_row P)
 shelf_send P p y = recorded_send (Shelf.the_field P).row _ _ (Shelf.the_type P).to_one (struct_send (S.shape (Shelf.the_type P)) (search (path.the_send, crosses, sendable), (search (p, y, crosses, sendable), tt)))
 
-store_send : (P : RattleType) → IsSend P → IsSync P → IsSend (Store.the_field P).row
-store_send P p y = let shelf : IsSend (Shelf.the_row P) = shelf_send P p y in struct_send (S.shape (Store.the_type P)) (search (shelf, crosses, sendable), tt)
+store_send : (P : RattleType) (g : Ghosts P.Denot) → IsSend P → IsSync P → IsSend (Store.the_field P g).row
+store_send P g p y = let shelf : IsSend (Shelf.the_row P) = shelf_send P p y in struct_send (S.shape (Store.the_type P g)) (search (shelf, crosses, sendable), (search (deps.the_send, sendable), tt))
 
-pub held_send : (P : RattleType) → IsSend P → IsSync P → IsSend (Held.the_field P).row
-held_send P p y = struct_send (S.shape (Held.the_type P)) (
+pub held_send : (P : RattleType) (g : Ghosts P.Denot) → IsSend P → IsSync P → IsSend (Held.the_field P g).row
+held_send P g p y = struct_send (S.shape (Held.the_type P g)) (
   global.the_field_send,
   (
     search (tree.the_send, tree.the_sync, crosses, sendable) depth 30,
@@ -53,7 +54,7 @@ held_send P p y = struct_send (S.shape (Held.the_type P)) (
           (
             search (request.the_send, option.the_send, crosses, sendable) depth 30,
             (
-              store_send P p y,
+              store_send P g p y,
               (search sendable, (search sendable, (search sendable, (search sendable, tt)))),
             ),
           ),
@@ -90,7 +91,7 @@ entry_row_send = recorded_send (Entry.the_field).row _ _ (Entry.the_type).to_one
 inside_send : (P : RattleType) (g : Ghosts P.Denot) → IsSend P → IsSync P → IsSend (Inside.the_row P g)
 inside_send P g p y = recorded_send (Inside.the_field P g).row _ _ (Inside.the_type P g).to_one (struct_send (S.shape (Inside.the_type P g)) (
   global.the_field_send,
-  (opening_send, (search (entry_row_send, crosses, sendable), (held_send P p y, tt))),
+  (opening_send, (search (entry_row_send, crosses, sendable), (held_send P g p y, tt))),
 ))
 
 pub site_send : (P : RattleType) (g : Ghosts P.Denot) → IsSend P → IsSync P → IsSend (Site.the_row P g)

@@ -4,6 +4,7 @@ use Rattle.std.specs.Arc.{arc_value}
 use Rattle.pg_value.specs.Datum.{Datum}
 use Rattle.source_tree.specs.declared.file.File.{File}
 use Rattle.program_store.specs.Store.{kept_in, kept_path}
+use Rattle.site_words.specs.declared.compiled.Compiled.{Ghosts}
 use Rattle.site_words.specs.declared.words.Entry.{Entry}
 use Rattle.site_words.specs.declared.words.Opening.{Opening}
 use Rattle.site_words.specs.Runs.{UnderWay}
@@ -32,7 +33,7 @@ under_in None = None
 under_in (Some request) = Some (record { run = request.run; tree = arc_value request.tree })
 
 -- what is held
-abbrev pub parts_of : {P : Type 0} → Held P → Parts P
+abbrev pub parts_of : {P : Type 0} {ghosts : Ghosts P} → Held P ghosts → Parts P
 parts_of held = record {
   tree = arc_value held.tree;
   version = held.version;

@@ -11,13 +11,14 @@ use crate::request::Request;
 use crate::session_list::SessionList;
 use pg_value::Attrs;
 use program_store::Store;
+use site_words::Compiled;
 use source_tree::Tree;
 use std::alloc::Global;
 use std::sync::Arc;
 
 /// All that a site holds beside its opening and its history.
 #[derive(Drop)]
-pub struct Held<P> {
+pub struct Held<P: Compiled> {
     pub alloc: Global,
     pub tree: Arc<Tree>,
     pub version: u64,

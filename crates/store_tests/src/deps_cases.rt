@@ -42,3 +42,30 @@ fn a_changed_tag_file_makes_its_pages_dirty(rt: HostRuntime) -> Result<(), Fail>
     );
     Ok(())
 }
+
+#[test]
+fn a_path_that_needs_other_names_is_with_the_users_of_these(rt: HostRuntime) -> Result<(), Fail> {
+    let lines = told(
+        rt.alloc(),
+        &[
+            Want::Add("/p.jsp", &["/a", "/b", "/c"]),
+            Want::Add("/q.jsp", &["/b"]),
+            Want::Add("/p.jsp", &["/b", "/d"]),
+            Want::Users("/a"),
+            Want::Users("/b"),
+            Want::Users("/c"),
+            Want::Users("/d"),
+            Want::Dirty(&["/a", "/b", "/c", "/d"]),
+            Want::Remove("/q.jsp"),
+            Want::Remove("/none"),
+            Want::Remove("/p.jsp"),
+            Want::Users("/b"),
+            Want::Dirty(&["/b", "/d"]),
+        ],
+    )?;
+    assert_eq!(rt;
+        lines.as_str(),
+        "added\nadded\nadded\nnone\n/p.jsp /q.jsp \nnone\n/p.jsp \n/p.jsp /q.jsp \nremoved\nremoved\nremoved\nnone\n\n"
+    );
+    Ok(())
+}

@@ -57,3 +57,35 @@ fn a_value_is_found_where_its_needs_stand_so(rt: HostRuntime) -> Result<(), Fail
     );
     Ok(())
 }
+
+#[test]
+fn a_value_that_is_replaced_needs_what_the_new_one_needs(rt: HostRuntime) -> Result<(), Fail> {
+    let alloc = rt.alloc();
+    let trees = of_changes(alloc, &[&[TAG, "/i.jspf", "/p.jsp", "/q.jsp"]])?;
+    let lines = asked(
+        alloc,
+        &trees,
+        &[
+            Ask::Keep("/p.jsp", 0, &[(TAG, Some(1)), ("/p.jsp", Some(1))]),
+            Ask::Keep(
+                "/q.jsp",
+                0,
+                &[("/q.jsp", Some(1)), ("/i.jspf", Some(1)), (TAG, Some(1))],
+            ),
+            Ask::Keep("/p.jsp", 0, &[("/i.jspf", Some(1)), ("/p.jsp", Some(1))]),
+            Ask::Dirty(&[TAG]),
+            Ask::Dirty(&["/i.jspf", "/p.jsp"]),
+            Ask::Drop(&["/q.jsp"]),
+            Ask::Dirty(&["/i.jspf", TAG]),
+            Ask::Hit("/p.jsp", 0),
+            Ask::Drop(&["/none"]),
+            Ask::Drop(&["/i.jspf"]),
+            Ask::Hit("/p.jsp", 0),
+        ],
+    )?;
+    assert_eq!(rt;
+        lines.as_str(),
+        "kept true\nkept true\nkept true\n/q.jsp \n/p.jsp /q.jsp \n/q.jsp \n/p.jsp \nhit true\n\n/p.jsp \nhit false\n"
+    );
+    Ok(())
+}

@@ -6,9 +6,9 @@ use Rattle.dep_graph.proofs.deps.put.Goals as goal
 
 pub returns-in-Ok : goal.returns-in-Ok
 returns-in-Ok c =
-    with_found path_of c.args.dependent c.args.dependents.now.items c.in-Ok.at (subst (IsPlace path_of c.args.dependent.path c.args.dependents.now.items) c.in-Ok.is c.requires)
+    with_found path_of c.args.dependent c.args.dependents.now.items c.in-Ok.at (subst (IsPlace path_of c.args.dependent.path c.args.dependents.now.items) c.in-Ok.is c.requires.place)
 
-pub returns-in_ok-insert-in-Err : goal.returns-in_ok-insert-in-Err
-returns-in_ok-insert-in-Err c =
-    c.in_ok-insert-in-Err.ensures.items
-    ∙ with_absent path_of c.args.dependent c.args.dependents.now.items c.in-Err.at (subst (IsPlace path_of c.args.dependent.path c.args.dependents.now.items) c.in-Err.is c.requires)
+pub returns-in-Ok-insert : goal.returns-in-Ok-insert
+returns-in-Ok-insert c =
+    c.in-Ok-insert.ensures.items
+    ∙ with_absent path_of c.args.dependent c.args.dependents.now.items c.in-Err.at (subst (IsPlace path_of c.args.dependent.path c.args.dependents.now.items) c.in-Err.is c.requires.place)

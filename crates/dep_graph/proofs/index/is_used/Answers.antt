@@ -1,5 +1,5 @@
 use Rattle.std.proofs.Common.{◌∙◌, not, ap}
-use Rattle.dep_graph.proofs.IndexLemmas.{used_is}
+use Rattle.dep_graph.proofs.TogetherLemmas.{used_is}
 use Rattle.dep_graph.proofs.index.is_used.Goals as goal
 
 pub returns : goal.returns

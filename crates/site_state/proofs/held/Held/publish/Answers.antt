@@ -2,7 +2,7 @@ use Rattle.std.proofs.Common.{◌≡◌, ◌+◌, map, Ok, Some, None, refl, sym
 use Rattle.source_tree.specs.Changed.{changed}
 use Rattle.source_tree.specs.Edits.{after_edits}
 use Rattle.source_tree.specs.Limits.{tree_fault, tree_of}
-use Rattle.program_store.specs.Store.{clean_in, dirty_in, kept_in}
+use Rattle.program_store.specs.Store.{dirty_in, kept_in}
 use Rattle.site_words.specs.declared.words.Op.TheVariants as op
 use Rattle.site_words.specs.declared.words.Reply.{Reply}
 use Rattle.site_words.specs.declared.words.Reply.TheVariants as reply
@@ -55,5 +55,5 @@ returns g c =
     (publish_refusal g.P.Compiled.needs g.P.Compiled.made g.P.Compiled.needed laws c.args.opening.now c.args.history.now (parts_of c.args.self.now) c.args.pass c.args.base c.args.edits.now None None None c.requires.can.kept c.in_default.ensures no_limit full_is)
     refl refl
     (c.in-Ok-new.ensures.ok ∙ (c.in-Ok.ensures.files ∙ ap (λ t. after_edits c.args.edits.now (c.args.self.now.version + 1) t) c.deref.ensures))
-    (c.clear.ensures ∙ ap (λ n. clean_in g.P.Compiled.needed n (kept_in c.args.self.now.store.shelves.items)) names)
-    c.saturating_add-self.ensures claim (c.plain.ensures.reply ∙ told) (c.plain.ensures.told ∙ (c.in-Ok-copy_reply.ensures.copy ∙ told))
+    (c.clear.ensures.clean (changed c.args.edits.now c.args.self.now.tree.value) (c.in-Ok-copy.ensures ∙ c.in-Ok-dirty.ensures ∙ ap (λ n. dirty_in g.P.Compiled.needed n (kept_in c.args.self.now.store.shelves.items)) names))
+    c.saturating_add-self.ensures claim (c.plain.ensures.reply ∙ told) (c.plain.ensures.told ∙ (ap (λ d. reply.Published (c.args.self.now.version + 1) d) c.in-Ok-copy.ensures ∙ told))
