@@ -1,1 +1,1 @@
-pub mod BareServing
+pub mod FilesServed

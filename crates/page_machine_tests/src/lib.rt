@@ -1,12 +1,34 @@
-//! Tests of the machine: pages that run alone, in a site that has no files.
+//! Tests of the machine: pages in writing that run in a site of listed files and answers.
 #![tactic(auto)]
 
-mod alone;
-mod bare;
 #[cfg(test)]
-mod codes;
+mod calls;
 #[cfg(test)]
-mod tests;
+mod cells;
+#[cfg(test)]
+mod faults;
+#[cfg(test)]
+mod flow;
+#[cfg(test)]
+mod instructions;
+#[cfg(test)]
+mod limits;
+#[cfg(test)]
+mod operations;
+#[cfg(test)]
+mod pages;
+mod ran;
+#[cfg(test)]
+mod sites;
+#[cfg(test)]
+mod tags;
+#[cfg(test)]
+mod told;
+#[cfg(test)]
+mod values;
+#[cfg(test)]
+mod variables;
+#[cfg(test)]
+mod words;
 
-pub use alone::{Ran, run_alone};
-pub use bare::Bare;
+pub use ran::{Ran, Surroundings, run_page};

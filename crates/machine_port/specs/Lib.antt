@@ -1,0 +1,4 @@
+pub mod Asked
+pub mod Files
+pub mod Kinds
+pub mod Prepared
