@@ -1,0 +1,5 @@
+pub mod BeforeLemmas
+pub mod ContentLemmas
+pub mod ReadingLemmas
+pub mod RoleLemmas
+pub mod WrittenLemmas

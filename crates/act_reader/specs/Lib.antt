@@ -1,0 +1,4 @@
+pub mod Before
+pub mod Contents
+pub mod Parts
+pub mod Roles

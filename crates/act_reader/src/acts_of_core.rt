@@ -1,0 +1,188 @@
+// The acts of core tags.
+#![tactic(auto, using(page_acts::proofs::Rows::rows))]
+
+ghost use Rattle.std.specs.Prelude.{◌≡◌, codes, map, IfOk};
+ghost use Rattle.act_reader.specs.Parts.{content_with, parts_view};
+ghost use Rattle.page_acts.specs.Views.{act_of};
+ghost use Rattle.jstl_tags.specs.declared.core_name.CoreName.TheVariants as core;
+ghost use Rattle.page_meaning.specs.Page as page;
+ghost use Rattle.page_shape.specs.Named.{some_variable, static_text, variable_in};
+ghost use Rattle.page_shape.specs.Shape.{core_node};
+ghost use Rattle.unit_build.specs.Views.{given_of};
+
+use crate::named::{some_variable, static_text, target_in, variable_in};
+use crate::parts::Parts;
+use crate::roles::nothing;
+use jstl_tags::CoreName;
+use page_acts::Act;
+use std::alloc::{AllocError, Global};
+use unit_build::Action;
+
+/// The act of a core tag of these parts. Params and branches have none of their own.
+pub(crate) fn core_act<'u>(
+    alloc: Global,
+    name: CoreName,
+    action: &'u Action,
+    parts: Parts<'u>,
+) -> Result<Act<'u>, AllocError>
+    ensures { IfOk result (λ act. act_of act ≡ core_node name (map given_of action.now.attributes) (parts_view parts.entry).attributes (content_with (parts_view parts.entry)) action.now.place) }
+{
+    match name {
+        CoreName::Out => Ok(out(action, parts)),
+        CoreName::Set => set(alloc, action, parts),
+        CoreName::Remove => remove(alloc, action),
+        CoreName::Catch => catch(alloc, action, parts),
+        CoreName::If => when_true(alloc, action, parts),
+        CoreName::Choose => Ok(choose(action, parts)),
+        CoreName::When => Ok(nothing(alloc, &action.place)),
+        CoreName::Otherwise => Ok(nothing(alloc, &action.place)),
+        CoreName::ForEach => for_each(alloc, action, parts),
+        CoreName::ForTokens => for_tokens(alloc, action, parts),
+        CoreName::Import => import(alloc, action, parts),
+        CoreName::Url => url(alloc, action, parts),
+        CoreName::Redirect => Ok(redirect(action, parts)),
+        CoreName::Param => Ok(nothing(alloc, &action.place)),
+    }
+}
+
+// `c:out`.
+fn out<'u>(action: &'u Action, parts: Parts<'u>) -> Act<'u>
+    ensures { act_of result ≡ page.out (parts_view parts.entry).attributes (parts_view parts.entry).body action.now.place }
+{
+    Act::Out {
+        attributes: parts.attributes,
+        body: parts.body,
+        place: &action.place,
+    }
+}
+
+// `c:set`, of a variable or of an entry.
+fn set<'u>(alloc: Global, action: &'u Action, parts: Parts<'u>) -> Result<Act<'u>, AllocError>
+    ensures { IfOk result (λ act. act_of act ≡ core_node core.Set (map given_of action.now.attributes) (parts_view parts.entry).attributes (content_with (parts_view parts.entry)) action.now.place) }
+{
+    let attributes = action.attributes.as_slice();
+    match target_in(alloc, attributes)? {
+        Some(target) => Ok(Act::SetEntry {
+            target,
+            attributes: parts.attributes,
+            body: parts.body,
+            place: &action.place,
+        }),
+        None => Ok(Act::Set {
+            variable: variable_in(alloc, attributes)?,
+            attributes: parts.attributes,
+            body: parts.body,
+            place: &action.place,
+        }),
+    }
+}
+
+// `c:remove`.
+fn remove<'u>(alloc: Global, action: &'u Action) -> Result<Act<'u>, AllocError>
+    ensures { IfOk result (λ act. act_of act ≡ page.remove (variable_in (map given_of action.now.attributes)) action.now.place) }
+{
+    Ok(Act::Remove {
+        variable: variable_in(alloc, action.attributes.as_slice())?,
+        place: &action.place,
+    })
+}
+
+// `c:catch`.
+fn catch<'u>(alloc: Global, action: &'u Action, parts: Parts<'u>) -> Result<Act<'u>, AllocError>
+    ensures { IfOk result (λ act. act_of act ≡ page.catch (static_text (codes "var") (map given_of action.now.attributes)) (parts_view parts.entry).body action.now.place) }
+{
+    Ok(Act::Catch {
+        variable: static_text(alloc, action.attributes.as_slice(), "var")?,
+        body: parts.body,
+        place: &action.place,
+    })
+}
+
+// `c:if`.
+fn when_true<'u>(alloc: Global, action: &'u Action, parts: Parts<'u>) -> Result<Act<'u>, AllocError>
+    ensures { IfOk result (λ act. act_of act ≡ page.when_true (some_variable (map given_of action.now.attributes)) (parts_view parts.entry).attributes (parts_view parts.entry).body action.now.place) }
+{
+    Ok(Act::If {
+        variable: some_variable(alloc, action.attributes.as_slice())?,
+        attributes: parts.attributes,
+        body: parts.body,
+        place: &action.place,
+    })
+}
+
+// `c:choose`.
+fn choose<'u>(action: &'u Action, parts: Parts<'u>) -> Act<'u>
+    ensures { act_of result ≡ page.choose (parts_view parts.entry).branches action.now.place }
+{
+    Act::Choose {
+        branches: parts.branches,
+        place: &action.place,
+    }
+}
+
+// `c:forEach`.
+fn for_each<'u>(alloc: Global, action: &'u Action, parts: Parts<'u>) -> Result<Act<'u>, AllocError>
+    ensures { IfOk result (λ act. act_of act ≡ page.each (static_text (codes "var") (map given_of action.now.attributes)) (static_text (codes "varStatus") (map given_of action.now.attributes)) (parts_view parts.entry).attributes (parts_view parts.entry).body action.now.place) }
+{
+    let attributes = action.attributes.as_slice();
+    Ok(Act::ForEach {
+        variable: static_text(alloc, attributes, "var")?,
+        status: static_text(alloc, attributes, "varStatus")?,
+        attributes: parts.attributes,
+        body: parts.body,
+        place: &action.place,
+    })
+}
+
+// `c:forTokens`.
+fn for_tokens<'u>(
+    alloc: Global,
+    action: &'u Action,
+    parts: Parts<'u>,
+) -> Result<Act<'u>, AllocError>
+    ensures { IfOk result (λ act. act_of act ≡ page.each_token (static_text (codes "var") (map given_of action.now.attributes)) (static_text (codes "varStatus") (map given_of action.now.attributes)) (parts_view parts.entry).attributes (parts_view parts.entry).body action.now.place) }
+{
+    let attributes = action.attributes.as_slice();
+    Ok(Act::ForTokens {
+        variable: static_text(alloc, attributes, "var")?,
+        status: static_text(alloc, attributes, "varStatus")?,
+        attributes: parts.attributes,
+        body: parts.body,
+        place: &action.place,
+    })
+}
+
+// `c:import`.
+fn import<'u>(alloc: Global, action: &'u Action, parts: Parts<'u>) -> Result<Act<'u>, AllocError>
+    ensures { IfOk result (λ act. act_of act ≡ page.import (some_variable (map given_of action.now.attributes)) (parts_view parts.entry).attributes (parts_view parts.entry).params action.now.place) }
+{
+    Ok(Act::Import {
+        variable: some_variable(alloc, action.attributes.as_slice())?,
+        attributes: parts.attributes,
+        params: parts.params,
+        place: &action.place,
+    })
+}
+
+// `c:url`.
+fn url<'u>(alloc: Global, action: &'u Action, parts: Parts<'u>) -> Result<Act<'u>, AllocError>
+    ensures { IfOk result (λ act. act_of act ≡ page.url (some_variable (map given_of action.now.attributes)) (parts_view parts.entry).attributes (parts_view parts.entry).params action.now.place) }
+{
+    Ok(Act::Url {
+        variable: some_variable(alloc, action.attributes.as_slice())?,
+        attributes: parts.attributes,
+        params: parts.params,
+        place: &action.place,
+    })
+}
+
+// `c:redirect`.
+fn redirect<'u>(action: &'u Action, parts: Parts<'u>) -> Act<'u>
+    ensures { act_of result ≡ page.redirect (parts_view parts.entry).attributes (parts_view parts.entry).params action.now.place }
+{
+    Act::Redirect {
+        attributes: parts.attributes,
+        params: parts.params,
+        place: &action.place,
+    }
+}
