@@ -1,0 +1,29 @@
+//! The code of each kind of action behind the values of its attributes, from the codes of its parts: a body, params, branches, and what a call
+//! hands down. Each part's own code was made over its own ground, which is what stands open below the values that it takes.
+#![tactic(auto)]
+
+mod addressing;
+mod beans;
+mod bodies;
+mod calls;
+mod choices;
+mod choosing;
+mod enclosing;
+mod evaluations;
+mod loops;
+mod names;
+mod outputs;
+mod tags;
+mod variables;
+
+pub use addressing::Addressing;
+pub use beans::{get_property, set_property, use_bean};
+pub use bodies::{param, param_ground};
+pub use calls::{do_body, invoke};
+pub use choices::catch;
+pub use choosing::{TestedBranch, choice, when};
+pub use enclosing::Enclosing;
+pub use evaluations::Evaluations;
+pub use outputs::{shown, template};
+pub use tags::call_tag;
+pub use variables::remove;

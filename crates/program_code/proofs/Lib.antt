@@ -1,0 +1,5 @@
+pub mod ActionLemmas
+pub mod CallLemmas
+pub mod ChoiceLemmas
+pub mod ListLemmas
+pub mod ValueLemmas
