@@ -1,0 +1,4 @@
+pub mod Made
+pub mod MadeLaws
+pub mod Pages
+pub mod UnitLaws
