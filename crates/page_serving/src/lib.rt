@@ -1,0 +1,9 @@
+//! Pages of a site as they are served: what is told of a tree's paths stands there, and the run of a page's program does what the page
+//! means.
+#![tactic(auto)]
+
+mod laws;
+mod playing;
+
+pub use laws::served;
+pub use playing::play;

@@ -1,0 +1,8 @@
+//! The pages of a tree: each is read, translated and run in one call, which does what the page means.
+#![tactic(auto)]
+
+mod making;
+mod running;
+
+pub use making::make;
+pub use running::{PageEnd, run_at};

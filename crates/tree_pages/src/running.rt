@@ -1,0 +1,87 @@
+// The run of a page of a tree.
+ghost use Rattle.std.specs.Prelude.{◌≡◌, ◌+◌, ◌-◌, ◌≤◌, ℕ, List, Option, IsSome};
+ghost use Rattle.out_buffer.specs.Held.{Stands};
+ghost use Rattle.out_buffer.specs.Writer.{Writer as Written};
+ghost use Rattle.page_machine.specs.Run.{IsInOrder, StandsFor, level_limit};
+ghost use Rattle.page_made.specs.Made.{TellsPages};
+ghost use Rattle.page_meaning.specs.State.{State};
+ghost use Rattle.page_serving.specs.Meant.{PageMeant, served_at};
+ghost use Rattle.run_stage.specs.Standing.{HasCharged, KeepsResponse, KeepsSession};
+ghost use Rattle.run_world.specs.Origin.{Origin};
+ghost use Rattle.source_tree.specs.Limits.{IsWithinLimits};
+ghost use Rattle.tree_pages.specs.Came.{ComesSo, IsUntouched, KeepsDepth, StepsSo};
+ghost use Rattle.unit_source.specs.Files.{text_in};
+
+use crate::making::make;
+use edges::{Ledger, Sink, Steps};
+use http_in::{Param, Request};
+use out_buffer::Writer;
+use page_machine::RunEnd;
+use page_made::{Made, MadeBody};
+use page_serving::play;
+use pg_text::{PageFault, Path};
+use run_world::{Around, Program};
+use scopes::Scopes;
+use site_words::AppPort;
+use source_tree::Tree;
+use std::alloc::Global;
+
+/// What comes of the page at a path: it has a fault, it ran, or memory was wanting before it could run.
+#[derive(Drop)]
+pub enum PageEnd {
+    Faulty(PageFault),
+    Ran(RunEnd),
+    NoMemory,
+}
+
+/// Reads the page at a path of a tree where a file stands, translates it and runs it, over a port of this tree. Its Fetch was charged before.
+/// `steps` counts the bytes of the files that the page needs, each once.
+pub fn run_at<P: AppPort<Program>, K: Sink, L: Ledger>(
+    alloc: Global,
+    tree: &Tree,
+    path: &Path,
+    request: &Request,
+    params: &[Param],
+    scopes: &mut Scopes,
+    writer: &mut Writer,
+    sink: &mut K,
+    around: &mut Around,
+    port: &mut P,
+    steps: &mut Steps<L>,
+) -> PageEnd
+    requires limits { IsWithinLimits tree.now }
+    requires stands { IsSome (text_in tree.now path.now) }
+    requires tree { P.tree port.old ≡ tree.now }
+    requires tells { TellsPages P.made P.faulty }
+    requires in_order { IsInOrder scopes.old around.old (P.asking port.old) }
+    requires promise { 4320000 ≤ around.old.charge + (P.asking port.old).left }
+    requires writer { (start : Option (List ℕ)) × (before : ℕ) × (written : Written) × Stands start before writer.old (K.taken sink.old) (K.faults sink.old) written }
+    ensures meant { ComesSo tree.now path.now (λ page end. (origin : Origin) (s : State) → StandsFor origin scopes.old writer.old (K.taken sink.old) (K.faults sink.old) around.old (P.asking port.old) s
+        → PageMeant (served_at tree.now request.now around.old) page params.now (level_limit - around.old.depth) (StandsFor origin scopes.new writer.new (K.taken sink.new) (K.faults sink.new) around.new (P.asking port.new)) s (P.asking port.old).answers (P.asking port.new).answers around.new.depth end) result }
+    ensures steps { StepsSo tree.now path.now steps.old steps.new result }
+    ensures scopes { IsUntouched scopes.old scopes.new result }
+    ensures writer { IsUntouched writer.old writer.new result }
+    ensures sink { IsUntouched sink.old sink.new result }
+    ensures around { IsUntouched around.old around.new result }
+    ensures port { IsUntouched port.old port.new result }
+    ensures in_order { IsInOrder scopes.new around.new (P.asking port.new) }
+    ensures charged { HasCharged around.old around.new (P.asking port.old) (P.asking port.new) }
+    ensures depth { KeepsDepth around.old.depth around.new.depth result }
+    ensures session { KeepsSession around.old around.new }
+    ensures response { KeepsResponse writer.old writer.new around.old around.new }
+    ensures exception { around.new.exception ≡ around.old.exception }
+    ensures tree { P.tree port.new ≡ tree.now }
+    ensures leads { P.leads port.old port.new }
+{
+    let Ok(made) = make(alloc, tree, path, steps) else {
+        return PageEnd::NoMemory;
+    };
+    let Made { deps: _deps, body } = made;
+    let program = match body {
+        MadeBody::Program(program) => program,
+        MadeBody::Fault(fault) => return PageEnd::Faulty(fault),
+    };
+    PageEnd::Ran(play(
+        alloc, &program, request, params, scopes, writer, sink, around, port,
+    ))
+}
