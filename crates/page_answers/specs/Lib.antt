@@ -1,0 +1,4 @@
+pub mod Answers
+pub mod Dropped
+pub mod Standing
+pub mod Turns

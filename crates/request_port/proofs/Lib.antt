@@ -1,0 +1,3 @@
+pub mod AskedLemmas
+pub mod FindLemmas
+pub mod LeadLemmas
