@@ -1,0 +1,11 @@
+pub mod GoneLemmas
+pub mod HeadLemmas
+pub mod PlayedLemmas
+pub mod WithinLemmas
+pub mod TargetLemmas
+pub mod ChainLemmas
+pub mod LookLemmas
+pub mod CloseLemmas
+pub mod FirstLemmas
+pub mod RequestLemmas
+pub mod BufferLemmas

@@ -1,0 +1,4 @@
+use Rattle.request_pages.proofs.chain.+run_chain.Given as goal
+
+abbrev pub decreases-run_chain : goal.decreases-run_chain
+decreases-run_chain g l = l.forwards

@@ -1,0 +1,45 @@
+-- What a page that isn't included answers, from the state in which the request comes to it.
+use Rattle.std.specs.Prelude.{◌≡◌, ◌+◌, ◌≤◌, ℕ, List, ◌++◌, Option, is_some, if◌then◌else◌, Result, Ok, Err}
+use Rattle.http_in.specs.declared.params.Param.{Param}
+use Rattle.http_out.specs.declared.status.Status.{Status}
+use Rattle.out_buffer.specs.Held.{Held}
+use Rattle.page_answers.specs.Dropped.{HeadsSo}
+use Rattle.page_meaning.specs.Context.{Served}
+use Rattle.page_meaning.specs.Growth.{Grows, state_of}
+use Rattle.page_meaning.specs.Page.{Page}
+use Rattle.page_meaning.specs.Respond.{OnFault, first_run, run_answer}
+use Rattle.page_meaning.specs.Response.{Answered}
+use Rattle.page_meaning.specs.State.{State}
+use Rattle.page_meaning.specs.Went.{Did}
+use Rattle.request_pages.specs.Gone.{IsOpen, TargetSo, gone_answer}
+use Rattle.request_pages.specs.declared.reply.Gone.{Gone}
+use Rattle.run_world.specs.Part.{given}
+use Rattle.run_world.specs.declared.around.Around.{Around}
+use Rattle.site_words.specs.Law.{Answer}
+use Rattle.site_words.specs.Running.{Asking}
+
+-- what a session that may still be made takes of the promise
+abbrev pub session_claim : Option (List ℕ) → ℕ
+session_claim id = if is_some id then 0 else 64
+
+-- the charge and what is left of the promise cover all that may still be asked
+abbrev pub IsFunded : Around → Asking → Type 0
+IsFunded around asking = 4320000 + session_claim around.id ≤ around.charge + asking.left
+
+-- a page's run answers as it ended, whatever answers are still to come; without memory it went no further than the page goes, behind the
+-- head of what answers
+abbrev pub PlayedSo : {E : Type 0} → (runs : List Answer → Did) → Status → Page → List Param → (left depth : ℕ) → Held → (after : State) → Result Gone E → Type 0
+PlayedSo runs status page params left depth held after (Ok g) =
+    (l : ℕ) × TargetSo left depth g l × IsOpen g after.writer.pieces
+    × ((target : List ℕ → List Param → ℕ → State → Answered) (at_fault : OnFault) (future : List Answer) → run_answer target at_fault status page params (runs future) ≡ gone_answer target at_fault held page params g l (given future after))
+PlayedSo runs status page params left depth held after (Err e) =
+    (future : List Answer) → Grows after (state_of (runs future))
+    × ((target : List ℕ → List Param → ℕ → State → Answered) (at_fault : OnFault) → HeadsSo held.head.status held.head.content_type after.writer.pieces (run_answer target at_fault status page params (runs future)))
+
+-- the run of a page from the state in which the request comes to it: the answers that it got, the state in which it ended, and how
+pub record Played (served : Served) (status : Status) (page : Page) (params : List Param) (left : ℕ) (stands : State → Type 0) (s : State) (old new : List Answer) (depth : ℕ) (held : Held) {E : Type 0} (result : Result Gone E) : Type 0 where
+  pub got : List Answer
+  pub replies : new ≡ old ++ got
+  pub after : State
+  pub stood : stands after
+  pub ends : PlayedSo (λ future. first_run served left page params (given (got ++ future) s)) status page params left depth held after result

@@ -1,0 +1,130 @@
+// What is answered at the path of a request.
+ghost use Rattle.std.specs.Prelude.{◌≡◌, ◌≤◌, ℕ, List, [], false, None, OnOk};
+ghost use Rattle.std.specs.Arc.{arc_value};
+ghost use Rattle.page_machine.specs.Run.{IsInOrder, StandsFor};
+ghost use Rattle.page_made.specs.Made.{IsPageAt, IsProgramOf};
+ghost use Rattle.page_made.specs.Pages.{needs_at};
+ghost use Rattle.page_meaning.specs.Page.{Page};
+ghost use Rattle.page_meaning.specs.Respond.{is_hidden};
+ghost use Rattle.page_meaning.specs.State.{State};
+ghost use Rattle.page_serving.specs.Meant.{served_at};
+ghost use Rattle.request_pages.specs.Chained.{asking_over};
+ghost use Rattle.request_pages.specs.Closed.{Closed, Reached, first_answers, request_answers};
+ghost use Rattle.request_pages.specs.Course.{IsHeaded};
+ghost use Rattle.request_pages.specs.Played.{IsFunded};
+ghost use Rattle.request_port.specs.Leading.{IsLast, Leads};
+ghost use Rattle.run_world.specs.Origin.{Origin};
+
+use crate::chain::{ChainEnd, run_chain};
+use crate::course::{Course, Way};
+use crate::erring::run_error;
+use crate::looking::look;
+use crate::reply::Reply;
+use crate::telling::{file, not_found, page_fault};
+use edges::{Ledger, Sink};
+use http_in::Request;
+use http_out::Status;
+use page_made::Made;
+use pg_text::Path;
+use request_port::RequestPort;
+use response_laws::responses;
+use run_world::Program;
+use site_words::{Paged, Port};
+use std::alloc::{AllocError, Global};
+use std::sync::Arc;
+
+/// Answers a request that was begun: what stands at its path, where that isn't hidden. A page runs, with its forwards and its error page.
+pub fn answer<'a, Q: Port<Made>, L: Ledger, K: Sink>(
+    alloc: Global,
+    request: &Request,
+    close: bool,
+    shown: bool,
+    course: &mut Course,
+    sink: &mut K,
+    port: &mut RequestPort<'a, Q, L>,
+) -> Result<Reply, AllocError>
+    requires headed { IsHeaded close shown course.old.around course.old.writer }
+    requires in_order { IsInOrder course.old.scopes course.old.around (asking_over Q.opening Q.pass Q.seen port.old) }
+    requires funded { IsFunded course.old.around (asking_over Q.opening Q.pass Q.seen port.old) }
+    requires begun { (course.old.around.depth ≡ 0) × (course.old.around.charge ≡ 0) × (course.old.around.exception ≡ None) }
+    requires last { IsLast port.old.tree.now port.old.last }
+    requires stands { (origin : Origin) × (s : State) × StandsFor origin course.old.scopes course.old.writer (K.taken sink.old) (K.faults sink.old) course.old.around (asking_over Q.opening Q.pass Q.seen port.old) s × (s.writer.pieces ≡ []) }
+    ensures closed { (origin : Origin) (s : State) → StandsFor origin course.old.scopes course.old.writer (K.taken sink.old) (K.faults sink.old) course.old.around (asking_over Q.opening Q.pass Q.seen port.old) s → s.writer.pieces ≡ []
+        → Closed (request_answers (served_at port.old.tree.now request.now course.old.around) request.now) (Reached origin course.new.scopes course.new.writer (K.taken sink.new) (K.faults sink.new) course.new.around (asking_over Q.opening Q.pass Q.seen port.new)) s (asking_over Q.opening Q.pass Q.seen port.old).answers (asking_over Q.opening Q.pass Q.seen port.new).answers course.new.writer result }
+    ensures headed { IsHeaded close shown course.new.around course.new.writer }
+    ensures in_order { OnOk result (IsInOrder course.new.scopes course.new.around (asking_over Q.opening Q.pass Q.seen port.new)) }
+    ensures tree { port.new.tree.now ≡ port.old.tree.now }
+    ensures leads { Leads needs_at Q.pass Q.opening Q.home Q.seen port.old port.new }
+{
+    responses();
+    let Some(path) = &request.path else {
+        return not_found(alloc);
+    };
+    if is_hidden(path) {
+        return not_found(alloc);
+    }
+    match look(path, &mut course.around, port) {
+        Err(AllocError) => Err(AllocError),
+        Ok(Paged::Absent) => not_found(alloc),
+        Ok(Paged::Plain(text)) => file(alloc, Status::Ok, path, &text),
+        Ok(Paged::Bad(fault)) => page_fault(alloc, &fault),
+        Ok(Paged::Page(program)) => first_page(
+            alloc, program, request, close, shown, course, sink, port,
+        ),
+    }
+}
+
+// Runs the page that a request names, whose Fetch was charged before.
+fn first_page<'a, Q: Port<Made>, L: Ledger, K: Sink>(
+    alloc: Global,
+    program: Arc<Program>,
+    request: &Request,
+    close: bool,
+    shown: bool,
+    course: &mut Course,
+    sink: &mut K,
+    port: &mut RequestPort<'a, Q, L>,
+) -> Result<Reply, AllocError>
+    requires uncommitted { course.old.writer.committed ≡ false }
+    requires headed { IsHeaded close shown course.old.around course.old.writer }
+    requires in_order { IsInOrder course.old.scopes course.old.around (asking_over Q.opening Q.pass Q.seen port.old) }
+    requires funded { IsFunded course.old.around (asking_over Q.opening Q.pass Q.seen port.old) }
+    requires depth { course.old.around.depth ≡ 0 }
+    requires charge { course.old.around.charge ≤ 4197000 }
+    requires last { IsLast port.old.tree.now port.old.last }
+    requires known { (page : Page) × (path : List ℕ) × (origin : Origin) × (s : State) × IsProgramOf (arc_value program) port.old.tree.now path × IsPageAt page port.old.tree.now path
+        × StandsFor origin course.old.scopes course.old.writer (K.taken sink.old) (K.faults sink.old) course.old.around (asking_over Q.opening Q.pass Q.seen port.old) s }
+    ensures closed { (path : List ℕ) → IsProgramOf (arc_value program) port.old.tree.now path → (page : Page) → IsPageAt page port.old.tree.now path
+        → (origin : Origin) (s : State) → StandsFor origin course.old.scopes course.old.writer (K.taken sink.old) (K.faults sink.old) course.old.around (asking_over Q.opening Q.pass Q.seen port.old) s
+        → Closed (first_answers (served_at port.old.tree.now request.now course.old.around) page request.now.params) (Reached origin course.new.scopes course.new.writer (K.taken sink.new) (K.faults sink.new) course.new.around (asking_over Q.opening Q.pass Q.seen port.new)) s (asking_over Q.opening Q.pass Q.seen port.old).answers (asking_over Q.opening Q.pass Q.seen port.new).answers course.new.writer result }
+    ensures headed { IsHeaded close shown course.new.around course.new.writer }
+    ensures in_order { OnOk result (IsInOrder course.new.scopes course.new.around (asking_over Q.opening Q.pass Q.seen port.new)) }
+    ensures tree { port.new.tree.now ≡ port.old.tree.now }
+    ensures leads { Leads needs_at Q.pass Q.opening Q.home Q.seen port.old port.new }
+{
+    responses();
+    let way = Way {
+        status: Status::Ok,
+        close,
+        shown,
+    };
+    match run_chain(alloc, program, request, None, way, 100, course, sink, port) {
+        Err(AllocError) => Err(AllocError),
+        Ok(ChainEnd::Done(reply)) => Ok(reply),
+        Ok(ChainEnd::Failed(failure)) => {
+            let way = Way {
+                status: Status::InternalServerError,
+                close,
+                shown,
+            };
+            run_error(alloc, failure, request, way, course, sink, port)
+        }
+    }
+}
+
+// Whether a path is hidden from requests.
+fn is_hidden(path: &Path) -> bool
+    ensures { result ≡ is_hidden path.now }
+{
+    path.as_bytes().starts_with(b"/WEB-INF/")
+}

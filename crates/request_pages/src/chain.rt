@@ -1,0 +1,140 @@
+// A page with the targets of its forwards.
+ghost use Rattle.std.specs.Prelude.{◌≡◌, ◌≤◌, ◌-◌, ℕ, List, Some, false, IfOk};
+ghost use Rattle.std.specs.Arc.{arc_value};
+ghost use Rattle.page_machine.specs.Run.{IsInOrder, StandsFor, level_limit};
+ghost use Rattle.page_made.specs.Made.{IsFaultOf, IsPageAt, IsProgramOf};
+ghost use Rattle.page_made.specs.Pages.{needs_at};
+ghost use Rattle.page_meaning.specs.Page.{Page};
+ghost use Rattle.page_meaning.specs.State.{State};
+ghost use Rattle.page_serving.specs.Meant.{served_at};
+ghost use Rattle.request_pages.specs.Chained.{Chained, asking_over, chain_answers, params_of};
+ghost use Rattle.request_pages.specs.Course.{IsHeaded};
+ghost use Rattle.request_pages.specs.Played.{IsFunded};
+ghost use Rattle.request_pages.specs.Target.{IsOther, IsTargetReply};
+ghost use Rattle.request_port.specs.Leading.{IsLast, Leads};
+ghost use Rattle.run_stage.specs.Standing.{HasCharged, KeepsSession};
+ghost use Rattle.run_world.specs.Origin.{Origin};
+ghost use Rattle.site_words.specs.Running.{IsPaged};
+ghost use Rattle.source_tree.specs.declared.file.File.{File};
+
+use crate::course::{Course, Way};
+use crate::playing::play_page;
+use crate::reply::{Gone, Reply};
+use crate::telling::{file, not_found, page_fault};
+use edges::{Ledger, Sink};
+use http_in::{Param, Request};
+use http_out::Status;
+use page_made::Made;
+use pg_text::{Listed, Path};
+use request_port::RequestPort;
+use response_laws::responses;
+use run_world::{Program, Raise};
+use site_words::{Paged, Port};
+use std::alloc::{AllocError, Global};
+use std::sync::Arc;
+
+/// How a page and its forwards ended.
+#[derive(Drop)]
+pub(crate) enum ChainEnd {
+    Done(Reply),
+    Failed(Failure),
+}
+
+/// A fault that ended the run of a page before anything was committed. The page has parameters of its own where it is a forward's target.
+#[derive(Drop)]
+pub(crate) struct Failure {
+    pub(crate) raise: Raise,
+    pub(crate) program: Arc<Program>,
+    pub(crate) own: Option<Listed<Param>>,
+}
+
+/// Runs a page, and in its place the target of its forward. At most so many forwards come.
+pub(crate) fn run_chain<'a, Q: Port<Made>, L: Ledger, K: Sink>(
+    alloc: Global,
+    program: Arc<Program>,
+    request: &Request,
+    own: Option<Listed<Param>>,
+    way: Way,
+    forwards: u32,
+    course: &mut Course,
+    sink: &mut K,
+    port: &mut RequestPort<'a, Q, L>,
+) -> Result<ChainEnd, AllocError>
+    requires uncommitted { course.old.writer.committed ≡ false }
+    requires headed { IsHeaded way.close way.shown course.old.around course.old.writer }
+    requires in_order { IsInOrder course.old.scopes course.old.around (asking_over Q.opening Q.pass Q.seen port.old) }
+    requires funded { IsFunded course.old.around (asking_over Q.opening Q.pass Q.seen port.old) }
+    requires last { IsLast port.old.tree.now port.old.last }
+    requires levels { level_limit - course.old.around.depth ≤ forwards }
+    requires known { (page : Page) × (path : List ℕ) × (origin : Origin) × (s : State) × IsProgramOf (arc_value program) port.old.tree.now path × IsPageAt page port.old.tree.now path
+        × StandsFor origin course.old.scopes course.old.writer (K.taken sink.old) (K.faults sink.old) course.old.around (asking_over Q.opening Q.pass Q.seen port.old) s }
+    ensures chained { (path : List ℕ) → IsProgramOf (arc_value program) port.old.tree.now path → (page : Page) → IsPageAt page port.old.tree.now path
+        → (origin : Origin) (s : State) → StandsFor origin course.old.scopes course.old.writer (K.taken sink.old) (K.faults sink.old) course.old.around (asking_over Q.opening Q.pass Q.seen port.old) s
+        → Chained (chain_answers (served_at port.old.tree.now request.now course.old.around) way.status (level_limit - course.old.around.depth) page (params_of request.now own)) request.now port.old.tree.now (StandsFor origin course.new.scopes course.new.writer (K.taken sink.new) (K.faults sink.new) course.new.around (asking_over Q.opening Q.pass Q.seen port.new)) s (asking_over Q.opening Q.pass Q.seen port.old).answers (asking_over Q.opening Q.pass Q.seen port.new).answers course.new.writer result }
+    ensures headed { IsHeaded way.close way.shown course.new.around course.new.writer }
+    ensures in_order { IsInOrder course.new.scopes course.new.around (asking_over Q.opening Q.pass Q.seen port.new) }
+    ensures funded { IsFunded course.new.around (asking_over Q.opening Q.pass Q.seen port.new) }
+    ensures charged { HasCharged course.old.around course.new.around (asking_over Q.opening Q.pass Q.seen port.old) (asking_over Q.opening Q.pass Q.seen port.new) }
+    ensures session { KeepsSession course.old.around course.new.around }
+    ensures exception { course.new.around.exception ≡ course.old.around.exception }
+    ensures tree { port.new.tree.now ≡ port.old.tree.now }
+    ensures leads { Leads needs_at Q.pass Q.opening Q.home Q.seen port.old port.new }
+{
+    responses();
+    let params = params_of(request, &own);
+    match play_page(alloc, &program, request, params, way, course, sink, port) {
+        Err(AllocError) => Err(AllocError),
+        Ok(Gone::Done(reply)) => Ok(ChainEnd::Done(reply)),
+        Ok(Gone::Failed(raise)) => Ok(ChainEnd::Failed(Failure {
+            raise,
+            program,
+            own,
+        })),
+        Ok(Gone::Forward(path, more)) => match port.again(&path) {
+            Err(AllocError) => Err(AllocError),
+            Ok(Paged::Page(target)) => run_chain(
+                alloc,
+                target,
+                request,
+                Some(more),
+                way,
+                forwards - 1,
+                course,
+                sink,
+                port,
+            ),
+            Ok(found) => match tell_target(alloc, way.status, &path, &found) {
+                Ok(reply) => Ok(ChainEnd::Done(reply)),
+                Err(AllocError) => Err(AllocError),
+            },
+        },
+    }
+}
+
+// What stands at the path of a forward's target, where that is no page.
+fn tell_target(
+    alloc: Global,
+    status: Status,
+    path: &Path,
+    found: &Paged<Program>,
+) -> Result<Reply, AllocError>
+    requires other { IsOther found.now }
+    ensures told { (tree : List File) → IsPaged IsProgramOf IsFaultOf tree path.now found.now → IfOk result (λ reply. IsTargetReply tree status path.now reply) }
+{
+    match found {
+        Paged::Plain(text) => file(alloc, status, path, text),
+        Paged::Bad(fault) => page_fault(alloc, fault),
+        Paged::Absent => not_found(alloc),
+        Paged::Page(_) => unreachable!(),
+    }
+}
+
+// The parameters of a page's run: its own, or those of the request.
+pub(crate) fn params_of<'a>(request: &'a Request, own: &'a Option<Listed<Param>>) -> &'a [Param]
+    ensures { result.now ≡ params_of request.now own.now }
+{
+    match own {
+        Some(params) => params.as_slice(),
+        None => request.params.as_slice(),
+    }
+}

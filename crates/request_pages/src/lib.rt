@@ -1,0 +1,16 @@
+//! The pages that run for a request, one after the other, and what they answer.
+#![tactic(auto)]
+
+mod answering;
+mod chain;
+mod course;
+mod erring;
+mod looking;
+mod playing;
+mod reply;
+mod running;
+mod telling;
+
+pub use answering::answer;
+pub use course::{Course, Way, new_id};
+pub use reply::{Gone, Reply};

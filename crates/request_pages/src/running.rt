@@ -1,0 +1,86 @@
+// The run of one page.
+ghost use Rattle.std.specs.Prelude.{◌≡◌, ◌+◌, ◌-◌, ◌≤◌, ℕ, List};
+ghost use Rattle.std.specs.declared.option.Option.{Option};
+ghost use Rattle.out_buffer.specs.Held.{Stands};
+ghost use Rattle.out_buffer.specs.Writer.{Writer as Wrote};
+ghost use Rattle.page_machine.specs.Run.{IsInOrder, StandsFor, level_limit};
+ghost use Rattle.page_made.specs.Made.{IsPageAt, IsProgramOf, TellsPages};
+ghost use Rattle.page_meaning.specs.Page.{Page};
+ghost use Rattle.page_meaning.specs.State.{State};
+ghost use Rattle.page_serving.specs.Meant.{served_at};
+ghost use Rattle.request_pages.specs.Gone.{GoneBy, PageGone};
+ghost use Rattle.run_stage.specs.Standing.{HasCharged, KeepsResponse, KeepsSession};
+ghost use Rattle.run_world.specs.Origin.{Origin};
+
+use crate::course::Course;
+use crate::reply::{Gone, Reply};
+use edges::Sink;
+use http_in::{Param, Request};
+use http_out::Status;
+use page_machine::RunEnd;
+use page_meaning::{depth, parts};
+use page_serving::play;
+use pg_text::Bytes;
+use run_world::{Program, Raise};
+use site_words::AppPort;
+use std::alloc::{AllocError, Global};
+
+/// Runs a page whose run has begun, and whose Fetch was charged before.
+pub(crate) fn run_page<P: AppPort<Program>, K: Sink>(
+    alloc: Global,
+    program: &Program,
+    request: &Request,
+    params: &[Param],
+    course: &mut Course,
+    sink: &mut K,
+    port: &mut P,
+) -> Result<Gone, AllocError>
+    requires tells { TellsPages P.made P.faulty }
+    requires in_order { IsInOrder course.old.scopes course.old.around (P.asking port.old) }
+    requires promise { 4320000 ≤ course.old.around.charge + (P.asking port.old).left }
+    requires writer { (start : Option (List ℕ)) × (before : ℕ) × (written : Wrote) × Stands start before course.old.writer (K.taken sink.old) (K.faults sink.old) written }
+    ensures gone { (path : List ℕ) → IsProgramOf program.now (P.tree port.old) path → (page : Page) → IsPageAt page (P.tree port.old) path
+        → (origin : Origin) (s : State) → StandsFor origin course.old.scopes course.old.writer (K.taken sink.old) (K.faults sink.old) course.old.around (P.asking port.old) s
+        → PageGone (served_at (P.tree port.old) request.now course.old.around) page params.now (level_limit - course.old.around.depth) (StandsFor origin course.new.scopes course.new.writer (K.taken sink.new) (K.faults sink.new) course.new.around (P.asking port.new)) s (P.asking port.old).answers (P.asking port.new).answers course.new.around.depth course.new.writer result }
+    ensures in_order { IsInOrder course.new.scopes course.new.around (P.asking port.new) }
+    ensures charged { HasCharged course.old.around course.new.around (P.asking port.old) (P.asking port.new) }
+    ensures session { KeepsSession course.old.around course.new.around }
+    ensures response { KeepsResponse course.old.writer course.new.writer course.old.around course.new.around }
+    ensures exception { course.new.around.exception ≡ course.old.around.exception }
+    ensures tree { P.tree port.new ≡ P.tree port.old }
+    ensures leads { P.leads port.old port.new }
+{
+    depth();
+    parts();
+    let end = play(
+        alloc,
+        program,
+        request,
+        params,
+        &mut course.scopes,
+        &mut course.writer,
+        sink,
+        &mut course.around,
+        port,
+    );
+    gone(alloc, end, course.writer.committed())
+}
+
+// How a run ended, by whether something was committed.
+fn gone(alloc: Global, end: RunEnd, committed: bool) -> Result<Gone, AllocError>
+    ensures { GoneBy committed end result }
+{
+    match end {
+        RunEnd::Normal => Ok(Gone::Done(Reply::Written { broken: false })),
+        RunEnd::Raised { .. } if committed => Ok(Gone::Done(Reply::Written { broken: true })),
+        RunEnd::Raised { fault, place } => Ok(Gone::Failed(Raise { fault, place })),
+        RunEnd::Redirect(address) => Ok(Gone::Done(Reply::Whole {
+            status: Status::Found,
+            content_type: None,
+            location: Some(address),
+            body: Bytes::new(Vec::new(alloc)),
+        })),
+        RunEnd::Forward(path, params) => Ok(Gone::Forward(path, params)),
+        RunEnd::NoMemory => Err(AllocError),
+    }
+}
