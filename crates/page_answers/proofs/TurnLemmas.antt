@@ -1,13 +1,10 @@
 -- Turns one after the other.
-use Rattle.std.proofs.Common.{◌≡◌, ℕ, ◌+◌, Bool, true, false, List, [], ◌∷◌, ◌++◌, refl, sym, ap, ◌∙◌, arith}
+use Rattle.std.proofs.Common.{◌≡◌, ℕ, ◌+◌, Bool, true, false, List, [], ◌∷◌, ◌++◌, arith}
 use Rattle.std.proofs.lemmas.Grind.{flat_map-append}
 use Rattle.std.proofs.lemmas.List.{map-append}
 use Rattle.std.specs.List.{list_all}
 use Rattle.std.specs.Prelude.{◌&&◌}
-use Rattle.page_answers.specs.Turns.{Turn, all_bytes, all_calls, answer_of, answers_of, bytes_for, calls_of, is_whole, step_of, steps_of}
-use Rattle.site_words.specs.Law.{Answer}
-use Rattle.site_words.specs.declared.words.Op.{Op}
-use Rattle.site_words.specs.declared.words.Reply.{Reply}
+use Rattle.page_answers.specs.Turns.{Turn, all_bytes, all_calls, answer_of, answers_of, calls_of, is_whole, step_of, steps_of}
 use Rattle.source_tree.specs.declared.file.File.{File}
 
 pub calls_join : (request : ℕ) (turns more : List Turn) → all_calls request (turns ++ more) ≡ all_calls request turns ++ all_calls request more

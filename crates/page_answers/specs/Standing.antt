@@ -1,5 +1,5 @@
 -- What a request finds and leaves, and when it begins.
-use Rattle.std.specs.Prelude.{◌≡◌, ℕ, ◌+◌, List, Option, Some, None, [], ◌∷◌}
+use Rattle.std.specs.Prelude.{◌≡◌, ℕ, ◌+◌, List, Option, Some, None}
 use Rattle.edges.specs.Clock.{Answers}
 use Rattle.page_meaning.specs.Respond.{FoundSession}
 use Rattle.pg_value.specs.Datum.{Datum}

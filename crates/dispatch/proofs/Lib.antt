@@ -1,0 +1,9 @@
+pub mod AnsweredLemmas
+pub mod CameLemmas
+pub mod CountLemmas
+pub mod OpenLemmas
+pub mod RefusedLemmas
+pub mod ReplyLemmas
+pub mod RunLemmas
+pub mod ServeLemmas
+pub mod ServedLemmas

@@ -1,0 +1,55 @@
+// What a request keeps when it has just begun.
+ghost use Rattle.std.specs.Prelude.{◌≡◌, IfOk};
+ghost use Rattle.dispatch.specs.Begun.{IsBegun, empty_head};
+
+use http_out::{Head, Status};
+use out_buffer::Writer;
+use pg_text::Text;
+use pg_value::Attrs;
+use request_pages::Course;
+use run_world::Around;
+use scopes::Scopes;
+use std::alloc::{AllocError, Global};
+
+/// What a request keeps that has just begun, with the session that it found.
+pub(crate) fn begin_course(
+    alloc: Global,
+    cookie: &Text,
+    session: Option<u64>,
+    attrs: Attrs,
+    close: bool,
+    shown: bool,
+) -> Result<Course, AllocError>
+    ensures { IfOk result (λ course. IsBegun cookie.now session attrs close shown course) }
+{
+    let (id, attrs) = match session {
+        Some(_) => (Some(cookie.copy()?), Some(attrs)),
+        None => (None, None),
+    };
+    Ok(Course {
+        scopes: Scopes::new(alloc, attrs)?,
+        writer: Writer::new(alloc, empty_head(close), None, true, shown),
+        around: Around {
+            depth: 0,
+            visits: 0,
+            charge: 0,
+            id,
+            fresh: false,
+            exception: None,
+        },
+    })
+}
+
+// The head of the writer before any page runs.
+fn empty_head(close: bool) -> Head
+    ensures { result ≡ empty_head close }
+{
+    Head {
+        status: Status::Ok,
+        content_type: None,
+        set_cookie: None,
+        location: None,
+        allow: false,
+        close,
+    }
+}

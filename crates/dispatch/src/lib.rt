@@ -1,0 +1,10 @@
+//! The response of a request over a port to a site.
+#![tactic(auto)]
+
+mod beginning;
+mod refusing;
+mod replying;
+mod responding;
+mod serving;
+
+pub use responding::respond;

@@ -1,0 +1,235 @@
+// A request from its beginning to its end.
+ghost use Rattle.std.specs.Prelude.{◌≡◌, ◌≤◌, [], ℕ, List, true, false, IsErr, OnOk};
+ghost use Rattle.std.specs.Arc.{arc_value};
+ghost use Rattle.std.specs.Option.{unwrap_or};
+ghost use Rattle.std.specs.declared.option.Option.{Option};
+ghost use Rattle.conversation.specs.declared.desk.Outcome.TheVariants as outcome;
+ghost use Rattle.dispatch.specs.Begun.{IsBegun};
+ghost use Rattle.dispatch.specs.Opened.{IsOpened};
+ghost use Rattle.dispatch.specs.Started.{Came, HasBegun, IsAt, Ran, Replies, RunsSo, Start, Starves, started};
+ghost use Rattle.edges.specs.Faults.{Rose};
+ghost use Rattle.edges.specs.declared.acted.Acted.TheVariants.{Did};
+ghost use Rattle.http_out.specs.declared.head.Head.{Head};
+ghost use Rattle.out_buffer.specs.Streamed.{HasTaken};
+ghost use Rattle.page_answers.specs.Answers.{shows_body};
+ghost use Rattle.page_answers.specs.Standing.{Standing, found};
+ghost use Rattle.page_machine.specs.Run.{IsInOrder};
+ghost use Rattle.page_made.specs.Pages.{needs_at};
+ghost use Rattle.page_meaning.specs.State.{State};
+ghost use Rattle.pass_course.specs.Course.{IsIdle};
+ghost use Rattle.pass_course.specs.Under.{Under};
+ghost use Rattle.pg_value.specs.Datum.{Datum};
+ghost use Rattle.request_pages.specs.declared.course.Course.{Course as Course'};
+ghost use Rattle.request_port.specs.Asked.{asking_of};
+ghost use Rattle.site_words.specs.Answers.{IsSamePort, StartsWith};
+ghost use Rattle.site_words.specs.Law.{May, own};
+ghost use Rattle.site_words.specs.State.{after};
+ghost use Rattle.site_words.specs.Weights.{attrs_limit, attrs_weight};
+ghost use Rattle.site_words.specs.declared.words.Op.TheVariants as op;
+ghost use Rattle.site_words.specs.declared.words.Run.{Run};
+
+use crate::beginning::begin_course;
+use crate::refusing::shows_body;
+use crate::replying::write_reply;
+use conversation::Outcome;
+use edges::{Ledger, Sink, Steps};
+use http_in::Request;
+use http_out::write_no_memory;
+use page_made::Made;
+use request_pages::{Course, Reply, answer};
+use request_port::RequestPort;
+use site_words::{Begun, Port};
+use source_tree::Tree;
+use std::alloc::{AllocError, Global};
+
+/// Answers a request that has begun, and ends it. Where memory is wanting it is abandoned.
+pub(crate) fn serve<Q: Port<Made>, K: Sink, L: Ledger>(
+    alloc: Global,
+    port: &mut Q,
+    begun: Begun,
+    request: &Request,
+    close: bool,
+    sink: &mut K,
+    steps: &mut Steps<L>,
+) -> Outcome
+    requires starts { StartsWith (after needs_at (Q.opening port.old) (Q.seen port.old)) (Did begun) }
+    requires opened { IsOpened (Q.opening port.old) (Q.pass port.old) (Q.seen port.old) begun.request begun.session (arc_value begun.tree) }
+    ensures idle { IsIdle (Q.opening port.new) (Q.pass port.new) (Q.seen port.new) }
+    ensures same { IsSamePort (Q.pass port.old) (Q.pass port.new) (Q.opening port.old) (Q.opening port.new) (Q.home port.old) (Q.home port.new) }
+    ensures came { (old : Standing) (ahead : Option (List ℕ)) → let p : Start = started request.now close (shows_body request.now) begun.request (arc_value begun.tree) (found request.now.cookie begun.session begun.attrs) (Q.seen port.old) steps.old (K.taken sink.old) (K.faults sink.old) in
+        HasBegun (Q.opening port.old) (Q.pass port.old) old ahead p → Came (Q.opening port.old) (Q.pass port.old) old ahead p (Q.seen port.new) steps.new (K.taken sink.new) (K.faults sink.new) result }
+    ensures later { K.faults sink.old ≤ K.faults sink.new }
+    ensures failed { result ≡ outcome.WriteFault → Rose (K.faults sink.old) (K.faults sink.new) }
+{
+    port.law();
+    let shown = shows_body(request);
+    let Begun {
+        request: number,
+        session,
+        tree,
+        attrs,
+        ..
+    } = begun;
+    let Ok(mut course) = begin_course(alloc, &request.cookie, session, attrs, close, shown) else {
+        return abandon(port, number, close, shown, sink);
+    };
+    match run(
+        alloc,
+        port,
+        number,
+        &tree,
+        request,
+        close,
+        shown,
+        &mut course,
+        sink,
+        steps,
+    ) {
+        Ok(reply) => finish(alloc, port, number, reply, course, close, shown, sink),
+        Err(AllocError) => give_up(port, number, course.writer.committed(), close, shown, sink),
+    }
+}
+
+// Runs what stands at a request's path, over the port on which it was begun.
+fn run<'a, Q: Port<Made>, K: Sink, L: Ledger>(
+    alloc: Global,
+    port: &'a mut Q,
+    number: u64,
+    tree: &'a Tree,
+    request: &Request,
+    close: bool,
+    shown: bool,
+    course: &mut Course,
+    sink: &mut K,
+    steps: &'a mut Steps<L>,
+) -> Result<Reply, AllocError>
+    requires opened { (session : Option ℕ) × (attrs : List (List ℕ × Datum)) × IsOpened (Q.opening port.old) (Q.pass port.old) (Q.seen port.old) number session tree.now × IsBegun request.now.cookie session attrs close shown course.old × (attrs_weight attrs ≤ attrs_limit) }
+    ensures same { IsSamePort (Q.pass port.old) (Q.pass port.new) (Q.opening port.old) (Q.opening port.new) (Q.home port.old) (Q.home port.new) }
+    ensures under { (now : Run) × Under (Q.opening port.new) (Q.pass port.new) (Q.seen port.new) number tree.now now }
+    ensures ran { (session : Option ℕ) (attrs : List (List ℕ × Datum)) → IsBegun request.now.cookie session attrs close shown course.old
+        → RunsSo (Q.opening port.old) (Q.pass port.old) (started request.now close shown number tree.now (found request.now.cookie session attrs) (Q.seen port.old) steps.old (K.taken sink.old) (K.faults sink.old)) (Q.seen port.new) steps.new course.new (K.taken sink.new) (K.faults sink.new) result }
+    ensures in_order { OnOk result (IsInOrder course.new.scopes course.new.around (asking_of (Q.opening port.new) (Q.pass port.new) (Q.seen port.new) number tree.now)) }
+    ensures later { K.faults sink.old ≤ K.faults sink.new }
+{
+    port.law();
+    let mut asked = RequestPort {
+        alloc,
+        port,
+        steps,
+        tree,
+        request: number,
+        starved: false,
+        last: None,
+    };
+    let replied = answer(alloc, request, close, shown, course, sink, &mut asked);
+    let RequestPort {
+        port,
+        steps,
+        starved,
+        last,
+        ..
+    } = asked;
+    drop(last);
+    come_back(port, steps, starved, replied)
+}
+
+// What was replied, unless memory was ever wanting to find a page. The port and the count of bytes come back as they are: they are handed on
+// since a struct that keeps a page is taken apart without telling what stands behind what it was lent.
+fn come_back<Q: Port<Made>, L: Ledger>(
+    port: &mut Q,
+    steps: &mut Steps<L>,
+    starved: bool,
+    replied: Result<Reply, AllocError>,
+) -> Result<Reply, AllocError>
+    ensures port { port.new ≡ port.old }
+    ensures steps { steps.new ≡ steps.old }
+    ensures starved { starved ≡ true → IsErr result }
+    ensures fed { starved ≡ false → result ≡ replied }
+{
+    if starved {
+        return Err(AllocError);
+    }
+    replied
+}
+
+// Writes the reply of a request, and ends it; where memory is wanting for its head it is abandoned.
+fn finish<Q: Port<Made>, K: Sink>(
+    alloc: Global,
+    port: &mut Q,
+    number: u64,
+    reply: Reply,
+    course: Course,
+    close: bool,
+    shown: bool,
+    sink: &mut K,
+) -> Outcome
+    requires ends { May (Q.opening port.old) (Q.seen port.old) (Q.pass port.old) (own (Q.pass port.old) (Q.seen port.old)) (op.End number (unwrap_or course.scopes.session [])) }
+    requires drops { May (Q.opening port.old) (Q.seen port.old) (Q.pass port.old) (own (Q.pass port.old) (Q.seen port.old)) (op.Abandon number) }
+    ensures idle { IsIdle (Q.opening port.new) (Q.pass port.new) (Q.seen port.new) }
+    ensures same { IsSamePort (Q.pass port.old) (Q.pass port.new) (Q.opening port.old) (Q.opening port.new) (Q.home port.old) (Q.home port.new) }
+    ensures came { (p : Start) (old : Standing) (ahead : Option (List ℕ)) (now : ℕ) → IsAt p number close shown → HasBegun (Q.opening port.old) (Q.pass port.old) old ahead p
+        → Replies (Q.opening port.old) (Q.pass port.old) p (Q.seen port.old) now course (K.taken sink.old) (K.faults sink.old) reply → Came (Q.opening port.old) (Q.pass port.old) old ahead p (Q.seen port.new) now (K.taken sink.new) (K.faults sink.new) result }
+    ensures failed { (p : Start) (now : ℕ) → IsAt p number close shown → Replies (Q.opening port.old) (Q.pass port.old) p (Q.seen port.old) now course (K.taken sink.old) (K.faults sink.old) reply → result ≡ outcome.WriteFault → Rose p.faults (K.faults sink.new) }
+    ensures later { K.faults sink.old ≤ K.faults sink.new }
+{
+    let Course {
+        scopes,
+        writer,
+        around,
+    } = course;
+    match write_reply(alloc, reply, writer, &around, close, shown, sink) {
+        Ok(outcome) => {
+            port.end(number, scopes.into_session());
+            outcome
+        }
+        Err(AllocError) => abandon(port, number, close, shown, sink),
+    }
+}
+
+// Abandons a request whose pages were cut short. What was committed stands; else the answer says that memory was wanting.
+fn give_up<Q: Port<Made>, K: Sink>(
+    port: &mut Q,
+    number: u64,
+    committed: bool,
+    close: bool,
+    shown: bool,
+    sink: &mut K,
+) -> Outcome
+    requires drops { May (Q.opening port.old) (Q.seen port.old) (Q.pass port.old) (own (Q.pass port.old) (Q.seen port.old)) (op.Abandon number) }
+    ensures idle { IsIdle (Q.opening port.new) (Q.pass port.new) (Q.seen port.new) }
+    ensures same { IsSamePort (Q.pass port.old) (Q.pass port.new) (Q.opening port.old) (Q.opening port.new) (Q.home port.old) (Q.home port.new) }
+    ensures came { (p : Start) (old : Standing) (ahead : Option (List ℕ)) (now : ℕ) (course : Course') (ran : Ran (Q.opening port.old) (Q.pass port.old) p (Q.seen port.old) course (K.taken sink.old) (K.faults sink.old)) → IsAt p number close shown
+        → HasBegun (Q.opening port.old) (Q.pass port.old) old ahead p → committed ≡ course.writer.committed → Starves (Q.opening port.old) (Q.pass port.old) p (Q.seen port.old) now course.writer.head ran.after
+        → Came (Q.opening port.old) (Q.pass port.old) old ahead p (Q.seen port.new) now (K.taken sink.new) (K.faults sink.new) result }
+    ensures outcome { result ≡ outcome.NoMemory }
+    ensures later { K.faults sink.old ≤ K.faults sink.new }
+{
+    if committed {
+        port.abandon(number);
+        return Outcome::NoMemory;
+    }
+    abandon(port, number, close, shown, sink)
+}
+
+// Abandons a request of which nothing was committed, and says that memory was wanting.
+fn abandon<Q: Port<Made>, K: Sink>(
+    port: &mut Q,
+    number: u64,
+    close: bool,
+    shown: bool,
+    sink: &mut K,
+) -> Outcome
+    requires drops { May (Q.opening port.old) (Q.seen port.old) (Q.pass port.old) (own (Q.pass port.old) (Q.seen port.old)) (op.Abandon number) }
+    ensures idle { IsIdle (Q.opening port.new) (Q.pass port.new) (Q.seen port.new) }
+    ensures same { IsSamePort (Q.pass port.old) (Q.pass port.new) (Q.opening port.old) (Q.opening port.new) (Q.home port.old) (Q.home port.new) }
+    ensures came { (p : Start) (old : Standing) (ahead : Option (List ℕ)) (now : ℕ) (head : Head) (reached : State) → IsAt p number close shown → HasBegun (Q.opening port.old) (Q.pass port.old) old ahead p
+        → Starves (Q.opening port.old) (Q.pass port.old) p (Q.seen port.old) now head reached → reached.writer.pieces ≡ [] → HasTaken p.taken p.faults [] false (K.taken sink.old) (K.faults sink.old)
+        → Came (Q.opening port.old) (Q.pass port.old) old ahead p (Q.seen port.new) now (K.taken sink.new) (K.faults sink.new) result }
+    ensures outcome { result ≡ outcome.NoMemory }
+    ensures later { K.faults sink.old ≤ K.faults sink.new }
+{
+    port.abandon(number);
+    let mut failed = false;
+    write_no_memory(sink, &mut failed, close, shown);
+    Outcome::NoMemory
+}
