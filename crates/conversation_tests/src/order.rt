@@ -64,8 +64,16 @@ fn a_request_is_answered_before_the_next_is_read(rt: HostRuntime) -> Result<(), 
     let mut sink = Noting {
         answered: &answered,
     };
-    let mut port = 0;
-    let ended = walk(rt.alloc(), &mut Parts, &mut port, &mut source, &mut sink);
+    let (mut port, mut clock, mut count) = (0, 0, 0);
+    let ended = walk(
+        rt.alloc(),
+        &mut Parts,
+        &mut port,
+        &mut clock,
+        &mut count,
+        &mut source,
+        &mut sink,
+    );
     assert_eq!(rt; ended, Ended::Done);
     assert_eq!(rt; answered.get(), 3);
     Ok(())

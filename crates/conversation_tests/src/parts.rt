@@ -14,15 +14,19 @@ pub struct Parts;
 impl Desk for Parts {
     type Port = u8;
 
+    type Clock = u8;
+
+    type Count = u8;
+
     ghost World = { Unit {0} };
 
     ghost State = { Unit {0} };
 
-    ghost world = { λ desk port. tt };
+    ghost world = { λ desk port clock count. tt };
 
-    ghost state = { λ desk port. tt };
+    ghost state = { λ desk port clock count. tt };
 
-    ghost ready = { λ number desk port. Unit {0} };
+    ghost ready = { λ number desk port clock count. Unit {0} };
 
     ghost serves = { λ world close old e new. Unit {0} };
 
@@ -32,6 +36,8 @@ impl Desk for Parts {
         &mut self,
         _alloc: Global,
         _port: &mut u8,
+        _clock: &mut u8,
+        _count: &mut u8,
         request: &Request,
         _number: u64,
         _close: bool,

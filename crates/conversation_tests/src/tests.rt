@@ -14,8 +14,16 @@ fn walked(
 ) -> Result<(Ended, Vec<u8>), AllocError> {
     let mut source = MemSource::new(input.to_vec(alloc)?, 64, read_fails.to_vec(alloc)?);
     let mut sink = MemSink::new(alloc, write_fails.to_vec(alloc)?);
-    let mut port = 0;
-    let ended = walk(alloc, &mut Parts, &mut port, &mut source, &mut sink);
+    let (mut port, mut clock, mut count) = (0, 0, 0);
+    let ended = walk(
+        alloc,
+        &mut Parts,
+        &mut port,
+        &mut clock,
+        &mut count,
+        &mut source,
+        &mut sink,
+    );
     Ok((ended, sink.taken().to_vec(alloc)?))
 }
 

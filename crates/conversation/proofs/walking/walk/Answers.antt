@@ -26,19 +26,19 @@ returns-in-Broken-clause-talk g c =
     let saw = rw c.in-Ok-Some.field-0-is at c.in-Ok-Some.ensures.answer in
     let on = (rw c.in-Ok-Some.field-0-is at c.in-Ok-Some.ensures.ahead) c.requests.invariant.read_on in
     let took = rw c.requests.invariant.world at c.in-Broken.ensures.served in
-    stopped _ _ (g.D.Desk.state c.requests.desk c.requests.port) _ _ _ _ _ (g.K.Sink.taken c.requests.sink) _ c.requests.rest c.read_request.new.rest c.requests.number c.in-Ok-Some.request c.closes-last.result true c.requests.invariant.so_far saw on took c.closes-last.ensures.value (broken_stops c.closes-last.result)
+    stopped _ _ (g.D.Desk.state c.requests.desk c.requests.port c.requests.clock c.requests.count) _ _ _ _ _ (g.K.Sink.taken c.requests.sink) _ c.requests.rest c.read_request.new.rest c.requests.number c.in-Ok-Some.request c.closes-last.result true c.requests.invariant.so_far saw on took c.closes-last.ensures.value (broken_stops c.closes-last.result)
 
 pub returns-in-WriteFault-clause-talk : goal.returns-in-WriteFault-clause-talk
 returns-in-WriteFault-clause-talk g c =
     let saw = rw c.in-Ok-Some.field-0-is at c.in-Ok-Some.ensures.answer in
     let took = rw c.requests.invariant.world at c.in-WriteFault.ensures.served in
-    unwritten _ _ (g.D.Desk.state c.requests.desk c.requests.port) _ _ _ _ _ (g.K.Sink.taken c.requests.sink) _ c.requests.rest c.read_request.new.rest c.requests.number c.in-Ok-Some.request c.closes-last.result c.requests.invariant.so_far saw took c.closes-last.ensures.value
+    unwritten _ _ (g.D.Desk.state c.requests.desk c.requests.port c.requests.clock c.requests.count) _ _ _ _ _ (g.K.Sink.taken c.requests.sink) _ c.requests.rest c.read_request.new.rest c.requests.number c.in-Ok-Some.request c.closes-last.result c.requests.invariant.so_far saw took c.closes-last.ensures.value
 
 pub returns-in-NoMemory-clause-talk : goal.returns-in-NoMemory-clause-talk
 returns-in-NoMemory-clause-talk g c =
     let saw = rw c.in-Ok-Some.field-0-is at c.in-Ok-Some.ensures.answer in
     let took = rw c.requests.invariant.world at c.in-NoMemory.ensures.served in
-    starved_by _ _ _ (g.D.Desk.state c.requests.desk c.requests.port) _ _ _ _ _ (g.K.Sink.taken c.requests.sink) _ (g.K.Sink.faults c.requests.sink) (g.K.Sink.faults c.args.sink.now) (g.K.Sink.faults c.serve.new.sink) c.requests.rest c.read_request.new.rest c.requests.number c.in-Ok-Some.request c.closes-last.result c.requests.invariant.so_far saw took c.closes-last.ensures.value
+    starved_by _ _ _ (g.D.Desk.state c.requests.desk c.requests.port c.requests.clock c.requests.count) _ _ _ _ _ (g.K.Sink.taken c.requests.sink) _ (g.K.Sink.faults c.requests.sink) (g.K.Sink.faults c.args.sink.now) (g.K.Sink.faults c.serve.new.sink) c.requests.rest c.read_request.new.rest c.requests.number c.in-Ok-Some.request c.closes-last.result c.requests.invariant.so_far saw took c.closes-last.ensures.value
     (λ rose. omega (arith, rose, c.requests.invariant.wrote))
 
 pub returns-then-last-clause-talk : goal.returns-then-last-clause-talk
@@ -46,7 +46,7 @@ returns-then-last-clause-talk g c =
     let saw = rw c.in-Ok-Some.field-0-is at c.in-Ok-Some.ensures.answer in
     let on = (rw c.in-Ok-Some.field-0-is at c.in-Ok-Some.ensures.ahead) c.requests.invariant.read_on in
     let took = rw c.requests.invariant.world at c.in-Whole.ensures.served in
-    stopped _ _ (g.D.Desk.state c.requests.desk c.requests.port) _ _ _ _ _ (g.K.Sink.taken c.requests.sink) _ c.requests.rest c.read_request.new.rest c.requests.number c.in-Ok-Some.request c.closes-last.result false c.requests.invariant.so_far saw on took c.closes-last.ensures.value (close_stops c.closes-last.result false c.if-last.true)
+    stopped _ _ (g.D.Desk.state c.requests.desk c.requests.port c.requests.clock c.requests.count) _ _ _ _ _ (g.K.Sink.taken c.requests.sink) _ c.requests.rest c.read_request.new.rest c.requests.number c.in-Ok-Some.request c.closes-last.result false c.requests.invariant.so_far saw on took c.closes-last.ensures.value (close_stops c.closes-last.result false c.if-last.true)
 
 pub requests-preserved : goal.requests-preserved
 requests-preserved g c =
@@ -55,7 +55,7 @@ requests-preserved g c =
     record {
       ready = c.serve.ensures.ready;
       world = c.serve.ensures.world ∙ c.requests.invariant.world;
-      so_far = goes_on _ _ (g.D.Desk.state c.requests.desk c.requests.port) _ _ _ _ _ (g.K.Sink.taken c.requests.sink) _ c.requests.rest c.read_request.new.rest c.requests.number c.in-Ok-Some.request c.closes-last.result c.requests.invariant.so_far saw took c.closes-last.ensures.value c.if-last.false;
+      so_far = goes_on _ _ (g.D.Desk.state c.requests.desk c.requests.port c.requests.clock c.requests.count) _ _ _ _ _ (g.K.Sink.taken c.requests.sink) _ c.requests.rest c.read_request.new.rest c.requests.number c.in-Ok-Some.request c.closes-last.result c.requests.invariant.so_far saw took c.closes-last.ensures.value c.if-last.false;
       read = omega arith;
       wrote = omega arith;
       number = c.if-last.ensures.more refl;
@@ -67,7 +67,7 @@ pub requests-init : goal.requests-init
 requests-init g c = record {
   ready = c.requires.ready;
   world = refl;
-  so_far = rw c.new-rest.ensures (begins _ (g.D.Desk.state c.args.desk.now c.args.port.now) (g.S.Source.left c.args.source.now) (g.K.Sink.taken c.args.sink.now));
+  so_far = rw c.new-rest.ensures (begins _ (g.D.Desk.state c.args.desk.now c.args.port.now c.args.clock.now c.args.count.now) (g.S.Source.left c.args.source.now) (g.K.Sink.taken c.args.sink.now));
   read = omega arith;
   wrote = omega arith;
   number = omega arith;

@@ -1,0 +1,6 @@
+pub mod GrownLemmas
+pub mod RefusalLemmas
+pub mod ServedLemmas
+pub mod UseLemmas
+pub mod VersionLemmas
+pub mod WorkLemmas
