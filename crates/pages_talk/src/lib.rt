@@ -1,21 +1,15 @@
-//! One connection over the files of a site: what its requests ask for, and what they are answered.
+//! A connection to a site: its requests are answered one after the other, over any port.
 #![tactic(auto)]
 
-mod answer;
 mod command;
 mod connection;
 mod desk;
-mod draft;
-mod effect;
-mod first_page;
-mod law;
-mod limits;
-mod message;
-mod refusal;
-mod writing;
+mod editing;
+mod starting;
+mod words;
 
 pub use command::play;
-pub use connection::{Role, talk};
+pub use connection::talk;
 pub use conversation::Ended;
-pub use law::{by_requests, exact_refusals, one_conversation, one_history};
-pub use limits::{MAX_DRAFT_BYTES, MAX_DRAFT_EDITS, MAX_OUTPUT_BYTES};
+pub use starting::start_alone;
+pub use talk_words::{Role, each_once, exact_refusals, exact_work, one_history, versions};

@@ -1,0 +1,32 @@
+-- Which command the words are those of.
+use Rattle.std.proofs.Common.{◌≡◌, ℕ, Bool, true, false, List, [], ◌∷◌, None, codes, refl, sym, ap, ◌∙◌}
+use Rattle.std.proofs.lemmas.Slice.Eq.{bytes_eq-Decides}
+use Rattle.std.specs.Str.{bytes_eq}
+use Rattle.pages_check.specs.Words.{path_asked}
+use Rattle.pages_cli.specs.Words.{first_is}
+use Rattle.pages_load.specs.Load.{number_asked}
+use Rattle.pages_talk.specs.Play.{seed_asked}
+
+-- no other word is the first
+pub other_first : (name other : List ℕ) (words : List (List ℕ)) → bytes_eq name other ≡ false → first_is name words ≡ true → first_is other words ≡ false
+other_first name other [] apart is = refl
+other_first name other (word ∷ words) apart is = ap (λ w. bytes_eq w other) ((bytes_eq-Decides word name).0 is) ∙ apart
+
+pub no_seed : (words : List (List ℕ)) → first_is (codes "play") words ≡ false → seed_asked words ≡ None
+no_seed [] is = refl
+no_seed (word ∷ []) is = rw is refl
+no_seed (word ∷ option ∷ []) is = refl
+no_seed (word ∷ option ∷ digits ∷ []) is = rw is refl
+no_seed (word ∷ option ∷ digits ∷ next ∷ words) is = refl
+
+pub no_number : (words : List (List ℕ)) → first_is (codes "load") words ≡ false → number_asked words ≡ None
+no_number [] is = refl
+no_number (word ∷ []) is = refl
+no_number (word ∷ digits ∷ []) is = rw is refl
+no_number (word ∷ digits ∷ next ∷ words) is = refl
+
+pub no_path : (words : List (List ℕ)) → first_is (codes "check") words ≡ false → path_asked words ≡ None
+no_path [] is = refl
+no_path (word ∷ []) is = refl
+no_path (word ∷ path ∷ []) is = rw is refl
+no_path (word ∷ path ∷ next ∷ words) is = refl

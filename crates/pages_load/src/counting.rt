@@ -1,0 +1,55 @@
+ghost use Rattle.std.specs.Prelude.{◌≡◌, ◌≤◌, nat_eq, if◌then◌else◌};
+ghost use Rattle.std.specs.List.{starts_with};
+ghost use Rattle.pages_load.specs.Load.{count, good_mark, is_hit, is_publishing, places};
+
+use site_words::{Entry, Op, Reply};
+
+const GOOD_MARK: &[u8] = b"HTTP/1.1 200 OK\r\nContent-Type: text/html";
+
+/// How many entries publish.
+pub(crate) fn publishings(history: &[Entry]) -> usize
+    ensures { result ≡ count is_publishing history.now }
+{
+    history.iter().filter(|entry| is_publishing(entry)).count()
+}
+
+fn is_publishing(entry: &Entry) -> bool
+    ensures { result ≡ is_publishing entry.now }
+{
+    matches!(entry.op, Op::Publish { .. })
+}
+
+/// How many entries fetch a page of which what is kept was taken.
+pub(crate) fn hits(history: &[Entry]) -> usize
+    ensures { result ≡ count is_hit history.now }
+{
+    history.iter().filter(|entry| is_hit(entry)).count()
+}
+
+fn is_hit(entry: &Entry) -> bool
+    ensures { result ≡ is_hit entry.now }
+{
+    match entry.reply {
+        Reply::Fetched { hit } => hit,
+        _ => false,
+    }
+}
+
+/// How many answers in a text are pages that went well.
+pub(crate) fn good_answers(text: &[u8]) -> usize
+    ensures { result ≡ places good_mark text.now }
+{
+    let mut count = 0;
+    for at in 0..text.len() {
+        count += good_here(&text[at..]);
+    }
+    count
+}
+
+// One where a text begins as such an answer does, else none.
+fn good_here(text: &[u8]) -> usize
+    ensures value { result ≡ (if starts_with nat_eq text.now good_mark then 1 else 0) }
+    ensures small { result ≤ 1 }
+{
+    if text.starts_with(GOOD_MARK) { 1 } else { 0 }
+}
