@@ -1,9 +1,29 @@
-//! Tests of a connection over the files of a site.
+//! Tests of a connection to a site: conversations with the bytes of their answers.
 #![tactic(auto)]
 
 #[cfg(test)]
-mod messages;
+mod chunks;
 #[cfg(test)]
-mod pages;
+mod conversations;
+#[cfg(test)]
+mod editing;
+#[cfg(test)]
+mod elsewhere;
+#[cfg(test)]
+mod error_pages;
+#[cfg(test)]
+mod failing;
+#[cfg(test)]
+mod generated;
+#[cfg(test)]
+mod outside;
 #[cfg(test)]
 mod played;
+#[cfg(test)]
+mod roles;
+#[cfg(test)]
+mod said;
+#[cfg(test)]
+mod script;
+#[cfg(test)]
+mod worked;

@@ -1,57 +1,48 @@
 ghost use Rattle.std.specs.Prelude.{◌≡◌, ◌<◌, ◌≤◌};
 
-use edges::{MemSink, MemSource, Steps, Unseen};
+use edges::{MemClock, MemSink, MemSource, Steps, Unseen};
 use pages_talk::play;
 use std::alloc::{AllocError, Global};
+use std::marker::Brand;
 use std::sync::ledger::{Blank, Ledger};
 
 /// The status of `play` over this input, which comes in pieces of that size, and what it wrote.
-pub fn played<N: Ledger>(
+pub fn told(alloc: Global, input: &[u8], piece: usize) -> Result<(u8, Vec<u8>), AllocError>
+    requires { 1 ≤ piece }
+{
+    failing(alloc, input, piece, &[], &[])
+}
+
+/// The same where the source and the sink fail at these calls.
+pub fn failing(
     alloc: Global,
-    blank: Blank,
     input: &[u8],
     piece: usize,
-    read_fails: &[u64],
-    write_fails: &[u64],
+    reads: &[u64],
+    writes: &[u64],
 ) -> Result<(u8, Vec<u8>), AllocError>
-    requires name { blank.name ≡ N.name }
-    requires parts { blank.parts ≡ N.parts }
-    requires some { 0 < N.parts }
-    requires piece { 1 ≤ piece }
+    requires { 1 ≤ piece }
 {
-    let mut source = MemSource::new(input.to_vec(alloc)?, piece, read_fails.to_vec(alloc)?);
-    let mut sink = MemSink::new(alloc, write_fails.to_vec(alloc)?);
-    let mut steps = Steps::<Unseen<N>>::unseen(blank);
-    let words = vec![in alloc; String::from_str(alloc, "play")?]?;
-    let status = play(alloc, &words, &mut source, &mut sink, &mut steps);
-    Ok((status, sink.taken().to_vec(alloc)?))
-}
-
-/// What `play` writes to this input.
-pub fn answered<N: Ledger>(alloc: Global, blank: Blank, input: &[u8]) -> Result<Vec<u8>, AllocError>
-    requires name { blank.name ≡ N.name }
-    requires parts { blank.parts ≡ N.parts }
-    requires some { 0 < N.parts }
-{
-    let (_status, text) = played::<N>(alloc, blank, input, 4_096, &[], &[])?;
-    Ok(text)
-}
-
-/// Messages that put a page with this text behind the directive of first pages, publish it, and ask for it with this query.
-pub fn page_messages(alloc: Global, text: &str, query: &str) -> Result<String, AllocError> {
-    let page = format!(in alloc; "<%@ page session=\"false\" %>{text}")?;
-    let size = page.len();
-    format!(in alloc;
-        "PUT /_editor/files/a.jsp HTTP/1.1\r\nHost: x\r\nContent-Length: {size}\r\n\r\n{page}POST /_editor/publish HTTP/1.1\r\nHost: x\r\n\r\nGET /%61.jsp?{query} HTTP/1.1\r\nHost: x\r\n\r\n"
-    )
+    let source = MemSource::new(input.to_vec(alloc)?, piece, reads.to_vec(alloc)?);
+    let sink = MemSink::new(alloc, writes.to_vec(alloc)?);
+    played::<Brand>(alloc, Blank::new(1), &["play"], source, sink)
 }
 
 /// The status of these words over an empty input, and what was written.
-pub fn worded<N: Ledger>(
+pub fn worded(alloc: Global, words: &[&str]) -> Result<(u8, Vec<u8>), AllocError> {
+    let source = MemSource::new(Vec::new(alloc), 1, Vec::new(alloc));
+    let sink = MemSink::new(alloc, Vec::new(alloc));
+    played::<Brand>(alloc, Blank::new(1), words, source, sink)
+}
+
+// The status of these words over this source and this sink, and what the sink took.
+fn played<N: Ledger>(
     alloc: Global,
     blank: Blank,
     words: &[&str],
-) -> Result<(u8, usize), AllocError>
+    mut source: MemSource,
+    mut sink: MemSink,
+) -> Result<(u8, Vec<u8>), AllocError>
     requires name { blank.name ≡ N.name }
     requires parts { blank.parts ≡ N.parts }
     requires some { 0 < N.parts }
@@ -60,9 +51,15 @@ pub fn worded<N: Ledger>(
     for word in words {
         owned.push(String::from_str(alloc, word)?)?;
     }
-    let mut source = MemSource::new(Vec::new(alloc), 1, Vec::new(alloc));
-    let mut sink = MemSink::new(alloc, Vec::new(alloc));
+    let mut clock = MemClock::new(vec![in alloc; 0]?);
     let mut steps = Steps::<Unseen<N>>::unseen(blank);
-    let status = play(alloc, &owned, &mut source, &mut sink, &mut steps);
-    Ok((status, sink.taken().len()))
+    let status = play(
+        alloc,
+        &owned,
+        &mut source,
+        &mut sink,
+        &mut clock,
+        &mut steps,
+    );
+    Ok((status, sink.taken().to_vec(alloc)?))
 }
