@@ -14,7 +14,7 @@ use Rattle.run_moves.specs.declared.flow.End.TheVariants as ends
 use Rattle.run_moves.specs.declared.flow.Flow.{Flow}
 use Rattle.run_moves.specs.declared.flow.Flow.TheVariants as flows
 use Rattle.run_moves.proofs.Acts.{acted_behind, acted_changed, acted_forward, acted_redirect, then_at_grows}
-use Rattle.run_world.proofs.Adds.{both, quiet, same}
+use Rattle.page_meaning.proofs.Growing.{both, quiet, same}
 use Rattle.run_moves.proofs.Behind.{acted_after, changes_as, changes_then, fell_at}
 use Rattle.page_machine.proofs.Calling.{Enters, call_behind, call_short}
 use Rattle.page_machine.proofs.Turning.{moves_turn, turns_as, turns_behind}
@@ -210,7 +210,7 @@ module _ {W : Type 0} {reached : W → Origin → W → State → Type 0} {repli
         → Acted reached replies (failing place o failed) mid new o2 flow → (failed ≡ failure.NoMemory → (flow ≡ flows.Over ends.NoMemory) × (new ≡ mid))
         → Acted reached replies (λ t. On (land to (λ u. o.stack) o (call_back c before (Well tt t)))) old new o2 flow
     back_failed old mid new failed o2 flow does acted short =
-        fell_at place o (λ u t. Running to (back_to before.scopes t) o) old mid new failed o2 flow (λ u t. quiet t (back_to before.scopes t) refl refl) does acted short
+        fell_at place o (λ u t. Running to (back_to before.scopes t) o) old mid new failed o2 flow (λ u t. quiet t (back_to before.scopes t) refl refl refl) does acted short
 
 -- what is done behind the end of a run of its own only adds
 land_grows : (to : ℕ) (o : Open) (d : Did) → Grows (state_of d) (config_state (land to (λ u. o.stack) o d))

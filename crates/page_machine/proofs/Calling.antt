@@ -7,7 +7,7 @@ use Rattle.page_machine.specs.Turn.{MoveLeads, MoveEnds, TurnsSo, Turns, RunFrom
 use Rattle.run_moves.specs.declared.flow.End.TheVariants as ends
 use Rattle.run_moves.specs.declared.flow.Flow.{Flow}
 use Rattle.run_moves.specs.declared.flow.Flow.TheVariants as flows
-use Rattle.run_world.proofs.Adds.{both}
+use Rattle.page_meaning.proofs.Growing.{both}
 use Rattle.page_meaning.specs.Growth.{state_of, Grows}
 use Rattle.page_meaning.specs.State.{State}
 use Rattle.page_meaning.specs.Went.{Did, Well, Raised, Ended, Awaits, forwards, redirects}

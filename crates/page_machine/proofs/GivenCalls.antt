@@ -16,7 +16,8 @@ use Rattle.run_moves.specs.declared.flow.End.TheVariants as ends
 use Rattle.run_moves.specs.declared.flow.Flow.{Flow}
 use Rattle.run_moves.specs.declared.flow.Flow.TheVariants as flows
 use Rattle.run_moves.proofs.Acts.{acted_as, acted_behind, acted_fault, acted_on, acted_part_short, move_behind}
-use Rattle.run_world.proofs.Adds.{put_text_adds, quiet, then_at, both, same}
+use Rattle.page_meaning.proofs.Growing.{both, quiet, same}
+use Rattle.run_world.proofs.Adds.{put_text_adds, then_at}
 use Rattle.run_moves.proofs.Behind.{fell_at, well_at}
 use Rattle.page_machine.proofs.CallExits.{stepped_behind}
 use Rattle.page_machine.proofs.Calling.{Enters, enters_as, into_enters}
@@ -158,7 +159,7 @@ module _ (place : Place) (to : ℕ) (o : Open) (name : Option (List ℕ)) (seat 
           → Doing reached replies (λ u. u) (λ place s. let w : Did = Well tt (copied_to_caller c s) in w) old mid (Err failed) → Acted reached replies (failing place o failed) mid new o2 flow
           → (failed ≡ failure.NoMemory → (flow ≡ flows.Over ends.NoMemory) × (new ≡ mid)) → Acted reached replies (λ s. given_called place (given_by name seat) seat to s o) old new o2 flow
       copy_failed old mid new failed o2 flow does acted short =
-          change_failed (copied_to_caller c) (λ s. quiet (copied_to_caller c s) s refl refl) place (λ s. given_called place (given_by name seat) seat to s o) given_grows o old mid new failed o2 flow does acted short
+          change_failed (copied_to_caller c) (λ s. quiet (copied_to_caller c s) s refl refl refl) place (λ s. given_called place (given_by name seat) seat to s o) given_grows o old mid new failed o2 flow does acted short
 
       -- a source text is written
       pub source_put : (t : List ℕ) (left : ℕ) (old mid new : W) → given_by name seat ≡ source_text t → o.left ≡ suc left

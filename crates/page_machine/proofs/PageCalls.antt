@@ -20,7 +20,8 @@ use Rattle.run_moves.specs.declared.flow.Flow.{Flow}
 use Rattle.run_moves.specs.declared.flow.Flow.TheVariants as flows
 use Rattle.page_machine.specs.declared.pages.Target as machine_target
 use Rattle.run_moves.proofs.Acts.{acted_as, acted_short, acted_on, then_at_grows}
-use Rattle.run_world.proofs.Adds.{both, put_text_adds, quiet, same}
+use Rattle.page_meaning.proofs.Growing.{both, quiet, same}
+use Rattle.run_world.proofs.Adds.{put_text_adds}
 use Rattle.run_moves.proofs.Behind.{acted_after, acted_spent, fell_at, fell_move, then_move_grows, well_at, well_move}
 use Rattle.page_machine.proofs.CallExits.{acted_stepped, included_grows, stepped_after, stepped_as, stepped_behind}
 use Rattle.page_machine.proofs.Calling.{Enters, page_enters}
@@ -241,7 +242,7 @@ pub included_run_grows : (place : Place) (program : Program) (params : List Para
 included_run_grows place program params left to s o =
     let t = in_scopes (with_frame s.scopes) s in
     page_entered_grows program params left (λ d. land to (λ u. o.stack) o (included_end place s d)) s (page_begun program t)
-    (both s t (state_of (page_begun program t)) (quiet s t refl refl) (page_begun_keeps program t).grows) (λ d. included_grows to o place s d)
+    (both s t (state_of (page_begun program t)) (quiet s t refl refl refl) (page_begun_keeps program t).grows) (λ d. included_grows to o place s d)
 
 plain_grows : (place : Place) (t : List ℕ) (to : ℕ) (s : State) (o : Open) → Grows s (config_state (land to (λ u. o.stack) o (put_text place t s)))
 plain_grows place t to s o =

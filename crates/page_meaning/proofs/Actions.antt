@@ -33,7 +33,8 @@ use Rattle.site_words.specs.PageSteps.{tells_created}
 use Rattle.page_meaning.specs.Variables.{set_held, assign, assign_variable, look_up, with_page_variable, without_page_variable}
 use Rattle.page_meaning.specs.Went.{Went, Did, Well, Raised, then_do, either, result_of}
 use Rattle.page_meaning.specs.Work.{visit, ask}
-use Rattle.page_meaning.proofs.Orderly.{both, Orderly, Calm, well, raised, result, changed, behind, thens, tidied_at, eithers}
+use Rattle.page_meaning.proofs.Growing.{both}
+use Rattle.page_meaning.proofs.Orderly.{Orderly, Calm, well, raised, result, changed, behind, thens, tidied_at, eithers}
 use Rattle.page_meaning.proofs.Words.{scopes_calm, nothing_calm, visit_orderly, ask_orderly, set_held_orderly, assign_orderly, assign_variable_orderly, unassign_in_orderly, look_up_orderly, put_text_orderly, keeping_orderly, kept_value_orderly}
 
 pub with_page_calm : (name : List ℕ) (d : Datum) → Calm (with_page_variable name d)

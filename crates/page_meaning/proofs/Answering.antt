@@ -14,11 +14,12 @@ use Rattle.page_meaning.specs.Response.{Answered, whole, plain_line, not_found, 
 use Rattle.page_meaning.specs.State.{State}
 use Rattle.page_meaning.specs.Work.{fetched}
 use Rattle.page_meaning.proofs.Chains.{AnswerOrderly, AnswersOrderly, whole_orderly, plain_line_orderly, answer_behind, chain_orderly}
-use Rattle.page_meaning.proofs.Orderly.{quiet, Calm}
+use Rattle.page_meaning.proofs.Growing.{quiet}
+use Rattle.page_meaning.proofs.Orderly.{Calm}
 use Rattle.page_meaning.proofs.Words.{fetched_calm}
 
 no_visits_calm : Calm with_no_visits
-no_visits_calm = record { grows = λ s. quiet s (with_no_visits s) refl refl; kept = λ s more. refl }
+no_visits_calm = record { grows = λ s. quiet s (with_no_visits s) refl refl refl; kept = λ s more. refl }
 
 first_fault_orderly : (r : Raise) (page : Page) (params : List Param) (other : Raise) → AnswersOrderly (first_fault r page params other)
 first_fault_orderly r page params other = plain_line_orderly status_is.InternalServerError (run_fault_line r)

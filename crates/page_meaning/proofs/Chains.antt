@@ -1,5 +1,5 @@
 -- Requests are orderly: chains of forwards, error pages, and the answers under more answers to steps.
-use Rattle.std.proofs.Common.{◌≡◌, ◌<◌, ◌≤◌, ℕ, zero, suc, Bool, true, false, List, [], ◌∷◌, refl, sym, ap, ◌∙◌, subst, arith, append-nil, codes}
+use Rattle.std.proofs.Common.{◌≡◌, ◌<◌, ◌≤◌, ℕ, zero, suc, Bool, true, false, List, [], ◌∷◌, refl, sym, ap, ◌∙◌, subst, arith, codes}
 use Rattle.std.specs.Prelude.{if◌then◌else◌}
 use Rattle.http_in.specs.declared.params.Param.{Param}
 use Rattle.http_out.specs.declared.status.Status.{Status}
@@ -18,8 +18,9 @@ use Rattle.page_meaning.specs.State.{State}
 use Rattle.site_words.specs.PageSteps.{Step}
 use Rattle.page_meaning.specs.Went.{Did, Well, Raised, Ended, Awaits, forwards, redirects}
 use Rattle.out_buffer.specs.Writer.{has_committed}
-use Rattle.page_meaning.proofs.Nested.{page_run_orderly, uncommitted}
-use Rattle.page_meaning.proofs.Orderly.{same, both, OrderlyAt, Orderly, Calm}
+use Rattle.page_meaning.proofs.Nested.{page_run_orderly}
+use Rattle.page_meaning.proofs.Growing.{both, quiet, same, uncommitted}
+use Rattle.page_meaning.proofs.Orderly.{OrderlyAt, Orderly, Calm}
 use Rattle.page_meaning.proofs.EveryPart.{nodes_orderly, below_orderly}
 
 -- a page's run from its first state
@@ -146,7 +147,7 @@ module _ (left : ℕ) (target : List ℕ → List Param → ℕ → State → An
 
 -- from the first state of a page's run
 started : (s : State) (page : Page) → s.writer.pieces ≡ [] → Grows s (at_start page s)
-started s page none = record { asked = ([], sym (append-nil s.asked)); pieces = ([], sym (append-nil s.writer.pieces ∙ none)) }
+started s page none = quiet s (at_start page s) refl (sym none) refl
 
 target_orderly : (run : Page → State → Answered) → ((page : Page) → AnswersOrderly (run page)) → (status : Status) (path : List ℕ) (paged : Paged)
     → AnswersOrderly (target_answer run status path paged)

@@ -3,6 +3,7 @@ mod Answering
 mod Chains
 mod EveryLaw
 mod EveryPart
+pub mod Growing
 mod Nested
 mod Orderly
 mod Values

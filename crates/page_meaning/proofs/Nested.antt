@@ -1,7 +1,8 @@
 -- What runs one deeper, what leaves the page, and what a catch takes, is orderly.
-use Rattle.std.proofs.Common.{◌≡◌, ◌<◌, ℕ, Bool, true, false, List, [], ◌∷◌, ◌++◌, length, Option, Some, None, Result, Ok, Err, refl, sym, ap, ◌∙◌, subst, append-nil, true≢false}
+use Rattle.std.proofs.Common.{◌≡◌, ◌<◌, ℕ, Bool, true, false, List, [], ◌∷◌, ◌++◌, length, Option, Some, None, Result, Ok, Err, refl, sym, ap, ◌∙◌, subst}
 use Rattle.std.specs.Prelude.{◌&&◌, if◌then◌else◌}
 use Rattle.std.specs.List.{list_any}
+use Rattle.edges.proofs.Own.{front_same}
 use Rattle.http_in.specs.declared.params.Param.{Param}
 use Rattle.pg_text.specs.declared.place.Place.{Place}
 use Rattle.pg_text.specs.declared.resolution.BadPath.{BadPath}
@@ -27,9 +28,10 @@ use Rattle.page_meaning.specs.Tags.{first_frame, call_ended, call_run, call_of, 
 use Rattle.page_meaning.specs.Variables.{back_to}
 use Rattle.page_meaning.specs.Went.{Went, Did, Well, Raised, Ended, Awaits, Leaving, forwards, redirects, then_do, either, result_of}
 use Rattle.page_meaning.specs.Work.{is_spent, fetched}
-use Rattle.out_buffer.specs.Writer.{has_committed, has_pieces, with_bodies, cleared}
+use Rattle.out_buffer.specs.Writer.{has_committed, with_bodies, cleared}
 use Rattle.page_meaning.proofs.Actions.{composed_calm, with_named_calm, without_named_calm}
-use Rattle.page_meaning.proofs.Orderly.{same, both, quiet, OrderlyAt, Orderly, Calm, well, raised, result, changed, behind, then_at, thens, tidied_at, eithers}
+use Rattle.page_meaning.proofs.Growing.{asks, both, quiet, same, starts, uncommitted, uncommitted_start}
+use Rattle.page_meaning.proofs.Orderly.{OrderlyAt, Orderly, Calm, well, raised, result, changed, behind, then_at, thens, tidied_at, eithers}
 use Rattle.page_meaning.proofs.Values.{with_values_orderly}
 use Rattle.page_meaning.proofs.Words.{scopes_calm, writer_calm, back_calm, fetched_calm, put_text_orderly}
 use Rattle.tag_decl.specs.Declare.{declared}
@@ -162,15 +164,15 @@ DeepOrderly left no_deeper = Unit {0}
 DeepOrderly left (deeper l run) = (l < left) × ((nodes : Nodes) (here : Here) → Orderly left (run nodes here))
 
 -- a session's start
-started_at : (left : ℕ) (s : State) (answers : List Answer) → s.answers ≡ answers
+started_at : (left : ℕ) (s : State) (answers : List Answer) → s.answers ≡ answers → has_committed s.writer ≡ false
     → OrderlyAt left s (session_started answers s) (λ more. session_started (answers ++ more) (with_more more s))
-started_at left s [] none = record { grows = same s; goes_on = λ more. (none, waits more); leaves = tt }
+started_at left s [] none free = record { grows = same s; goes_on = λ more. (none, waits more); leaves = tt }
   where
     waits : (more : List Answer) → AsksOn fresh s more (session_started more (with_more more s))
     waits [] = refl
-    waits (answer ∷ rest) = quiet (with_asked fresh s) (state_of (session_started (answer ∷ rest) (with_more (answer ∷ rest) s))) refl refl
-started_at left s (answer ∷ rest) some = record {
-  grows = record { asked = (fresh ∷ [], refl); pieces = ([], sym (append-nil s.writer.pieces)) };
+    waits (answer ∷ rest) = starts (with_asked fresh s) (state_of (session_started (answer ∷ rest) (with_more (answer ∷ rest) s))) free (front_same (s.asked ++ fresh ∷ [])) refl
+started_at left s (answer ∷ rest) some free = record {
+  grows = starts s (state_of (session_started (answer ∷ rest) s)) free (fresh ∷ [], refl) refl;
   goes_on = λ more. refl;
   leaves = tt;
 }
@@ -178,15 +180,15 @@ started_at left s (answer ∷ rest) some = record {
 abbrev started_if : Bool → List Answer → State → Did
 started_if b answers s = either b (session_started answers) (λ s1. Well tt s1) s
 
-start_at : (left : ℕ) (b : Bool) (s : State) → OrderlyAt left s (started_if b s.answers s) (λ more. started_if b (s.answers ++ more) (with_more more s))
-start_at left true s = started_at left s s.answers refl
-start_at left false s = well tt s
+start_at : (left : ℕ) (b : Bool) (s : State) → (b ≡ true → has_committed s.writer ≡ false) → OrderlyAt left s (started_if b s.answers s) (λ more. started_if b (s.answers ++ more) (with_more more s))
+start_at left true s free = started_at left s s.answers refl (free refl)
+start_at left false s free = well tt s
 
 pub page_run_orderly : {left : ℕ} (run : Nodes → Here → State → Did) (page : Page) (params : List Param) → ((nodes : Nodes) (here : Here) → Orderly left (run nodes here))
     → Orderly left (page_run run page params)
 page_run_orderly {left} run page params h s =
     then_at s (started_if (starts_session page s) s.answers s) (λ more. started_if (starts_session page s) (s.answers ++ more) (with_more more s))
-    (λ u s1. run page.nodes (in_page (record { page = page; params = params })) s1) (start_at left (starts_session page s) s) (λ u. h page.nodes (in_page (record { page = page; params = params })))
+    (λ u s1. run page.nodes (in_page (record { page = page; params = params })) s1) (start_at left (starts_session page s) s (uncommitted_start page s)) (λ u. h page.nodes (in_page (record { page = page; params = params })))
 
 module _ {left : ℕ} where
   fetched_or_fault_orderly : (place : Place) (path : List ℕ) (paged : Paged) → Orderly left (fetched_or_fault place path paged)
@@ -277,20 +279,15 @@ module _ {left : ℕ} where
 abbrev addressed : Bool → Place → List ℕ → State → Did
 addressed b place url s = either b (Raised fault.BadUrl place) (Ended (redirects url)) s
 
--- nothing was committed
-pub uncommitted : (pieces : List (List ℕ)) → has_pieces pieces ≡ false → pieces ≡ []
-uncommitted [] e = refl
-uncommitted (piece ∷ pieces) e = absurd (true≢false e)
-
 module _ {left : ℕ} where
   left_at : (path : List ℕ) (params : List Param) (l : ℕ) (s : State) → l < left → s.writer.pieces ≡ []
       → OrderlyAt left s (left_for path params l s) (λ more. left_for path params l (with_more more s))
-  left_at path params l s fewer none = record { grows = quiet s (in_writer (cleared s.writer) s) refl refl; goes_on = λ more. refl; leaves = (fewer, none) }
+  left_at path params l s fewer none = record { grows = quiet s (in_writer (cleared s.writer) s) refl refl refl; goes_on = λ more. refl; leaves = (fewer, none) }
 
   left_behind : (path : List ℕ) (params : List Param) (l : ℕ) (s : State) → l < left → s.writer.pieces ≡ []
       → OrderlyAt left s (left_for path params l (fetched path s)) (λ more. left_for path params l (fetched path (with_more more s)))
   left_behind path params l s fewer none =
-      record { grows = record { asked = (fetch path ∷ [], refl); pieces = ([], sym (append-nil s.writer.pieces)) }; goes_on = λ more. refl; leaves = (fewer, none) }
+      record { grows = asks (fetch path) s (state_of (left_for path params l (fetched path s))) refl refl refl; goes_on = λ more. refl; leaves = (fewer, none) }
 
   paged_at : (place : Place) (path : List ℕ) (params : List Param) (l : ℕ) (paged : Paged) (s : State) → l < left → s.writer.pieces ≡ []
       → OrderlyAt left s (then_do (fetched_or_fault place path paged s) (λ p s1. left_for path params l s1))

@@ -1,25 +1,13 @@
 -- A part of a page is orderly: it only adds, goes on under more answers, and leaves as a page may; and how such parts are joined.
-use Rattle.std.proofs.Common.{◌≡◌, ◌≤◌, ℕ, Bool, true, false, List, [], ◌∷◌, ◌++◌, Result, Ok, Err, refl, sym, ap, ◌∙◌, subst, arith, append_assoc, append-nil}
-use Rattle.edges.specs.History.{IsFront}
+use Rattle.std.proofs.Common.{◌≡◌, ◌≤◌, ℕ, Bool, true, false, List, [], ◌∷◌, Result, Ok, Err, refl, sym, ap, ◌∙◌, subst, arith}
 use Rattle.pg_text.specs.declared.place.Place.{Place}
 use Rattle.pg_value.specs.declared.fault.RunFault.{RunFault}
 use Rattle.site_words.specs.Law.{Answer}
 use Rattle.page_meaning.specs.Growth.{state_of, with_more, with_asked, Grows, AsksOn, GoesOn, LeavesBy, Leaves}
 use Rattle.page_meaning.specs.State.{State}
 use Rattle.site_words.specs.PageSteps.{Step}
+use Rattle.page_meaning.proofs.Growing.{both, same}
 use Rattle.page_meaning.specs.Went.{Went, Well, Raised, Ended, Awaits, Leaving, forwards, redirects, then_do, tidied, either, result_of}
-
-front_same : {E : Type 0} (a : List E) → IsFront a a
-front_same a = ([], sym (append-nil a))
-
-front_both : {E : Type 0} (a b c : List E) → IsFront a b → IsFront b c → IsFront a c
-front_both a b c f g = (f.0 ++ g.0, g.1 ∙ (ap (λ z. z ++ g.0) f.1 ∙ append_assoc a f.0 g.0))
-
-pub same : (s : State) → Grows s s
-same s = record { asked = front_same s.asked; pieces = front_same s.writer.pieces }
-
-pub both : (s t u : State) → Grows s t → Grows t u → Grows s u
-both s t u g k = record { asked = front_both s.asked t.asked u.asked g.asked k.asked; pieces = front_both s.writer.pieces t.writer.pieces u.writer.pieces g.pieces k.pieces }
 
 -- one way of a part, and its ways under more answers
 pub record OrderlyAt (left : ℕ) (s : State) {A : Type 0} (w : Went A) (ws : List Answer → Went A) : Type 0 where
@@ -35,10 +23,6 @@ Orderly left part = (s : State) → OrderlyAt left s (part s) (λ more. part (wi
 pub record Calm (change : State → State) : Type 0 where
   pub grows : (s : State) → Grows s (change s)
   pub kept : (s : State) (more : List Answer) → change (with_more more s) ≡ with_more more (change s)
-
--- a change of neither steps nor pieces
-pub quiet : (s t : State) → t.asked ≡ s.asked → t.writer.pieces ≡ s.writer.pieces → Grows s t
-quiet s t e f = record { asked = ([], e ∙ sym (append-nil s.asked)); pieces = ([], f ∙ sym (append-nil s.writer.pieces)) }
 
 tidied_asks : {A : Type 0} (change : State → State) → Calm change → (step : Step) (s : State) (more : List Answer) (w : Went A) → AsksOn step s more w → AsksOn step s more (tidied change w)
 tidied_asks change calm step s [] w e = ap (tidied change) e

@@ -26,21 +26,22 @@ use Rattle.page_meaning.specs.Variables.{set_held, set_application, set_in, assi
 use Rattle.page_meaning.specs.Went.{Went, Did, Well, Raised, then_do, either, result_of}
 use Rattle.page_meaning.specs.Work.{visit_limit, visit, visited, is_spent, answer_from, ask, fetched}
 use Rattle.out_buffer.specs.Writer.{Writer, put_limit, put, placed, written, buffered, flushed_over, pieces_over, front_pieces, piece_of, body_answer, with_body, without_body, innermost, flushed, flush}
-use Rattle.page_meaning.proofs.Orderly.{same, quiet, OrderlyAt, Orderly, Calm, well, raised, result, changed, behind, then_at, thens, eithers}
+use Rattle.page_meaning.proofs.Growing.{asks, commits, quiet, same}
+use Rattle.page_meaning.proofs.Orderly.{OrderlyAt, Orderly, Calm, well, raised, result, changed, behind, then_at, thens, eithers}
 
 -- a change of scopes alone
 pub scopes_calm : (change : ScopeState → ScopeState) → Calm (λ s. in_scopes (change s.scopes) s)
-scopes_calm change = record { grows = λ s. quiet s (in_scopes (change s.scopes) s) refl refl; kept = λ s more. refl }
+scopes_calm change = record { grows = λ s. quiet s (in_scopes (change s.scopes) s) refl refl refl; kept = λ s more. refl }
 
 pub nothing_calm : Calm (λ s. s)
 nothing_calm = record { grows = λ s. same s; kept = λ s more. refl }
 
 -- a change of the writer that keeps its pieces
 pub writer_calm : (change : Writer → Writer) → ((w : Writer) → (change w).pieces ≡ w.pieces) → Calm (λ s. in_writer (change s.writer) s)
-writer_calm change keeps = record { grows = λ s. quiet s (in_writer (change s.writer) s) refl (keeps s.writer); kept = λ s more. refl }
+writer_calm change keeps = record { grows = λ s. quiet s (in_writer (change s.writer) s) refl (keeps s.writer) refl; kept = λ s more. refl }
 
 pub back_calm : (before : ScopeState) → Calm (back_to before)
-back_calm before = record { grows = λ s. quiet s (back_to before s) refl refl; kept = λ s more. refl }
+back_calm before = record { grows = λ s. quiet s (back_to before s) refl refl refl; kept = λ s more. refl }
 
 module _ {left : ℕ} where
   pub visit_orderly : (place : Place) → Orderly left (visit place)
@@ -48,7 +49,7 @@ module _ {left : ℕ} where
     where
       go : (b : Bool) → OrderlyAt left s (if b then Well tt (record s { visits = s.visits + 1 }) else Raised fault.TooMuchWork place s)
           (λ more. let w : Did = if b then Well tt (record (with_more more s) { visits = s.visits + 1 }) else Raised fault.TooMuchWork place (with_more more s) in w)
-      go true = record { grows = quiet s (record s { visits = s.visits + 1 }) refl refl; goes_on = λ more. refl; leaves = tt }
+      go true = record { grows = quiet s (record s { visits = s.visits + 1 }) refl refl refl; goes_on = λ more. refl; leaves = tt }
       go false = raised fault.TooMuchWork place s
 
   pub visited_orderly : {A : Type 0} (place : Place) (part : State → Went A) → Orderly left part → Orderly left (visited place part)
@@ -61,9 +62,9 @@ module _ {left : ℕ} where
     where
       waits : (more : List Answer) → AsksOn (app x) s more (answer_from x more (with_more more s))
       waits [] = refl
-      waits (answer ∷ rest) = quiet (with_asked (app x) s) (state_of (answer_from x (answer ∷ rest) (with_more (answer ∷ rest) s))) refl refl
+      waits (answer ∷ rest) = quiet (with_asked (app x) s) (state_of (answer_from x (answer ∷ rest) (with_more (answer ∷ rest) s))) refl refl refl
   answer_orderly x s (answer ∷ rest) some = record {
-    grows = record { asked = (app x ∷ [], refl); pieces = ([], sym (append-nil s.writer.pieces)) };
+    grows = asks (app x) s (state_of (answer_from x (answer ∷ rest) s)) refl refl refl;
     goes_on = λ more. refl;
     leaves = tt;
   }
@@ -151,12 +152,12 @@ flushed_adds (body ∷ outer) w = ([], sym (append-nil w.pieces))
 
 pub flush_calm : Calm (λ s. in_writer (flush s.writer) s)
 flush_calm = record {
-  grows = λ s. record { asked = ([], sym (append-nil s.asked)); pieces = flushed_adds s.writer.kept s.writer };
+  grows = λ s. commits s (flush s.writer) (flushed_adds s.writer.kept s.writer);
   kept = λ s more. refl;
 }
 
 pub fetched_calm : (path : List ℕ) → Calm (fetched path)
-fetched_calm path = record { grows = λ s. record { asked = (fetch path ∷ [], refl); pieces = ([], sym (append-nil s.writer.pieces)) }; kept = λ s more. refl }
+fetched_calm path = record { grows = λ s. asks (fetch path) s (fetched path s) refl refl refl; kept = λ s more. refl }
 
 -- a text that was put, or its fault
 abbrev put_so : Place → Result Writer RunFault → State → Did
@@ -167,7 +168,7 @@ module _ {left : ℕ} where
   put_text_orderly place bytes s = go (put bytes s.writer) (put_adds bytes s.writer)
     where
       go : (r : Result Writer RunFault) → AddsPieces s.writer.pieces r → OrderlyAt left s (put_so place r s) (λ more. put_so place r (with_more more s))
-      go (Ok w) adds = record { grows = record { asked = ([], sym (append-nil s.asked)); pieces = adds }; goes_on = λ more. refl; leaves = tt }
+      go (Ok w) adds = record { grows = commits s w adds; goes_on = λ more. refl; leaves = tt }
       go (Err f) adds = raised f place s
 
   pub taken_orderly : (place : Place) → Orderly left (taken place)

@@ -1,6 +1,7 @@
 -- What a run adds to a request's state, and what it does under more answers.
-use Rattle.std.specs.Prelude.{◌≡◌, ◌<◌, ℕ, List, [], ◌∷◌, ◌++◌}
+use Rattle.std.specs.Prelude.{◌≡◌, ◌<◌, ℕ, Bool, true, List, [], ◌∷◌, ◌++◌, Option}
 use Rattle.edges.specs.History.{IsFront}
+use Rattle.out_buffer.specs.Writer.{has_committed}
 use Rattle.site_words.specs.Law.{Answer}
 use Rattle.page_meaning.specs.State.{State}
 use Rattle.site_words.specs.PageSteps.{Step}
@@ -21,10 +22,15 @@ with_more more s = record s { answers = s.answers ++ more }
 abbrev pub with_asked : Step → State → State
 with_asked step s = record s { asked = s.asked ++ step ∷ [] }
 
--- the steps asked and the committed pieces of the first state stand at the front of those of the second
+-- the id of the session, and whether this request made it
+abbrev pub session_of : State → Option (List ℕ) × Bool
+session_of s = (s.id, s.is_fresh)
+
+-- the steps asked and the committed pieces of the first state stand at the front of those of the second, and behind a commit no session starts
 pub record Grows (s t : State) : Type 0 where
   pub asked : IsFront s.asked t.asked
   pub pieces : IsFront s.writer.pieces t.writer.pieces
+  pub session : has_committed s.writer ≡ true → session_of t ≡ session_of s
 
 -- what waited for a step waits for it still, or, where there is an answer, has asked it and gone on
 abbrev pub AsksOn : {A : Type 0} → Step → State → List Answer → Went A → Type 0

@@ -37,7 +37,7 @@ pub record OfEveryPart (P : (left : ℕ) → (A : Type 0) → (State → Went A)
   pub params : (left : ℕ) (served : Served) (ps : Params) (here : Here) → P left (List Param) (params_mean served (below served left) ps here)
   pub branches : (left : ℕ) (served : Served) (bs : Branches) (here : Here) → P left Unit (branches_mean served (below served left) bs here)
 
--- steps asked and committed pieces only grow
+-- steps asked and committed pieces only grow, and behind a commit no session starts
 abbrev pub StepsAndPiecesGrow : Type 0
 StepsAndPiecesGrow = OfEveryPart (λ left A part. (s : State) → Grows s (state_of (part s)))
 

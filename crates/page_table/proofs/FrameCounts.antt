@@ -1,6 +1,5 @@
 -- How many frames stand behind the changes of frames that calls make.
 use Rattle.std.proofs.Common.{◌≤◌, ℕ, List, [], ◌∷◌, length, arith}
-use Rattle.std.specs.Prelude.{take, set}
 use Rattle.std.proofs.lemmas.List.{length-append, length-set, length-take}
 use Rattle.scopes.specs.Scopes.{Entries, ScopeState, with_frame_of}
 use Rattle.page_meaning.specs.Context.{Export}

@@ -1,5 +1,5 @@
 -- Each row of the table takes no frame back that stood before it; nor does a run.
-use Rattle.std.proofs.Common.{◌≡◌, ◌+◌, ◌-◌, ◌≤◌, ℕ, zero, suc, Bool, true, false, List, [], ◌∷◌, ◌++◌, length, Option, Some, None, Result, Ok, Err, refl, subst, arith}
+use Rattle.std.proofs.Common.{◌+◌, ◌-◌, ◌≤◌, ℕ, zero, suc, Bool, true, false, List, [], ◌∷◌, ◌++◌, length, Option, Some, None, Result, Ok, Err, subst, arith}
 use Rattle.std.specs.Prelude.{take, slice_get, ⊤}
 use Rattle.http_in.specs.declared.params.Param.{Param}
 use Rattle.page_code.specs.Calls.{call_size}
@@ -20,7 +20,7 @@ use Rattle.pg_value.specs.Value.{datum_of}
 use Rattle.pg_value.specs.declared.fault.RunFault.TheVariants as fault
 use Rattle.scopes.specs.HeldScope.{held_scope}
 use Rattle.scopes.specs.Scopes.{Entries, with_frame}
-use Rattle.out_buffer.specs.Writer.{body_answer, innermost, with_body, without_body}
+use Rattle.out_buffer.specs.Writer.{body_answer, innermost, without_body}
 use Rattle.page_meaning.specs.Addresses.{local_url, redirect_mean}
 use Rattle.page_meaning.specs.Attributes.{table_of}
 use Rattle.page_meaning.specs.Bodies.{put_text, taken}
@@ -36,7 +36,7 @@ use Rattle.page_meaning.specs.Tags.{first_frame}
 use Rattle.page_meaning.specs.Variables.{back_to}
 use Rattle.page_meaning.specs.Went.{Did, Went, Well, Raised, Ended, Awaits, forwards, redirects, tidied, result_of}
 use Rattle.page_table.specs.Act.{is_true, is_same_truth, jump_null, brought_up, bean_made, catch_closed, called_out, leaving, act, act_at, move_of}
-use Rattle.page_table.specs.Calls.{call_back, call_entered, call_of, tag_called, copied_to_caller, in_callers_frame, given_entered, given_deeper, given_called}
+use Rattle.page_table.specs.Calls.{call_back, call_entered, call_of, tag_called, copied_to_caller, given_entered, given_deeper, given_called}
 use Rattle.page_meaning.specs.Core.{is_caught}
 use Rattle.pg_value.specs.declared.fault.RunFault.{RunFault}
 use Rattle.page_table.specs.Landing.{Config, Running, Over, unwound, uncaught, caught_by, one_of, thrown, then_at, land}

@@ -48,19 +48,20 @@ use Rattle.page_table.proofs.Onward.{Onward, MoveGoes, move_behind, stays, onwar
 use Rattle.page_table.proofs.Operating.{operation_works}
 use Rattle.page_table.proofs.Pages.{page_begun_keeps, ask_page_tame, local_url_tame, Gone, gone_grows, forward_gone, redirect_gone}
 use Rattle.page_table.proofs.Records.{round_tame, without_named_calm, bean_tame}
-use Rattle.page_table.proofs.Tame.{same, both, quiet, result}
+use Rattle.page_meaning.proofs.Growing.{both, quiet, same}
+use Rattle.page_table.proofs.Tame.{result}
 use Rattle.page_table.proofs.Words.{put_text_tame, flush_if_calm, taken_grows}
 
 -- calls
 pub tidied_grows : (before : State) (d : Did) → Grows (state_of d) (state_of (tidied (back_to before.scopes) d))
-tidied_grows before (Well u t) = quiet t (back_to before.scopes t) refl refl
-tidied_grows before (Raised f place t) = quiet t (back_to before.scopes t) refl refl
+tidied_grows before (Well u t) = quiet t (back_to before.scopes t) refl refl refl
+tidied_grows before (Raised f place t) = quiet t (back_to before.scopes t) refl refl refl
 tidied_grows before (Ended leaving t) = same t
 tidied_grows before (Awaits step t) = same t
 
 pub call_back_grows : (c : CallSeat) (before : State) (d : Did) → Grows (state_of d) (state_of (call_back c before d))
-call_back_grows c before (Well u t) = quiet t (state_of (call_back c before (Well u t))) refl refl
-call_back_grows c before (Raised f place t) = quiet t (back_to before.scopes t) refl refl
+call_back_grows c before (Well u t) = quiet t (state_of (call_back c before (Well u t))) refl refl refl
+call_back_grows c before (Raised f place t) = quiet t (back_to before.scopes t) refl refl refl
 call_back_grows c before (Ended leaving t) = same t
 call_back_grows c before (Awaits step t) = same t
 
@@ -69,7 +70,7 @@ entered_goes place c entries caller to s o =
     deeper_goes place s o o.left _ (λ left e. record {
       deeper = left;
       less = e;
-      begins = record { grows = quiet s _ refl refl; left = refl };
+      begins = record { grows = quiet s _ refl refl refl; left = refl };
       backs = λ d. land_onward to (λ u. o.stack) o (state_of d) (call_back c s d) (call_back_grows c s d);
     })
 
@@ -86,11 +87,11 @@ given_entered_goes place left (source_text t) c caller to s o e =
     let u = copied_to_caller c s in
     let w = put_text place t u in
     land_onward to (λ v. o.stack) o s (tidied (back_to s.scopes) w)
-    (both s u (state_of (tidied (back_to s.scopes) w)) (quiet s u refl refl) (both u (state_of w) (state_of (tidied (back_to s.scopes) w)) (put_text_tame place t u).grows (tidied_grows s w)))
+    (both s u (state_of (tidied (back_to s.scopes) w)) (quiet s u refl refl refl) (both u (state_of w) (state_of (tidied (back_to s.scopes) w)) (put_text_tame place t u).grows (tidied_grows s w)))
 given_entered_goes place left (code_at at) c caller to s o e = record {
   deeper = left;
   less = e;
-  begins = record { grows = quiet s (in_callers_frame c (copied_to_caller c s)) refl refl; left = refl };
+  begins = record { grows = quiet s (in_callers_frame c (copied_to_caller c s)) refl refl refl; left = refl };
   backs = λ d. land_onward to (λ u. o.stack) o (state_of d) (tidied (back_to s.scopes) d) (tidied_grows s d);
 }
 
@@ -105,9 +106,9 @@ given_goes place (code_at at) seat to s o = given_deeper_goes place (code_at at)
 
 -- pages
 pub included_end_grows : (place : Place) (before : State) (d : Did) → Grows (state_of d) (state_of (included_end place before d))
-included_end_grows place before (Well u t) = quiet t (back_to before.scopes t) refl refl
-included_end_grows place before (Raised f p t) = quiet t (back_to before.scopes t) refl refl
-included_end_grows place before (Ended (redirects location) t) = quiet t (state_of (included_end place before (Ended (redirects location) t))) refl refl
+included_end_grows place before (Well u t) = quiet t (back_to before.scopes t) refl refl refl
+included_end_grows place before (Raised f p t) = quiet t (back_to before.scopes t) refl refl refl
+included_end_grows place before (Ended (redirects location) t) = quiet t (state_of (included_end place before (Ended (redirects location) t))) refl refl refl
 included_end_grows place before (Ended (forwards path params left) t) = same t
 included_end_grows place before (Awaits step t) = same t
 
@@ -125,7 +126,7 @@ included_goes place params left (bad f) to s o e = stays to s s o o.left refl (s
 included_goes place params left (good program) to s o e =
     let t = in_scopes (with_frame s.scopes) s in
     page_goes program params left o.left (λ d. land to (λ u. o.stack) o (included_end place s d)) s (page_begun program t) e
-    (both s t (state_of (page_begun program t)) (quiet s t refl refl) (page_begun_keeps program t).grows)
+    (both s t (state_of (page_begun program t)) (quiet s t refl refl refl) (page_begun_keeps program t).grows)
     (λ d. land_onward to (λ u. o.stack) o (state_of d) (included_end place s d) (included_end_grows place s d))
 
 pub include_at_goes : (serving : Serving) (place : Place) (params : List Param) (r : Result (List ℕ) BadPath) (to : ℕ) (s : State) (o : Open) → MoveGoes o.left s (include_at serving place params r to s o)
@@ -208,7 +209,7 @@ act_goes serving seat place pc s o (instr.Op op) =
     popped_all_goes (takes op) s o _ (λ ds rest.
     land_onward (pc + 1) (λ made. made ++ rest) (record o { stack = rest }) s (operation serving seat place op ds s) (operation_works serving seat place op ds s).keeps.grows)
 act_goes serving seat place pc s o (instr.Take n) = brought_goes (slice_get o.stack n) n (pc + 1) s o
-act_goes serving seat place pc s o instr.StartBody = record { grows = quiet s (in_writer (with_body s.writer) s) refl refl; left = refl }
+act_goes serving seat place pc s o instr.StartBody = record { grows = quiet s (in_writer (with_body s.writer) s) refl refl refl; left = refl }
 act_goes serving seat place pc s o instr.TakeBody = land_onward (pc + 1) (λ t. text t ∷ o.stack) o s (taken place s) (taken_grows place s)
 act_goes serving seat place pc s o (instr.Jump n) = record { grows = same s; left = refl }
 act_goes serving seat place pc s o (instr.JumpIf b n) =

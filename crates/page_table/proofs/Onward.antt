@@ -15,7 +15,7 @@ use Rattle.page_table.specs.Move.{Move, On, Into, Stuck, then_move, popped, popp
 use Rattle.page_table.specs.Open.{Loop, OpenCatch, Open}
 use Rattle.page_table.specs.Runs.{config_state}
 use Rattle.page_table.proofs.Records.{without_named_calm}
-use Rattle.page_table.proofs.Tame.{same, both, quiet}
+use Rattle.page_meaning.proofs.Growing.{both, quiet, same}
 
 -- so many levels are left
 abbrev pub LeftIs : ℕ → Config → Type 0
@@ -57,7 +57,7 @@ caught_onward : (f : RunFault) (place : Place) (s : State) (o : Open) (catches :
 caught_onward f place s o [] = record { grows = unwound_grows o.loops s; left = tt }
 caught_onward f place s o (c ∷ outer) =
     let t = unwound (take (length o.loops - c.loops) o.loops) s in
-    record { grows = both s t (cut_bodies c.bodies t) (unwound_grows (take (length o.loops - c.loops) o.loops) s) (quiet t (cut_bodies c.bodies t) refl refl); left = refl }
+    record { grows = both s t (cut_bodies c.bodies t) (unwound_grows (take (length o.loops - c.loops) o.loops) s) (quiet t (cut_bodies c.bodies t) refl refl refl); left = refl }
 
 pub one_of_onward : (b : Bool) (k : ℕ) (s : State) (c other : Config) → Onward k s c → Onward k s other → Onward k s (one_of b c other)
 one_of_onward true k s c other h g = h

@@ -1,5 +1,5 @@
 -- The beginning of a page's run and what a path of the tree is asked are tame; a forward and a redirect never go on.
-use Rattle.std.proofs.Common.{ℕ, zero, suc, Bool, true, false, List, [], ◌∷◌, Result, Ok, Err, refl, sym, arith, append-nil}
+use Rattle.std.proofs.Common.{◌≡◌, ℕ, zero, suc, Bool, true, false, List, [], ◌∷◌, Result, Ok, Err, refl, arith}
 use Rattle.std.specs.Prelude.{◌&&◌}
 use Rattle.std.specs.List.{list_any}
 use Rattle.http_in.specs.declared.params.Param.{Param}
@@ -12,7 +12,7 @@ use Rattle.site_words.specs.Law.{Answer}
 use Rattle.std.specs.Prelude.{codes}
 use Rattle.page_meaning.specs.Addresses.{is_control, local_url, redirect_mean}
 use Rattle.page_meaning.specs.Context.{Served, Run, Paged, absent, plain, bad, good}
-use Rattle.page_meaning.specs.Growth.{Grows}
+use Rattle.page_meaning.specs.Growth.{state_of, Grows}
 use Rattle.page_meaning.specs.Includes.{target_path, target_params, is_page_path, fetched_or_fault, ask_page, starts_session, session_started, left_for, forward_path, forward_at, forward_mean}
 use Rattle.page_meaning.specs.State.{State, in_writer}
 use Rattle.site_words.specs.PageSteps.{fresh, fetch}
@@ -21,21 +21,25 @@ use Rattle.page_meaning.specs.Work.{is_spent, fetched}
 use Rattle.page_table.specs.Operations.{levels}
 use Rattle.page_table.specs.Pages.{page_begun}
 use Rattle.page_table.specs.Program.{Program, page_of}
-use Rattle.page_table.proofs.Tame.{same, both, quiet, Keeps, keeps_same, TameAt, keeps_at, Tame, Calm, well, raised, changed, behind, either_at, eithers}
+use Rattle.page_meaning.proofs.Growing.{asks, both, quiet, same, starts, uncommitted_start}
+use Rattle.page_table.proofs.Tame.{Keeps, keeps_same, TameAt, keeps_at, Tame, Calm, well, raised, changed, behind, eithers}
 
 -- a session's start
-started_keeps : (s : State) (answers : List Answer) → TameAt s (session_started answers s)
-started_keeps s [] = record { grows = same s; bodies = refl; visits = omega arith; frames = omega arith }
-started_keeps s (answer ∷ rest) =
-    record { grows = record { asked = (fresh ∷ [], refl); pieces = ([], sym (append-nil s.writer.pieces)) }; bodies = refl; visits = omega arith; frames = omega arith }
+started_keeps : (s : State) (answers : List Answer) → has_committed s.writer ≡ false → TameAt s (session_started answers s)
+started_keeps s [] free = record { grows = same s; bodies = refl; visits = omega arith; frames = omega arith }
+started_keeps s (answer ∷ rest) free =
+    record { grows = starts s (state_of (session_started (answer ∷ rest) s)) free (fresh ∷ [], refl) refl; bodies = refl; visits = omega arith; frames = omega arith }
 
 pub page_begun_keeps : (program : Program) (s : State) → TameAt s (page_begun program s)
-page_begun_keeps program s =
-    either_at (starts_session (page_of program) s) (session_started s.answers) (λ s1. Well tt s1) s (started_keeps s s.answers) (well tt s)
+page_begun_keeps program s = go (starts_session (page_of program) s) (uncommitted_start (page_of program) s)
+  where
+    go : (b : Bool) → (b ≡ true → has_committed s.writer ≡ false) → TameAt s (either b (session_started s.answers) (λ s1. Well tt s1) s)
+    go true free = started_keeps s s.answers (free refl)
+    go false free = well tt s
 
 -- what stands at a path
 fetched_keeps : (path : List ℕ) → Calm (fetched path)
-fetched_keeps path s = record { grows = record { asked = (fetch path ∷ [], refl); pieces = ([], sym (append-nil s.writer.pieces)) }; bodies = refl; visits = omega arith; frames = omega arith }
+fetched_keeps path s = record { grows = asks (fetch path) s (fetched path s) refl refl refl; bodies = refl; visits = omega arith; frames = omega arith }
 
 fetched_tame : (place : Place) (path : List ℕ) (paged : Paged) → Tame (fetched_or_fault place path paged)
 fetched_tame place path absent = raised fault.NoSuchPage place
@@ -72,7 +76,7 @@ gone_either true one other s h g = h
 gone_either false one other s h g = g
 
 left_gone : {A : Type 0} (path : List ℕ) (params : List Param) (left : ℕ) (s : State) (w : Went A) → TameAt s w → Gone s (then_do w (λ a s1. left_for path params left s1))
-left_gone path params left s (Well a t) h = both s t (in_writer (cleared t.writer) t) h.grows (quiet t (in_writer (cleared t.writer) t) refl refl)
+left_gone path params left s (Well a t) h = both s t (in_writer (cleared t.writer) t) h.grows (quiet t (in_writer (cleared t.writer) t) refl refl refl)
 left_gone path params left s (Raised f place t) h = keeps_at s (Raised f place t) h
 left_gone path params left s (Ended (redirects location) t) h = keeps_at s (Ended (redirects location) t) h
 left_gone path params left s (Ended (forwards other more l) t) h = h.grows

@@ -1,32 +1,16 @@
 -- A part is tame that only adds steps and pieces, keeps as many bodies, and takes no visit and no frame back; and how such parts are joined.
-use Rattle.std.proofs.Common.{◌≡◌, ◌≤◌, ℕ, Bool, true, false, List, [], ◌++◌, length, Result, Ok, Err, refl, sym, ap, ◌∙◌, arith, append_assoc, append-nil}
+use Rattle.std.proofs.Common.{◌≡◌, ◌≤◌, ℕ, Bool, true, false, [], length, Result, Ok, Err, refl, ap, ◌∙◌, arith}
 use Rattle.std.specs.Prelude.{get_or}
 use Rattle.std.proofs.lemmas.List.{length-set}
-use Rattle.edges.specs.History.{IsFront}
 use Rattle.pg_text.specs.declared.place.Place.{Place}
 use Rattle.pg_value.specs.declared.fault.RunFault.{RunFault}
 use Rattle.scopes.specs.Scopes.{Entries, ScopeState, changed_in}
 use Rattle.scopes.specs.declared.held_scope.HeldScope.{HeldScope}
 use Rattle.scopes.specs.declared.held_scope.HeldScope.TheVariants as held
-use Rattle.page_meaning.specs.Growth.{state_of, Grows}
+use Rattle.page_meaning.proofs.Growing.{both, quiet, same}
+use Rattle.page_meaning.specs.Growth.{state_of, session_of, Grows}
 use Rattle.page_meaning.specs.State.{State, in_scopes}
 use Rattle.page_meaning.specs.Went.{Went, Well, Raised, Ended, Awaits, then_do, either, result_of}
-
-front_same : {E : Type 0} (a : List E) → IsFront a a
-front_same a = ([], sym (append-nil a))
-
-front_both : {E : Type 0} (a b c : List E) → IsFront a b → IsFront b c → IsFront a c
-front_both a b c f g = (f.0 ++ g.0, g.1 ∙ (ap (λ z. z ++ g.0) f.1 ∙ append_assoc a f.0 g.0))
-
-pub same : (s : State) → Grows s s
-same s = record { asked = front_same s.asked; pieces = front_same s.writer.pieces }
-
-pub both : (s t u : State) → Grows s t → Grows t u → Grows s u
-both s t u g k = record { asked = front_both s.asked t.asked u.asked g.asked k.asked; pieces = front_both s.writer.pieces t.writer.pieces u.writer.pieces g.pieces k.pieces }
-
--- a change of neither steps nor pieces
-pub quiet : (s t : State) → t.asked ≡ s.asked → t.writer.pieces ≡ s.writer.pieces → Grows s t
-quiet s t e f = record { asked = ([], e ∙ sym (append-nil s.asked)); pieces = ([], f ∙ sym (append-nil s.writer.pieces)) }
 
 abbrev pub kept : State → ℕ
 kept s = length s.writer.kept
@@ -47,13 +31,13 @@ keeps_same s = record { grows = same s; bodies = refl; visits = omega arith; fra
 pub keeps_both : (s t u : State) → Keeps s t → Keeps t u → Keeps s u
 keeps_both s t u g k = record { grows = both s t u g.grows k.grows; bodies = k.bodies ∙ g.bodies; visits = omega (arith, g.visits, k.visits); frames = omega (arith, g.frames, k.frames) }
 
--- a change of neither the steps nor the writer nor the visits, which takes no frame back
-pub keeps_quiet : (s t : State) → t.asked ≡ s.asked → t.writer ≡ s.writer → t.visits ≡ s.visits → framed s ≤ framed t → Keeps s t
-keeps_quiet s t asked writer visits frames =
-    record { grows = quiet s t asked (ap (λ w. w.pieces) writer); bodies = ap (λ w. length w.kept) writer; visits = omega (arith, visits); frames = frames }
+-- a change of neither the steps nor the writer nor the session nor the visits, which takes no frame back
+keeps_quiet : (s t : State) → t.asked ≡ s.asked → t.writer ≡ s.writer → session_of t ≡ session_of s → t.visits ≡ s.visits → framed s ≤ framed t → Keeps s t
+keeps_quiet s t asked writer session visits frames =
+    record { grows = quiet s t asked (ap (λ w. w.pieces) writer) session; bodies = ap (λ w. length w.kept) writer; visits = omega (arith, visits); frames = frames }
 
 pub keeps_scopes : (s : State) (scopes : ScopeState) → framed s ≤ length scopes.frames → Keeps s (in_scopes scopes s)
-keeps_scopes s scopes frames = keeps_quiet s (in_scopes scopes s) refl refl refl frames
+keeps_scopes s scopes frames = keeps_quiet s (in_scopes scopes s) refl refl refl refl frames
 
 -- how a part goes from a state
 pub record TameAt (s : State) {A : Type 0} (w : Went A) : Type 0 where

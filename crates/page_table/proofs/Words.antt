@@ -2,7 +2,7 @@
 use Rattle.std.proofs.Common.{◌≡◌, ◌≤◌, ◌+◌, ℕ, zero, suc, Bool, true, false, List, [], ◌∷◌, ◌++◌, length, Option, Some, None, Result, Ok, Err, refl, sym, ap, nat_lt, nat_le, arith, append-nil}
 use Rattle.std.specs.Prelude.{if◌then◌else◌}
 use Rattle.edges.specs.History.{IsFront}
-use Rattle.out_buffer.specs.Writer.{Writer, put, put_limit, flushed, flushed_over, front_pieces, pieces_over, piece_of, buffered, written, placed, body_answer, innermost, without_body}
+use Rattle.out_buffer.specs.Writer.{Writer, put, put_limit, flush, flushed, flushed_over, front_pieces, pieces_over, piece_of, buffered, written, placed, body_answer, innermost, without_body}
 use Rattle.pg_text.specs.declared.place.Place.{Place}
 use Rattle.pg_value.specs.Attrs.{with_entry, without_entry}
 use Rattle.pg_value.specs.Datum as datum
@@ -30,14 +30,15 @@ use Rattle.page_meaning.specs.Variables.{set_held, set_application, set_in, assi
 use Rattle.page_meaning.specs.Went.{Went, Did, Well, Raised, then_do, either, result_of}
 use Rattle.page_meaning.specs.Work.{visit_limit, visit, visited, is_spent, answer_from, ask}
 use Rattle.page_table.specs.Operations.{visits}
-use Rattle.page_table.proofs.Tame.{same, quiet, keeps_same, TameAt, Tame, Calm, scopes_calm, changed_frames, changed_calm, well, raised, result, changed, behind, then_at, thens, eithers}
+use Rattle.page_meaning.proofs.Growing.{asks, commits, quiet, same}
+use Rattle.page_table.proofs.Tame.{keeps_same, TameAt, Tame, Calm, scopes_calm, changed_frames, changed_calm, well, raised, result, changed, behind, then_at, thens, eithers}
 
 -- a visit
 pub visit_tame : (place : Place) → Tame (visit place)
 visit_tame place s = go (nat_lt s.visits visit_limit)
   where
     go : (b : Bool) → TameAt s (let w : Did = if b then Well tt (record s { visits = s.visits + 1 }) else Raised fault.TooMuchWork place s in w)
-    go true = record { grows = quiet s (record s { visits = s.visits + 1 }) refl refl; bodies = refl; visits = omega arith; frames = omega arith }
+    go true = record { grows = quiet s (record s { visits = s.visits + 1 }) refl refl refl; bodies = refl; visits = omega arith; frames = omega arith }
     go false = raised fault.TooMuchWork place s
 
 pub visited_tame : {A : Type 0} (place : Place) (part : State → Went A) → Tame part → Tame (visited place part)
@@ -51,7 +52,7 @@ visits_tame place (suc n) = visited_tame place (visits place n) (visits_tame pla
 answer_tame : (x : AppStep) (s : State) (answers : List Answer) → TameAt s (answer_from x answers s)
 answer_tame x s [] = record { grows = same s; bodies = refl; visits = omega arith; frames = omega arith }
 answer_tame x s (answer ∷ rest) =
-    record { grows = record { asked = (app x ∷ [], refl); pieces = ([], sym (append-nil s.writer.pieces)) }; bodies = refl; visits = omega arith; frames = omega arith }
+    record { grows = asks (app x) s (state_of (answer_from x (answer ∷ rest) s)) refl refl refl; bodies = refl; visits = omega arith; frames = omega arith }
 
 pub ask_tame : (place : Place) (x : AppStep) → Tame (ask place x)
 ask_tame place x s = go (is_spent s)
@@ -145,7 +146,7 @@ pub put_text_tame : (place : Place) (bytes : List ℕ) → Tame (put_text place 
 put_text_tame place bytes s = go (put bytes s.writer) (put_adds bytes s.writer)
   where
     go : (r : Result Writer RunFault) → Adds s.writer r → TameAt s (put_so place r s)
-    go (Ok w) adds = record { grows = record { asked = ([], sym (append-nil s.asked)); pieces = adds.0 }; bodies = adds.1; visits = omega arith; frames = omega arith }
+    go (Ok w) adds = record { grows = commits s w adds.0; bodies = adds.1; visits = omega arith; frames = omega arith }
     go (Err f) adds = raised f place s
 
 -- a flush
@@ -156,7 +157,7 @@ flushed_adds (body ∷ outer) w = (([], sym (append-nil w.pieces)), refl)
 pub flush_if_calm : (b : Bool) → Calm (flush_if b)
 flush_if_calm true s =
     let h = flushed_adds s.writer.kept s.writer in
-    record { grows = record { asked = ([], sym (append-nil s.asked)); pieces = h.0 }; bodies = h.1; visits = omega arith; frames = omega arith }
+    record { grows = commits s (flush s.writer) h.0; bodies = h.1; visits = omega arith; frames = omega arith }
 flush_if_calm false s = keeps_same s
 
 -- a body taken: as many steps and pieces, whether or not it is a fault
@@ -164,5 +165,5 @@ pub taken_grows : (place : Place) (s : State) → Grows s (state_of (taken place
 taken_grows place s = go (body_answer (innermost s.writer.kept))
   where
     go : (r : Result (List ℕ) RunFault) → Grows s (state_of (result_of place r (in_writer (without_body s.writer) s)))
-    go (Ok t) = quiet s (in_writer (without_body s.writer) s) refl refl
-    go (Err f) = quiet s (in_writer (without_body s.writer) s) refl refl
+    go (Ok t) = quiet s (in_writer (without_body s.writer) s) refl refl refl
+    go (Err f) = quiet s (in_writer (without_body s.writer) s) refl refl refl

@@ -1,11 +1,11 @@
 -- What comes behind a page's run.
-use Rattle.std.proofs.Common.{◌≡◌, ◌<◌, ◌≤◌, ℕ, zero, suc, Bool, true, false, List, [], ◌∷◌, ◌++◌, Option, Some, None, refl, sym, ap, ◌∙◌, subst, arith, append-nil}
+use Rattle.std.proofs.Common.{◌≡◌, ◌<◌, ◌≤◌, ℕ, zero, suc, Bool, true, false, List, [], ◌∷◌, Option, Some, None, refl, sym, ◌∙◌, arith}
 use Rattle.std.specs.Prelude.{if◌then◌else◌}
-use Rattle.edges.proofs.Own.{front_both, front_same}
 use Rattle.http_in.specs.declared.params.Param.{Param}
 use Rattle.http_out.specs.declared.status.Status.{Status}
 use Rattle.http_out.specs.declared.status.Status.TheVariants as status_is
-use Rattle.out_buffer.specs.Writer.{has_committed, has_pieces}
+use Rattle.out_buffer.specs.Writer.{has_committed}
+use Rattle.page_meaning.proofs.Growing.{asks, both, quiet, same, starts, uncommitted, uncommitted_start}
 use Rattle.page_meaning.specs.Context.{Paged, Served, absent, bad, good, in_page, plain}
 use Rattle.page_meaning.specs.Faults.{Raise}
 use Rattle.page_meaning.specs.Growth.{Grows, Leaves, state_of}
@@ -18,22 +18,9 @@ use Rattle.page_meaning.specs.Response.{Answered, end_state, page_response}
 use Rattle.page_meaning.specs.State.{State}
 use Rattle.page_meaning.specs.Went.{Did, Well, Raised, Ended, Awaits, either, forwards, redirects, then_do}
 use Rattle.page_meaning.specs.Work.{fetched}
-use Rattle.response_laws.specs.Laws.{ChainsUnfold, FaultsGrow, RunsGrowOn, chain_of, target_of}
+use Rattle.response_laws.specs.Laws.{ChainsUnfold, FaultsGrow, RunsGrowOn, target_of}
 use Rattle.site_words.specs.Law.{Answer}
 use Rattle.site_words.specs.PageSteps.{fetch, fresh}
-
-grows_here : (s : State) → Grows s s
-grows_here s = record { asked = front_same s.asked; pieces = front_same s.writer.pieces }
-
-grows_on : (s t u : State) → Grows s t → Grows t u → Grows s u
-grows_on s t u g k = record { asked = front_both s.asked t.asked u.asked g.asked k.asked; pieces = front_both s.writer.pieces t.writer.pieces u.writer.pieces g.pieces k.pieces }
-
-quiet : (s t : State) → t.asked ≡ s.asked → t.writer.pieces ≡ s.writer.pieces → Grows s t
-quiet s t e f = record { asked = ([], e ∙ sym (append-nil s.asked)); pieces = ([], f ∙ sym (append-nil s.writer.pieces)) }
-
-uncommitted : (pieces : List (List ℕ)) → has_pieces pieces ≡ false → pieces ≡ []
-uncommitted [] e = refl
-uncommitted (piece ∷ pieces) e = absurd (cc)
 
 -- a page's run leaves fewer levels, and only adds
 
@@ -57,24 +44,24 @@ module _ (leaves : ForwardsLeaveFewer) (grows : StepsAndPiecesGrow) (served : Se
 
   begun_grows : (s : State) (d : Did) → Grows s (state_of d) → Grows s (state_of (then_do d (λ u s1. nodes_mean served (below served left) page.nodes (in_page (record { page = page; params = params })) s1)))
   begun_grows s (Well u t) h =
-      grows_on s t (state_of (nodes_mean served (below served left) page.nodes (in_page (record { page = page; params = params })) t)) h (grows.nodes left served page.nodes (in_page (record { page = page; params = params })) t)
+      both s t (state_of (nodes_mean served (below served left) page.nodes (in_page (record { page = page; params = params })) t)) h (grows.nodes left served page.nodes (in_page (record { page = page; params = params })) t)
   begun_grows s (Raised f place t) h = h
   begun_grows s (Ended leaving t) h = h
   begun_grows s (Awaits step t) h = h
 
-  session_grows : (b : Bool) (answers : List Answer) (s : State) → Grows s (state_of (either b (session_started answers) (λ s1. Well tt s1) s))
-  session_grows true [] s = grows_here s
-  session_grows true (answer ∷ rest) s = record { asked = (fresh ∷ [], refl); pieces = ([], sym (append-nil s.writer.pieces)) }
-  session_grows false answers s = grows_here s
+  session_grows : (b : Bool) (answers : List Answer) (s : State) → (b ≡ true → has_committed s.writer ≡ false) → Grows s (state_of (either b (session_started answers) (λ s1. Well tt s1) s))
+  session_grows true [] s free = same s
+  session_grows true (answer ∷ rest) s free = starts s (state_of (session_started (answer ∷ rest) s)) (free refl) (fresh ∷ [], refl) refl
+  session_grows false answers s free = same s
 
   pub run_grows : (s : State) → Grows s (state_of (page_run (nodes_mean served (below served left)) page params s))
-  run_grows s = begun_grows s (either (starts_session page s) (session_started s.answers) (λ s1. Well tt s1) s) (session_grows (starts_session page s) s.answers s)
+  run_grows s = begun_grows s (either (starts_session page s) (session_started s.answers) (λ s1. Well tt s1) s) (session_grows (starts_session page s) s.answers s (uncommitted_start page s))
 
   started : (s : State) → s.writer.pieces ≡ [] → Grows s (at_start page s)
-  started s none = record { asked = ([], sym (append-nil s.asked)); pieces = ([], sym (append-nil s.writer.pieces ∙ none)) }
+  started s none = quiet s (at_start page s) refl (sym none) refl
 
   pub first_grows : (s : State) → s.writer.pieces ≡ [] → Grows s (state_of (first_run served left page params s))
-  first_grows s none = grows_on s (at_start page s) (state_of (first_run served left page params s)) (started s none) (run_grows (at_start page s))
+  first_grows s none = both s (at_start page s) (state_of (first_run served left page params s)) (started s none) (run_grows (at_start page s))
 
 -- chains unfold
 
@@ -114,32 +101,32 @@ TargetsGrow target = (path : List ℕ) (more : List Param) (l : ℕ) (s : State)
 
 module _ (target : List ℕ → List Param → ℕ → State → Answered) (at_fault : OnFault) (status : Status) (page : Page) (params : List Param) (targets : TargetsGrow target) (faults : FaultsGrow at_fault) where
   fault_grows : (b : Bool) (r : Raise) (s : State) → has_committed s.writer ≡ b → Grows s (end_state (if b then page_response status page true s else at_fault page params r s))
-  fault_grows true r s e = grows_here s
+  fault_grows true r s e = same s
   fault_grows false r s e = faults page params r s (uncommitted s.writer.pieces e)
 
   pub answer_grows : (left : ℕ) (d : Did) → Leaves left d → Grows (state_of d) (end_state (run_answer target at_fault status page params d))
-  answer_grows left (Well u s) h = grows_here s
+  answer_grows left (Well u s) h = same s
   answer_grows left (Raised f place s) h = fault_grows (has_committed s.writer) (record { fault = f; place = place }) s refl
   answer_grows left (Ended (forwards path more l) s) h = targets path more l s h.1
-  answer_grows left (Ended (redirects location) s) h = grows_here s
-  answer_grows left (Awaits step s) h = grows_here s
+  answer_grows left (Ended (redirects location) s) h = same s
+  answer_grows left (Awaits step s) h = same s
 
 target_grows : (run : Page → State → Answered) → ((page : Page) (s : State) → s.writer.pieces ≡ [] → Grows s (end_state (run page s))) → (status : Status) (path : List ℕ) (paged : Paged) (s : State) → s.writer.pieces ≡ []
     → Grows s (end_state (target_answer run status path paged s))
-target_grows run h status path absent s none = grows_here s
-target_grows run h status path (plain t) s none = grows_here s
-target_grows run h status path (bad f) s none = grows_here s
+target_grows run h status path absent s none = same s
+target_grows run h status path (plain t) s none = same s
+target_grows run h status path (bad f) s none = same s
 target_grows run h status path (good page) s none = h page s none
 
 module _ (leaves : ForwardsLeaveFewer) (grows : StepsAndPiecesGrow) where
   module _ (served : Served) (at_fault : OnFault) (status : Status) (faults : FaultsGrow at_fault) where
     pub chain_grows : (n left : ℕ) (page : Page) (params : List Param) (s : State) → s.writer.pieces ≡ [] → Grows s (end_state (chain_answer served at_fault status n left page params s))
     chain_grows zero left page params s none =
-        grows_on s (state_of (first_run served left page params s)) (end_state (chain_answer served at_fault status zero left page params s)) (first_grows leaves grows served left page params s none)
-        (answer_grows (λ path more l s1. Rattle.page_meaning.specs.Response.plain_line status_is.InternalServerError [] s1) at_fault status page params (λ path more l s1 none. grows_here s1) faults left
+        both s (state_of (first_run served left page params s)) (end_state (chain_answer served at_fault status zero left page params s)) (first_grows leaves grows served left page params s none)
+        (answer_grows (λ path more l s1. Rattle.page_meaning.specs.Response.plain_line status_is.InternalServerError [] s1) at_fault status page params (λ path more l s1 none. same s1) faults left
         (first_run served left page params s) (first_leaves leaves grows served left page params s))
     chain_grows (suc n) left page params s none =
-        grows_on s (state_of (first_run served left page params s)) (end_state (chain_answer served at_fault status (suc n) left page params s)) (first_grows leaves grows served left page params s none)
+        both s (state_of (first_run served left page params s)) (end_state (chain_answer served at_fault status (suc n) left page params s)) (first_grows leaves grows served left page params s none)
         (answer_grows (λ path more l s1. target_answer (λ p s2. chain_answer served at_fault status n l p more s2) status path (served.pages path) s1) at_fault status page params
         (λ path more l s1 none. target_grows (λ p s2. chain_answer served at_fault status n l p more s2) (λ p s2 none. chain_grows n l p more s2 none) status path (served.pages path) s1 none) faults left
         (first_run served left page params s) (first_leaves leaves grows served left page params s))
@@ -152,22 +139,22 @@ module _ (leaves : ForwardsLeaveFewer) (grows : StepsAndPiecesGrow) where
         (first_run served left page params s) (first_leaves leaves grows served left page params s)
 
   pub first_fault_grows : (r : Raise) → FaultsGrow (first_fault r)
-  first_fault_grows r page params other s none = grows_here s
+  first_fault_grows r page params other s none = same s
 
   fetched_grows : (path : List ℕ) (s : State) → Grows s (fetched path s)
-  fetched_grows path s = record { asked = (fetch path ∷ [], refl); pieces = ([], sym (append-nil s.writer.pieces)) }
+  fetched_grows path s = asks (fetch path) s (fetched path s) refl refl refl
 
   error_grows : (served : Served) (r : Raise) (params : List Param) (path : List ℕ) (paged : Paged) (s : State) → s.writer.pieces ≡ [] → Grows s (end_state (error_answer served r params path paged s))
   error_grows served r params path (good page) s none =
-      grows_on s (fetched path s) (end_state (error_answer served r params path (good page) s)) (fetched_grows path s)
-      (grows_on (fetched path s) (with_no_visits (fetched path s)) (end_state (error_answer served r params path (good page) s)) (quiet (fetched path s) (with_no_visits (fetched path s)) refl refl)
+      both s (fetched path s) (end_state (error_answer served r params path (good page) s)) (fetched_grows path s)
+      (both (fetched path s) (with_no_visits (fetched path s)) (end_state (error_answer served r params path (good page) s)) (quiet (fetched path s) (with_no_visits (fetched path s)) refl refl refl)
       (chain_grows (with_exception r served) (first_fault r) status_is.InternalServerError (first_fault_grows r) level_limit level_limit page params (with_no_visits (fetched path s)) none))
-  error_grows served r params path (plain t) s none = quiet s (with_no_visits s) refl refl
-  error_grows served r params path absent s none = grows_here s
+  error_grows served r params path (plain t) s none = quiet s (with_no_visits s) refl refl refl
+  error_grows served r params path absent s none = same s
   error_grows served r params path (bad f) s none = fetched_grows path s
 
   error_at_grows : (served : Served) (r : Raise) (params : List Param) (o : Option (List ℕ)) (s : State) → s.writer.pieces ≡ [] → Grows s (end_state (error_at served r params o s))
-  error_at_grows served r params None s none = grows_here s
+  error_at_grows served r params None s none = same s
   error_at_grows served r params (Some path) s none = error_grows served r params path (served.pages path) s none
 
   pub on_fault_grows : (served : Served) → FaultsGrow (on_fault served)

@@ -1,5 +1,5 @@
 -- Laws of what a request is answered.
-use Rattle.std.specs.Prelude.{◌≡◌, ◌≤◌, ℕ, List, [], ⊤}
+use Rattle.std.specs.Prelude.{◌≡◌, ◌≤◌, ℕ, List, []}
 use Rattle.http_in.specs.declared.params.Param.{Param}
 use Rattle.http_out.specs.declared.status.Status.{Status}
 use Rattle.page_meaning.specs.Context.{Served}

@@ -7,7 +7,7 @@ use Rattle.run_world.specs.Part.{given, WentSo, Does, Doing, Changes}
 use Rattle.run_moves.specs.declared.flow.End.TheVariants as ends
 use Rattle.run_moves.specs.declared.flow.Flow.{Flow}
 use Rattle.run_moves.specs.declared.flow.Flow.TheVariants as flows
-use Rattle.run_world.proofs.Adds.{same, both, quiet}
+use Rattle.page_meaning.proofs.Growing.{both, quiet, same}
 use Rattle.run_world.specs.Origin.{Origin}
 use Rattle.page_meaning.specs.Core.{is_caught}
 use Rattle.page_meaning.specs.Growth.{state_of, Grows}
@@ -29,7 +29,7 @@ use Rattle.site_words.specs.Law.{Answer}
 
 without_grows : (name : Option (List ℕ)) (s : State) → Grows s (without_named name s)
 without_grows None s = same s
-without_grows (Some n) s = quiet s (without_named (Some n) s) refl refl
+without_grows (Some n) s = quiet s (without_named (Some n) s) refl refl refl
 
 pub unwound_grows : (loops : List Loop) (s : State) → Grows s (unwound loops s)
 unwound_grows [] s = same s
@@ -42,7 +42,7 @@ caught_grows : (f : RunFault) (place : Place) (s : State) (o : Open) (cs : List 
 caught_grows f place s o [] = unwound_grows o.loops s
 caught_grows f place s o (c ∷ outer) =
     let t = unwound (take (length o.loops - c.loops) o.loops) s in
-    both s t (cut_bodies c.bodies t) (unwound_grows (take (length o.loops - c.loops) o.loops) s) (quiet t (cut_bodies c.bodies t) refl refl)
+    both s t (cut_bodies c.bodies t) (unwound_grows (take (length o.loops - c.loops) o.loops) s) (quiet t (cut_bodies c.bodies t) refl refl refl)
 
 pub one_of_grows : (b : Bool) (s : State) (c other : Config) → Grows s (config_state c) → Grows s (config_state other) → Grows s (config_state (one_of b c other))
 one_of_grows true s c other h k = h
@@ -59,8 +59,8 @@ then_at_grows o (Ended leaving t) go h = same t
 then_at_grows o (Awaits step t) go h = same t
 
 pub move_given : (a : List Answer) (s : State) (m : Move) → MoveGrows (given a s) m → MoveGrows s m
-move_given a s (On c) g = record { asked = g.asked; pieces = g.pieces }
-move_given a s (Into callee first back) g = (record { asked = g.0.asked; pieces = g.0.pieces }, g.1)
+move_given a s (On c) g = record { asked = g.asked; pieces = g.pieces; session = g.session }
+move_given a s (Into callee first back) g = (record { asked = g.0.asked; pieces = g.0.pieces; session = g.0.session }, g.1)
 move_given a s Stuck g = tt
 
 pub move_behind : (s t : State) (m : Move) → Grows s t → MoveGrows t m → MoveGrows s m

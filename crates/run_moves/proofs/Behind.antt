@@ -8,7 +8,7 @@ use Rattle.run_moves.specs.declared.flow.End.TheVariants as ends
 use Rattle.run_moves.specs.declared.flow.Flow.{Flow}
 use Rattle.run_moves.specs.declared.flow.Flow.TheVariants as flows
 use Rattle.run_moves.proofs.Acts.{acted_behind, acted_fault, acted_on, acted_part_short, acted_short, led_as, move_given, then_at_grows, thrown_grows}
-use Rattle.run_world.proofs.Adds.{same}
+use Rattle.page_meaning.proofs.Growing.{same}
 use Rattle.page_meaning.specs.Growth.{state_of, Grows}
 use Rattle.page_meaning.specs.State.{State}
 use Rattle.page_meaning.specs.Went.{Went, Well, Raised, Ended, Awaits}

@@ -18,7 +18,8 @@ use Rattle.pg_text.specs.declared.resolution.BadPath.{BadPath}
 use Rattle.pg_value.specs.declared.fault.RunFault.{RunFault}
 use Rattle.pg_value.specs.declared.fault.RunFault.TheVariants as fault
 use Rattle.run_moves.specs.Leaving.{Goal, forward_asked, forward_at_asked, forward_path_asked, path_named}
-use Rattle.run_world.proofs.Adds.{Adds, eithers, raised, same, thens, well}
+use Rattle.page_meaning.proofs.Growing.{asks, same}
+use Rattle.run_world.proofs.Adds.{Adds, eithers, raised, thens, well}
 use Rattle.run_world.proofs.Parts.{as_doing, fail_doing, result_doing, then_doing, well_doing}
 use Rattle.run_world.specs.Origin.{Origin}
 use Rattle.run_world.specs.Part.{given, Doing}
@@ -27,7 +28,7 @@ use Rattle.site_words.specs.PageSteps.{fetch}
 
 -- what asking for a page adds
 fetched_grows : (path : List ℕ) (s : State) → Grows s (fetched path s)
-fetched_grows path s = record { asked = (fetch path ∷ [], refl); pieces = ([], sym (append-nil s.writer.pieces)) }
+fetched_grows path s = asks (fetch path) s (fetched path s) refl refl refl
 
 fetched_adds : (place : Place) (path : List ℕ) (paged : Paged) → Adds (fetched_or_fault place path paged)
 fetched_adds place path absent s = same s

@@ -15,7 +15,7 @@ use Rattle.run_moves.specs.declared.flow.Flow.{Flow}
 use Rattle.run_moves.specs.declared.flow.Flow.TheVariants as flows
 use Rattle.run_moves.specs.declared.leave.Forward as machine_forward
 use Rattle.run_moves.proofs.Acts.{acted_as, acted_behind, acted_forward, acted_redirect}
-use Rattle.run_world.proofs.Adds.{quiet, same}
+use Rattle.page_meaning.proofs.Growing.{quiet, same}
 use Rattle.run_moves.proofs.Behind.{fell_at}
 use Rattle.run_moves.proofs.Landings.{popped_all_is}
 use Rattle.run_moves.proofs.Leavings.{forward_is, leaves_for, redirect_is}
@@ -98,7 +98,7 @@ module _ (serving : Serving) (seat : Seat) (place : Place) (o p : Open) (ds : Li
       forward_failed old mid new failed o2 flow does acted short =
           acted_as (λ s. leaving serving seat place (leave.Forward params) s o)
           (λ s. On (then_at p (forward_asked serving o.left place (page_run_of seat) (text_at 0 ds) (params_in (behind_first ds)) s) (λ g s1. over_of p (leaves_for g s1)))) old new o2 flow forwards_is
-          (fell_at place p (λ g s1. over_of p (leaves_for g s1)) old mid new failed o2 flow (λ g s. quiet s (in_writer (cleared s.writer) s) refl refl) does acted short)
+          (fell_at place p (λ g s1. over_of p (leaves_for g s1)) old mid new failed o2 flow (λ g s. quiet s (in_writer (cleared s.writer) s) refl refl refl) does acted short)
 
 -- an end that is this one
 pub leave_as : {W : Type 0} {reached : W → Origin → W → State → Type 0} {replies : W → List Answer} {serves : W → Serving → Type 0} (seat : Seat) (place : Place) (o : Open) (how this : Leave) (old new : W) (o2 : Open) (flow : Flow)

@@ -14,7 +14,8 @@ use Rattle.run_moves.specs.declared.flow.Flow.{Flow}
 use Rattle.run_moves.specs.declared.flow.Flow.TheVariants as flows
 use Rattle.run_values.specs.declared.rounds.Mark.{Mark}
 use Rattle.run_moves.proofs.Acts.{acted_as, acted_changed}
-use Rattle.run_world.proofs.Adds.{Adds, both, quiet, result, same, thens, visit_adds}
+use Rattle.page_meaning.proofs.Growing.{both, quiet, same}
+use Rattle.run_world.proofs.Adds.{Adds, result, thens, visit_adds}
 use Rattle.run_moves.proofs.Behind.{fell_at, well_at, well_short}
 use Rattle.run_moves.proofs.Landings.{popped_all_is}
 use Rattle.run_world.proofs.Parts.{as_doing, changed_doing, fail_doing, result_doing, then_doing, well_doing}
@@ -47,12 +48,12 @@ use Rattle.site_words.specs.Law.{Answer}
 -- what named variables and the status of a round add
 named_adds : (name : Option (List ℕ)) (d : Datum) (s : State) → Grows s (with_named name d s)
 named_adds None d s = same s
-named_adds (Some name) d s = quiet s (with_page_variable name d s) refl refl
+named_adds (Some name) d s = quiet s (with_page_variable name d s) refl refl refl
 
 pub status_adds : (place : Place) (name : Option (List ℕ)) (d : Datum) → Adds (set_status place name d)
 status_adds place None d s = same s
 status_adds place (Some name) d s =
-    thens (result_of place (measured d)) (λ m s1. Well tt (with_page_variable name m s1)) (result place (measured d)) (λ m t. quiet t (with_page_variable name m t) refl refl) s
+    thens (result_of place (measured d)) (λ m s1. Well tt (with_page_variable name m s1)) (result place (measured d)) (λ m t. quiet t (with_page_variable name m t) refl refl refl) s
 
 -- the rounds that values open, and the loop
 opened_is : (place : Place) (kind : LoopKind) (vs : Values) (to : ℕ) (s : State) (o : Open)
@@ -164,7 +165,7 @@ module _ {W : Type 0} {reached : W → Origin → W → State → Type 0} {repli
   pub status_failed : (w : W) (name : Option (List ℕ)) (n : List ℕ) (d : Datum) (f : Failure RunFault) → name ≡ Some n → AnswersAs datum_of (measured d) (Err f)
       → Doing reached replies (λ (u : Unit {0}). u) (λ place. set_status place name d) w w (Err f)
   status_failed w name n d f e answers = as_doing w w (Err f) (λ first origin s stands place a. ap (λ x. set_status place x d (given a s)) e)
-      (answered_failed datum_of (measured d) (λ place m s1. Well tt (with_page_variable n m s1)) w f (λ place m t. quiet t (with_page_variable n m t) refl refl) answers)
+      (answered_failed datum_of (measured d) (λ place m s1. Well tt (with_page_variable n m s1)) w f (λ place m t. quiet t (with_page_variable n m t) refl refl refl) answers)
 
   -- a round begins
   module _ (variable status : Option (List ℕ)) (vs : Values) (r : Round) where

@@ -43,7 +43,8 @@ use Rattle.run_parts.proofs.PropertySets.{then_same, written_adds}
 use Rattle.run_parts.specs.Properties.{found_property, property_in, put_back}
 use Rattle.run_values.specs.Properties.{Found, found_of}
 use Rattle.run_values.specs.declared.properties.FoundProperty as machine_found
-use Rattle.run_world.proofs.Adds.{both, result, same}
+use Rattle.page_meaning.proofs.Growing.{both, same}
+use Rattle.run_world.proofs.Adds.{result}
 use Rattle.run_world.proofs.Parts.{result_doing}
 use Rattle.run_world.specs.Origin.{Origin}
 use Rattle.run_world.specs.Part.{Doing}

@@ -7,7 +7,8 @@ use Rattle.run_world.specs.Part.{given, Doing, Changes}
 use Rattle.run_world.specs.Seats.{export_of}
 use Rattle.run_world.specs.declared.seat.Export as machine_export
 use Rattle.run_parts.specs.Exports.{Change, changed_by, nested_changes, own_changes}
-use Rattle.run_world.proofs.Adds.{Adds, quiet}
+use Rattle.page_meaning.proofs.Growing.{quiet}
+use Rattle.run_world.proofs.Adds.{Adds}
 use Rattle.run_world.proofs.Parts.{as_doing, changed_doing, fail_doing, then_doing, well_doing}
 use Rattle.page_meaning.specs.Context.{Export}
 use Rattle.page_meaning.specs.Exports.{exports_of, outer_name, copied, copied_out, given_back, is_at_end, is_nested, restored, with_or_without}
@@ -102,7 +103,7 @@ brings_back xs before frame s =
 pub changed_adds : (cs : List Change) (s : State) → Grows s (changed_by cs s)
 changed_adds cs s =
     subst (Grows s) (sym (changed_is cs s))
-    (quiet s (framed s (set s.scopes.frames s.scopes.current (all_changed cs (get_or s.scopes.frames s.scopes.current []))) s.scopes.current) refl refl)
+    (quiet s (framed s (set s.scopes.frames s.scopes.current (all_changed cs (get_or s.scopes.frames s.scopes.current []))) s.scopes.current) refl refl refl)
 
 -- the part that makes these changes
 abbrev pub Making : List Change → Place → State → Did
@@ -117,10 +118,10 @@ abbrev pub Giving : List Export → ScopeState → ℕ → Place → State → D
 Giving xs before frame place s = Well tt (in_scopes (turned_to (given_back xs before frame (copied_out is_at_end xs frame s.scopes)) frame) s)
 
 pub copying_adds : (times : VarScope → Bool) (xs : List Export) (frame : ℕ) (place : Place) → Adds (Copying times xs frame place)
-copying_adds times xs frame place s = quiet s (in_scopes (copied_out times xs frame s.scopes) s) refl refl
+copying_adds times xs frame place s = quiet s (in_scopes (copied_out times xs frame s.scopes) s) refl refl refl
 
 pub giving_adds : (xs : List Export) (before : ScopeState) (frame : ℕ) (place : Place) → Adds (Giving xs before frame place)
-giving_adds xs before frame place s = quiet s (in_scopes (turned_to (given_back xs before frame (copied_out is_at_end xs frame s.scopes)) frame) s) refl refl
+giving_adds xs before frame place s = quiet s (in_scopes (turned_to (given_back xs before frame (copied_out is_at_end xs frame s.scopes)) frame) s) refl refl refl
 
 module _ {W : Type 0} {reached : W → Origin → W → State → Type 0} (variables : W → ScopeState) (tells : (first w : W) (origin : Origin) (s : State) → reached first origin w s → variables w ≡ s.scopes) where
   copied_at : (times : VarScope → Bool) (xs : List Export) (frame own : ℕ) (old : W) → own ≡ (variables old).current → (first : W) (origin : Origin) (s : State) → reached first origin old s → (a : List Answer)
@@ -183,7 +184,7 @@ module _ {W : Type 0} {reached : W → Origin → W → State → Type 0} {repli
     copied_failed times xs frame own old mid new e is turns kept makes = as_doing old new (Err e)
         (λ first origin s stands place a. ap (Well tt) (copied_at variables tells times xs frame own old is first origin s stands a))
         (turned_doing {part = λ place s. Well tt (turned own (changed_by (own_changes times xs (entries_of_frame (variables old) (variables old).current)) s))} frame old mid new (Err e) turns kept
-        (fail_doing (λ place u s. Well tt (turned own s)) mid new e (λ place u s. quiet s (turned own s) refl refl) makes))
+        (fail_doing (λ place u s. Well tt (turned own s)) mid new e (λ place u s. quiet s (turned own s) refl refl refl) makes))
 
     pub given_well : (xs : List Export) (before : ScopeState) (frame : ℕ) (old mid last new : W) (result : Result Unit (Failure RunFault)) → Changes reached (turned frame) old mid → replies mid ≡ replies old
         → Doing reached replies (λ (u : Unit {0}). u) (Making (own_changes is_at_end xs (entries_of_frame (variables old) (variables old).current))) mid last (Ok tt) → Doing reached replies (λ (u : Unit {0}). u) (Making (nested_changes xs (entries_of_frame before frame))) last new result → Doing reached replies (λ (u : Unit {0}). u) (Giving xs before frame) old new result

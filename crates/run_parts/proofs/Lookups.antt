@@ -3,7 +3,8 @@ use Rattle.std.proofs.Common.{◌≡◌, ℕ, Bool, true, false, List, Some, Non
 use Rattle.run_world.specs.Origin.{Origin}
 use Rattle.run_world.specs.Part.{given, Doing, Changes}
 use Rattle.run_parts.specs.Answers.{nowhere_answer}
-use Rattle.run_world.proofs.Adds.{found_nowhere_adds, same}
+use Rattle.page_meaning.proofs.Growing.{same}
+use Rattle.run_world.proofs.Adds.{found_nowhere_adds}
 use Rattle.run_world.proofs.Parts.{as_doing, changed_doing, fail_doing, result_doing, then_doing, well_doing}
 use Rattle.page_meaning.specs.Expressions.{found_nowhere, variable_or_step}
 use Rattle.page_meaning.specs.State.{State, in_scopes}

@@ -16,7 +16,8 @@ use Rattle.run_world.specs.Origin.{Origin}
 use Rattle.run_world.specs.Part.{given, Doing}
 use Rattle.run_parts.specs.Answers.{is_null}
 use Rattle.run_parts.specs.Objects.{page_context_of, request_value, whole_answer}
-use Rattle.run_world.proofs.Adds.{Adds, ask_adds, result, same, thens, well}
+use Rattle.page_meaning.proofs.Growing.{same}
+use Rattle.run_world.proofs.Adds.{Adds, ask_adds, result, thens, well}
 use Rattle.run_world.proofs.Parts.{as_doing, fail_doing, result_doing, then_doing, well_doing}
 use Rattle.run_parts.proofs.PropertySets.{answered_doing, answered_failed}
 use Rattle.page_meaning.specs.Context.{Here, run_of}

@@ -18,7 +18,8 @@ use Rattle.run_world.specs.Part.{given, Doing}
 use Rattle.run_values.specs.Objects.{header_answer, header_entries}
 use Rattle.run_parts.specs.Operations.{IsComputed, computed}
 use Rattle.run_parts.specs.Answers.{left_by, none_of, one_of}
-use Rattle.run_world.proofs.Adds.{Adds, assign_adds, same, unassign_adds}
+use Rattle.page_meaning.proofs.Growing.{same}
+use Rattle.run_world.proofs.Adds.{Adds, assign_adds, unassign_adds}
 use Rattle.run_world.proofs.Parts.{as_doing, fail_doing, then_doing, well_doing}
 use Rattle.page_meaning.specs.Addresses.{url_with}
 use Rattle.page_meaning.specs.Core.{set_or_remove}

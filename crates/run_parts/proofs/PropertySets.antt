@@ -7,7 +7,8 @@ use Rattle.run_world.specs.Origin.{Origin}
 use Rattle.run_world.specs.Part.{Doing}
 use Rattle.run_parts.specs.Properties.{found_property, property_in, written}
 use Rattle.run_values.specs.Properties.{Found, changed_all, changed_one, one_changed, property_found}
-use Rattle.run_world.proofs.Adds.{Adds, assign_adds, look_up_adds, result, same, thens}
+use Rattle.page_meaning.proofs.Growing.{same}
+use Rattle.run_world.proofs.Adds.{Adds, assign_adds, look_up_adds, result, thens}
 use Rattle.run_parts.proofs.Lookups.{seen}
 use Rattle.run_world.proofs.Parts.{as_doing, fail_doing, result_doing, then_doing}
 use Rattle.page_meaning.specs.Attributes.{coerced}

@@ -3,7 +3,8 @@ use Rattle.std.proofs.Common.{◌≡◌, ℕ, zero, suc, ◌+◌, Bool, true, fa
 use Rattle.std.specs.Prelude.{if◌then◌else◌}
 use Rattle.run_world.specs.Origin.{Origin}
 use Rattle.run_world.specs.Part.{given, Doing, Changes}
-use Rattle.run_world.proofs.Adds.{Adds, same, visited_adds}
+use Rattle.page_meaning.proofs.Growing.{same}
+use Rattle.run_world.proofs.Adds.{Adds, visited_adds}
 use Rattle.run_world.proofs.Parts.{as_doing, changed_doing, fail_doing, result_doing, then_doing, well_doing}
 use Rattle.page_meaning.specs.State.{State}
 use Rattle.page_meaning.specs.Went.{Did, Well, Raised, Ended, Awaits, then_do, result_of}

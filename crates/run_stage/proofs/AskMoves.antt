@@ -1,9 +1,10 @@
 -- What a step, a new session and a look at a path do of the state for which a stage stands.
 use Rattle.std.proofs.Common.{◌≡◌, ◌⊎◌, inl, inr, ◌≤◌, ◌+◌, ℕ, Bool, true, false, List, [], ◌∷◌, ◌++◌, Option, Some, None, Result, Ok, Err, refl, sym, ap, ◌∙◌, subst, append_assoc, append-nil, arith}
 use Rattle.std.specs.Prelude.{IsErrAnd, IsNone, is_some, nat_le}
+use Rattle.edges.proofs.Own.{front_same}
 use Rattle.http_out.specs.declared.head.Head.{Head}
 use Rattle.out_buffer.specs.Held.{Held, Stands}
-use Rattle.out_buffer.specs.Writer.{Writer}
+use Rattle.out_buffer.specs.Writer.{Writer, has_committed}
 use Rattle.page_meaning.specs.Growth.{state_of, Grows}
 use Rattle.page_meaning.specs.Includes.{session_started}
 use Rattle.page_meaning.specs.State.{State}
@@ -17,7 +18,7 @@ use Rattle.pg_value.specs.declared.fault.RunFault.TheVariants as fault
 use Rattle.run_stage.specs.Stage.{Reached}
 use Rattle.run_stage.specs.Standing.{fresh_claim, head_after, naming}
 use Rattle.run_stage.specs.declared.stage.Stage.{Stage}
-use Rattle.run_world.proofs.Adds.{Adds, quiet, same as grows_here}
+use Rattle.page_meaning.proofs.Growing.{same as grows_here, starts}
 use Rattle.run_world.proofs.Parts.{adds_given}
 use Rattle.run_world.specs.Origin.{Origin}
 use Rattle.run_world.specs.Part.{Doing, given}
@@ -59,9 +60,9 @@ pub no_id : (session : Option Entries) (id : Option (List ℕ)) → IsNone sessi
 no_id session id none e = sym e ∙ none
 
 -- a session that is started only adds to the steps
-pub session_adds : (answers : List Answer) (s : State) → Grows s (state_of (session_started answers s))
-session_adds [] s = grows_here s
-session_adds (answer ∷ rest) s = record { asked = (fresh ∷ [], refl); pieces = ([], sym (append-nil s.writer.pieces)) }
+pub session_adds : (answers : List Answer) (s : State) → has_committed s.writer ≡ false → Grows s (state_of (session_started answers s))
+session_adds [] s free = grows_here s
+session_adds (answer ∷ rest) s free = starts s (state_of (session_started (answer ∷ rest) s)) free (fresh ∷ [], refl) refl
 
 -- where there is no session there was none
 none_before : (old new : Option (List ℕ)) → is_some new ≡ false → (is_some old ≡ true → new ≡ old) → is_some old ≡ false
@@ -153,7 +154,7 @@ module _ {P K : Type 0} {taken : K → Option (List ℕ)} {faults : K → ℕ} {
   module _ (leads_on : (first second third : P) → leads first second → leads second third → leads first third) where
     -- memory was wanting before anything was asked
     pub unasked_doing : {A B : Type 0} {view : A → B} {part : Place → State → Went B} (w : Stage P K) (port : P) (n : ℕ) → leads w.port.now port → tree port ≡ tree w.port.now → asking port ≡ asking w.port.now
-        → n ≡ w.around.now.charge → ((place : Place) → Adds (part place))
+        → n ≡ w.around.now.charge → ((place : Place) (s : State) → has_committed s.writer ≡ w.writer.now.committed → Grows s (state_of (part place s)))
         → Doing (Reached taken faults leads asking tree) (λ w. (asking w.port.now).answers) view part w (asked_stage w port n) (Err failure.NoMemory)
     unasked_doing {part = part} w port n on same e is adds = record {
       by = λ first origin s r. record {
@@ -161,12 +162,13 @@ module _ {P K : Type 0} {taken : K → Option (List ℕ)} {faults : K → ℕ} {
         replies = ap (λ (a : Asking). a.answers) e ∙ sym (append-nil (asking w.port.now).answers);
         after = s;
         stood = stage_unasked leads_on first w origin s port n r on same e is;
-        went = λ place future. adds_given future s (state_of (part place (given future s))) (adds place (given future s));
+        went = λ place future. adds_given future s (state_of (part place (given future s))) (adds place (given future s) (sym r.writer.committed));
       };
     }
 
     pub unasked_at : {A B : Type 0} {view : A → B} {part : Place → State → Went B} (w : Stage P K) (port : P) (n : ℕ) (result : Result A (Failure RunFault)) → IsErrAnd result (λ e. e ≡ failure.NoMemory)
-        → leads w.port.now port → tree port ≡ tree w.port.now → asking port ≡ asking w.port.now → n ≡ w.around.now.charge → ((place : Place) → Adds (part place))
+        → leads w.port.now port → tree port ≡ tree w.port.now → asking port ≡ asking w.port.now → n ≡ w.around.now.charge
+        → ((place : Place) (s : State) → has_committed s.writer ≡ w.writer.now.committed → Grows s (state_of (part place s)))
         → Doing (Reached taken faults leads asking tree) (λ w. (asking w.port.now).answers) view part w (asked_stage w port n) result
     unasked_at w port n (Ok a) short on same e is adds = absurd short
     unasked_at {view = view} {part = part} w port n (Err f) short on same e is adds =
@@ -228,8 +230,9 @@ module _ {P K : Type 0} {taken : K → Option (List ℕ)} {faults : K → ℕ} {
   pub fresh_short : ((first second third : P) → leads first second → leads second third → leads first third) → (w : Stage P K) (port : P) (scopes : ScopeState) (id : List ℕ)
       → is_some w.around.now.id ≡ false → scopes ≡ with_session w.scopes.now → leads w.port.now port → tree port ≡ tree w.port.now
       → (asking port).asked ≡ (asking w.port.now).asked ++ fresh ∷ [] → (asking port).answers ≡ (asking w.port.now).answers ++ id_told id ∷ [] → (asking port).left + 64 ≡ (asking w.port.now).left
+      → w.writer.now.committed ≡ false
       → Doing (Reached taken faults leads asking tree) (λ w. (asking w.port.now).answers) (λ u. u) (λ place s. session_started s.answers s) w (session_stage w port scopes w.writer.now id false) (Err failure.NoMemory)
-  fresh_short leads_on w port scopes id none started on same asked answers left = record {
+  fresh_short leads_on w port scopes id none started on same asked answers left free = record {
     by = λ first origin s r.
         let after : State = record s { asked = s.asked ++ fresh ∷ []; id = Some id; is_fresh = false; scopes = with_session s.scopes } in
         record {
@@ -237,6 +240,7 @@ module _ {P K : Type 0} {taken : K → Option (List ℕ)} {faults : K → ℕ} {
           replies = answers;
           after = after;
           stood = stage_session leads_on first w origin s port scopes w.writer.now id false r on same asked left none started r.writer refl refl;
-          went = λ place future. quiet after (record s { answers = future; asked = s.asked ++ fresh ∷ []; id = Some id; is_fresh = true; scopes = with_session s.scopes }) refl refl;
+          went = λ place future.
+              starts after (record s { answers = future; asked = s.asked ++ fresh ∷ []; id = Some id; is_fresh = true; scopes = with_session s.scopes }) (sym r.writer.committed ∙ free) (front_same after.asked) refl;
         };
   }

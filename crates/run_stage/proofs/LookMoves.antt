@@ -1,7 +1,7 @@
 -- What a look at a path does of the state for which a stage stands.
 use Rattle.std.proofs.Common.{◌≡◌, ◌⊎◌, inl, inr, ◌≤◌, ◌+◌, ◌*◌, ℕ, Bool, true, false, List, [], ◌∷◌, ◌++◌, length, Option, Some, None, Ok, Err, refl, sym, ap, ◌∙◌, subst, append-nil, arith}
 use Rattle.std.specs.Prelude.{◌&&◌, if◌then◌else◌, nat_le}
-use Rattle.page_meaning.specs.Growth.{state_of, Grows}
+use Rattle.page_meaning.specs.Growth.{state_of, session_of, Grows}
 use Rattle.page_meaning.specs.Includes.{ask_page, fetched_or_fault}
 use Rattle.page_meaning.specs.State.{State}
 use Rattle.page_meaning.specs.Went.{Well, Raised, either}
@@ -14,7 +14,7 @@ use Rattle.pg_value.specs.declared.fault.RunFault.TheVariants as fault
 use Rattle.run_stage.proofs.AskMoves.{asked_stage, stage_asked}
 use Rattle.run_stage.specs.Stage.{IsPageStored, Reached, StoresSo}
 use Rattle.run_stage.specs.declared.stage.Stage.{Stage}
-use Rattle.run_world.proofs.Adds.{quiet}
+use Rattle.page_meaning.proofs.Growing.{asks, quiet}
 use Rattle.run_world.specs.Part.{Doing, given}
 use Rattle.run_world.specs.Programs.{stored_of}
 use Rattle.run_world.specs.declared.program.Program.{Program}
@@ -72,28 +72,28 @@ look_goes serving place path s n st allowed charge e =
     ∙ ap (λ x. fetched_or_fault place path (paged_of x) s) e
 
 -- what a look adds where its answer isn't known: no more than the fetch of a page
-unfetched_grows : (st : Stored) (place : Place) (path : List ℕ) (after t : State) → t.asked ≡ after.asked → t.writer.pieces ≡ after.writer.pieces → Grows after (state_of (fetched_or_fault place path (paged_of st) t))
-unfetched_grows absent place path after t e f = quiet after t e f
-unfetched_grows (plain content) place path after t e f = quiet after t e f
-unfetched_grows (bad reason) place path after t e f = record { asked = (fetch path ∷ [], ap (λ a. a ++ fetch path ∷ []) e); pieces = ([], f ∙ sym (append-nil after.writer.pieces)) }
-unfetched_grows (good program) place path after t e f = record { asked = (fetch path ∷ [], ap (λ a. a ++ fetch path ∷ []) e); pieces = ([], f ∙ sym (append-nil after.writer.pieces)) }
+unfetched_grows : (st : Stored) (place : Place) (path : List ℕ) (after t : State) → t.asked ≡ after.asked → t.writer.pieces ≡ after.writer.pieces → session_of t ≡ session_of after → Grows after (state_of (fetched_or_fault place path (paged_of st) t))
+unfetched_grows absent place path after t e f k = quiet after t e f k
+unfetched_grows (plain content) place path after t e f k = quiet after t e f k
+unfetched_grows (bad reason) place path after t e f k = asks (fetch path) after (fetched path t) (ap (λ a. a ++ fetch path ∷ []) e) f k
+unfetched_grows (good program) place path after t e f k = asks (fetch path) after (fetched path t) (ap (λ a. a ++ fetch path ∷ []) e) f k
 
-fetched_grows : (st : Stored) (place : Place) (path : List ℕ) (after t : State) → IsPageStored st → after.asked ≡ t.asked ++ fetch path ∷ [] → t.writer.pieces ≡ after.writer.pieces
+fetched_grows : (st : Stored) (place : Place) (path : List ℕ) (after t : State) → IsPageStored st → after.asked ≡ t.asked ++ fetch path ∷ [] → t.writer.pieces ≡ after.writer.pieces → session_of t ≡ session_of after
     → Grows after (state_of (fetched_or_fault place path (paged_of st) t))
-fetched_grows absent place path after t is e f = absurd is
-fetched_grows (plain content) place path after t is e f = absurd is
-fetched_grows (bad reason) place path after t is e f = quiet after (fetched path t) (sym e) f
-fetched_grows (good program) place path after t is e f = quiet after (fetched path t) (sym e) f
+fetched_grows absent place path after t is e f k = absurd is
+fetched_grows (plain content) place path after t is e f k = absurd is
+fetched_grows (bad reason) place path after t is e f k = quiet after (fetched path t) (sym e) f k
+fetched_grows (good program) place path after t is e f k = quiet after (fetched path t) (sym e) f k
 
-file_grows : (b : Bool) (st : Stored) (place : Place) (path : List ℕ) (s after t : State) → (b ≡ true → IsPageStored st) → t.asked ≡ s.asked → after.asked ≡ s.asked ++ (if b then fetch path ∷ [] else []) → t.writer.pieces ≡ after.writer.pieces
+file_grows : (b : Bool) (st : Stored) (place : Place) (path : List ℕ) (s after t : State) → (b ≡ true → IsPageStored st) → t.asked ≡ s.asked → after.asked ≡ s.asked ++ (if b then fetch path ∷ [] else []) → t.writer.pieces ≡ after.writer.pieces → session_of t ≡ session_of after
     → Grows after (state_of (fetched_or_fault place path (paged_of st) t))
-file_grows true st place path s after t is same e f = fetched_grows st place path after t (is refl) (e ∙ ap (λ a. a ++ fetch path ∷ []) (sym same)) f
-file_grows false st place path s after t is same e f = unfetched_grows st place path after t (same ∙ sym (append-nil s.asked) ∙ sym e) f
+file_grows true st place path s after t is same e f k = fetched_grows st place path after t (is refl) (e ∙ ap (λ a. a ++ fetch path ∷ []) (sym same)) f k
+file_grows false st place path s after t is same e f k = unfetched_grows st place path after t (same ∙ sym (append-nil s.asked) ∙ sym e) f k
 
-look_grows : (file : Option File) (st : Stored) (place : Place) (path : List ℕ) (s after t : State) → (IsPageFile path file → IsPageStored st) → t.asked ≡ s.asked → after.asked ≡ s.asked ++ look_steps path file → t.writer.pieces ≡ after.writer.pieces
+look_grows : (file : Option File) (st : Stored) (place : Place) (path : List ℕ) (s after t : State) → (IsPageFile path file → IsPageStored st) → t.asked ≡ s.asked → after.asked ≡ s.asked ++ look_steps path file → t.writer.pieces ≡ after.writer.pieces → session_of t ≡ session_of after
     → Grows after (state_of (fetched_or_fault place path (paged_of st) t))
-look_grows None st place path s after t is same e f = unfetched_grows st place path after t (same ∙ sym (append-nil s.asked) ∙ sym e) f
-look_grows (Some file) st place path s after t is same e f = file_grows (is_page path) st place path s after t is same e f
+look_grows None st place path s after t is same e f k = unfetched_grows st place path after t (same ∙ sym (append-nil s.asked) ∙ sym e) f k
+look_grows (Some file) st place path s after t is same e f k = file_grows (is_page path) st place path s after t is same e f k
 
 module _ {P K : Type 0} {taken : K → Option (List ℕ)} {faults : K → ℕ} {leads : P → P → Type 0} {asking : P → Asking} {tree : P → List File} where
   -- a page that is asked for under a charge that is spent
@@ -126,7 +126,7 @@ module _ {P K : Type 0} {taken : K → Option (List ℕ)} {faults : K → ℕ} {
               (omega (arith, ap (λ (a : Asking). a.left) e, is)) refl;
           went = λ place future.
               subst (λ x. Grows after (state_of x)) (sym (look_goes serving place path (given future s) w.around.now.charge (serving.stored path) allowed r.charge refl))
-              (unfetched_grows (serving.stored path) place path after (given future s) refl refl);
+              (unfetched_grows (serving.stored path) place path after (given future s) refl refl refl);
         };
   }
 
@@ -216,7 +216,7 @@ module _ {P K : Type 0} {taken : K → Option (List ℕ)} {faults : K → ℕ} {
                   (omega (arith, looked.left, is, look_claimed path file)) refl;
               went = λ place future.
                   subst (λ x. Grows after (state_of x)) (sym (look_goes serving place path (given future s) w.around.now.charge (serving.stored path) allowed r.charge refl))
-                  (look_grows file (serving.stored path) place path s after (given future s) (stores.pages path) refl refl refl);
+                  (look_grows file (serving.stored path) place path s after (given future s) (stores.pages path) refl refl refl refl);
             };
       }
 

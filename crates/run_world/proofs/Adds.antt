@@ -1,5 +1,5 @@
 -- Parts of the meaning only add steps and pieces; and how such parts are joined.
-use Rattle.std.proofs.Common.{◌≡◌, ◌+◌, ℕ, Bool, true, false, List, [], ◌∷◌, ◌++◌, length, Option, Some, None, Result, Ok, Err, refl, sym, ap, ◌∙◌, nat_lt, nat_le, append_assoc, append-nil}
+use Rattle.std.proofs.Common.{◌+◌, ℕ, Bool, true, false, List, [], ◌∷◌, ◌++◌, length, Option, Some, None, Result, Ok, Err, refl, sym, nat_lt, nat_le, append-nil}
 use Rattle.std.specs.Prelude.{if◌then◌else◌}
 use Rattle.edges.specs.History.{IsFront}
 use Rattle.out_buffer.specs.Writer.{Writer, put, put_limit, flushed_over, front_pieces, pieces_over, piece_of, buffered, written, placed}
@@ -19,28 +19,13 @@ use Rattle.site_words.specs.declared.words.AppStep.{AppStep}
 use Rattle.site_words.specs.declared.words.AppStep.TheVariants as step
 use Rattle.page_meaning.specs.Bodies.{put_text}
 use Rattle.page_meaning.specs.Expressions.{found_nowhere, variable_or_step}
+use Rattle.page_meaning.proofs.Growing.{asks, both, commits, quiet, same}
 use Rattle.page_meaning.specs.Growth.{state_of, Grows}
 use Rattle.page_meaning.specs.State.{State, in_scopes, in_writer}
 use Rattle.site_words.specs.PageSteps.{app, told_value}
 use Rattle.page_meaning.specs.Variables.{set_held, set_application, set_in, assign, remove_in, unassign, unassign_all, without_inner, inner_found, look_up_else, look_up}
 use Rattle.page_meaning.specs.Went.{Went, Did, Well, Raised, Ended, Awaits, then_do, either, result_of}
 use Rattle.page_meaning.specs.Work.{visit_limit, visit, visited, is_spent, answer_from, ask}
-
-front_same : {E : Type 0} (a : List E) → IsFront a a
-front_same a = ([], sym (append-nil a))
-
-front_both : {E : Type 0} (a b c : List E) → IsFront a b → IsFront b c → IsFront a c
-front_both a b c f g = (f.0 ++ g.0, g.1 ∙ (ap (λ z. z ++ g.0) f.1 ∙ append_assoc a f.0 g.0))
-
-pub same : (s : State) → Grows s s
-same s = record { asked = front_same s.asked; pieces = front_same s.writer.pieces }
-
-pub both : (s t u : State) → Grows s t → Grows t u → Grows s u
-both s t u g k = record { asked = front_both s.asked t.asked u.asked g.asked k.asked; pieces = front_both s.writer.pieces t.writer.pieces u.writer.pieces g.pieces k.pieces }
-
--- a change of neither steps nor pieces
-pub quiet : (s t : State) → t.asked ≡ s.asked → t.writer.pieces ≡ s.writer.pieces → Grows s t
-quiet s t e f = record { asked = ([], e ∙ sym (append-nil s.asked)); pieces = ([], f ∙ sym (append-nil s.writer.pieces)) }
 
 -- a part from every state
 abbrev pub Adds : {A : Type 0} → (State → Went A) → Type 0
@@ -84,7 +69,7 @@ pub visit_adds : (place : Place) → Adds (visit place)
 visit_adds place s = go (nat_lt s.visits visit_limit)
   where
     go : (b : Bool) → Grows s (state_of (let w : Did = if b then Well tt (record s { visits = s.visits + 1 }) else Raised fault.TooMuchWork place s in w))
-    go true = quiet s (record s { visits = s.visits + 1 }) refl refl
+    go true = quiet s (record s { visits = s.visits + 1 }) refl refl refl
     go false = same s
 
 pub visited_adds : {A : Type 0} (place : Place) (part : State → Went A) → Adds part → Adds (visited place part)
@@ -93,20 +78,17 @@ visited_adds place part h = thens (visit place) (λ u s1. part s1) (visit_adds p
 -- a step
 answer_adds : (x : AppStep) (s : State) (answers : List Answer) → Grows s (state_of (answer_from x answers s))
 answer_adds x s [] = same s
-answer_adds x s (answer ∷ rest) = record { asked = (app x ∷ [], refl); pieces = ([], sym (append-nil s.writer.pieces)) }
+answer_adds x s (answer ∷ rest) = asks (app x) s (state_of (answer_from x (answer ∷ rest) s)) refl refl refl
 
 pub ask_adds : (place : Place) (x : AppStep) → Adds (ask place x)
 ask_adds place x s = eithers (is_spent s) (Raised fault.AppTooMuch place) (answer_from x s.answers) (raised Answer fault.AppTooMuch place) (λ t. answer_adds x t s.answers) s
 
 -- variables
-scopes_quiet : (s t : State) → t.asked ≡ s.asked → t.writer ≡ s.writer → Grows s t
-scopes_quiet s t e f = quiet s t e (ap (λ w. w.pieces) f)
-
 pub set_held_adds : (place : Place) (sc : HeldScope) (name : List ℕ) (d : Datum) → Adds (set_held place sc name d)
 set_held_adds place sc name d s =
     let r = set_answer s.scopes sc name d in
     then_at s (result_of place r s) (λ u s1. Well tt (in_scopes (with_variable s1.scopes sc name d) s1)) (result place r s)
-    (λ u t. scopes_quiet t (in_scopes (with_variable t.scopes sc name d) t) refl refl)
+    (λ u t. quiet t (in_scopes (with_variable t.scopes sc name d) t) refl refl refl)
 
 pub set_application_adds : (place : Place) (name : List ℕ) (d : Datum) → Adds (set_application place name d)
 set_application_adds place name d =
@@ -121,7 +103,7 @@ pub assign_adds : (place : Place) (sc : Scope) (name : List ℕ) (d : Datum) →
 assign_adds place sc name d = set_in_adds place (held_scope sc) name d
 
 remove_in_adds : (place : Place) (held : Option HeldScope) (name : List ℕ) → Adds (remove_in place held name)
-remove_in_adds place (Some sc) name s = scopes_quiet s (in_scopes (without_variable s.scopes sc name) s) refl refl
+remove_in_adds place (Some sc) name s = quiet s (in_scopes (without_variable s.scopes sc name) s) refl refl refl
 remove_in_adds place None name s = thens (ask place (step.Remove name)) (λ answer s1. Well tt s1) (ask_adds place (step.Remove name)) (λ answer. done) s
 
 pub unassign_adds : (place : Place) (sc : Scope) (name : List ℕ) → Adds (unassign place sc name)
@@ -129,7 +111,7 @@ unassign_adds place sc name = remove_in_adds place (held_scope sc) name
 
 pub unassign_all_adds : (place : Place) (name : List ℕ) → Adds (unassign_all place name)
 unassign_all_adds place name =
-    behind (unassign place scope.Application name) (λ s. in_scopes (without_inner name s.scopes) s) (λ s. scopes_quiet s (in_scopes (without_inner name s.scopes) s) refl refl) (unassign_adds place scope.Application name)
+    behind (unassign place scope.Application name) (λ s. in_scopes (without_inner name s.scopes) s) (λ s. quiet s (in_scopes (without_inner name s.scopes) s) refl refl refl) (unassign_adds place scope.Application name)
 
 look_up_else_adds : (place : Place) (name : List ℕ) (o : Option (Scope × Datum)) → Adds (look_up_else place name o)
 look_up_else_adds place name (Some p) s = same s
@@ -175,7 +157,7 @@ pub put_text_adds : (place : Place) (bytes : List ℕ) → Adds (put_text place 
 put_text_adds place bytes s = go (put bytes s.writer) (put_adds bytes s.writer)
   where
     go : (r : Result Writer RunFault) → AddsPieces s.writer.pieces r → Grows s (state_of (put_so place r s))
-    go (Ok w) adds = record { asked = ([], sym (append-nil s.asked)); pieces = adds }
+    go (Ok w) adds = commits s w adds
     go (Err f) adds = same s
 
 -- a variable

@@ -2,7 +2,7 @@ use Rattle.std.proofs.Common.{◌+◌, ◌∷◌, ◌≡◌, sym, ap, ◌∙◌,
 use Rattle.std.specs.Prelude.{map}
 use Rattle.run_moves.specs.Opened.{catch_of, open_of}
 use Rattle.run_moves.proofs.Acts.{acted_short}
-use Rattle.run_world.proofs.Adds.{same}
+use Rattle.page_meaning.proofs.Growing.{same}
 use Rattle.run_moves.proofs.ArmExits.{catch_exit}
 use Rattle.run_moves.proofs.arms.catch_start.Goals as goal
 use Rattle.page_table.specs.Act.{with_catch}

@@ -1,7 +1,7 @@
 use Rattle.std.proofs.Common.{◌+◌}
 use Rattle.run_moves.specs.Opened.{open_of}
 use Rattle.run_moves.proofs.Acts.{one_of_grows}
-use Rattle.run_world.proofs.Adds.{same}
+use Rattle.page_meaning.proofs.Growing.{same}
 use Rattle.run_moves.proofs.Behind.{fell_at}
 use Rattle.run_moves.proofs.arms.ensure.Goals as goal
 use Rattle.page_table.specs.Landing.{Running, one_of}

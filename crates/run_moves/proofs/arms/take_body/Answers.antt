@@ -1,6 +1,6 @@
 use Rattle.std.proofs.Common.{◌+◌, ◌∷◌, sym, ap}
 use Rattle.run_moves.specs.Opened.{open_of}
-use Rattle.run_world.proofs.Adds.{same}
+use Rattle.page_meaning.proofs.Growing.{same}
 use Rattle.run_moves.proofs.Behind.{fell_at, well_at, well_short}
 use Rattle.run_moves.proofs.arms.take_body.Goals as goal
 use Rattle.page_table.specs.Act.{with_stack}

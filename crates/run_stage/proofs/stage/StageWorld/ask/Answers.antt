@@ -19,7 +19,7 @@ app-requires-clause-room g c =
 pub returns-in_err-app-clause-does : goal.returns-in_err-app-clause-does
 returns-in_err-app-clause-does g c =
     unasked_at g.met.P.AppPort.leads_on c.args.self.now c.app.new.self c.args.self.now.around.now.charge c.from_residual.result c.from_residual.ensures.1 c.in_err-app.ensures.leads c.in_err-app.ensures.tree c.in_err-app.ensures.told
-    refl (λ place. ask_adds place c.args.step)
+    refl (λ place s held. ask_adds place c.args.step s)
 
 pub returns-clause-covered : goal.returns-clause-covered
 returns-clause-covered g c =
