@@ -5,16 +5,17 @@ use Rattle.std.specs.Option.{unwrap_or}
 use Rattle.dispatch.proofs.ServedLemmas.{answers_taken, drops_taken}
 use Rattle.dispatch.specs.Replied.{response_in}
 use Rattle.dispatch.specs.Started.{HasBegun, Replies, Start, Starves, meant}
-use Rattle.edges.proofs.Own.{front_same}
 use Rattle.http_out.specs.Response.{Response, wire}
 use Rattle.http_out.specs.declared.head.Head.{Head}
 use Rattle.out_buffer.specs.Held.{Held}
 use Rattle.page_answers.proofs.HeadLemmas.{no_head}
+use Rattle.page_answers.proofs.TurnLemmas.{whole_but_last}
 use Rattle.page_answers.specs.Answers.{Answers, attrs_left}
 use Rattle.page_answers.specs.Dropped.{Drops, HeadsSo, dropped_text}
 use Rattle.page_answers.specs.Standing.{Standing, session_found, standing_of, tree_at}
-use Rattle.page_answers.specs.Turns.{Turn, all_bytes, all_calls, answers_of, is_whole, steps_of}
+use Rattle.page_answers.specs.Turns.{Turn, all_bytes, all_calls, answers_of, are_whole_but_last, is_whole, steps_of}
 use Rattle.page_made.specs.Pages.{needs_at, paged_at}
+use Rattle.page_meaning.proofs.Growing.{quiet}
 use Rattle.page_meaning.specs.Growth.{Grows}
 use Rattle.page_meaning.specs.Respond.{respond}
 use Rattle.page_meaning.specs.Response.{closing, end_state, head_of, responds}
@@ -23,7 +24,7 @@ use Rattle.pass_course.proofs.CourseLemmas.{courses_join}
 use Rattle.pass_course.specs.Course.{HasDone}
 use Rattle.request_pages.specs.Closed.{IsReplyOpen}
 use Rattle.request_pages.specs.Gone.{reply_answer}
-use Rattle.request_pages.specs.Within.{GoesWithin}
+use Rattle.request_pages.specs.Within.{GoesWithin, sent_head}
 use Rattle.request_pages.specs.declared.course.Course.{Course}
 use Rattle.request_pages.specs.declared.reply.Reply.{Reply}
 use Rattle.request_pages.specs.declared.reply.Reply.TheVariants as replied
@@ -42,20 +43,20 @@ reply_is held (replied.Written broken) s = refl
 reply_is held (replied.Whole status content_type location body) s = refl
 
 grows_given : (more : List Answer) (s : State) → Grows s (given more s)
-grows_given more s = record { asked = front_same s.asked; pieces = front_same s.writer.pieces }
+grows_given more s = quiet s (given more s) refl refl refl
 
 reply_grows : (held : Held) (r : Reply) (more : List Answer) (s : State) → Grows s (end_state (reply_answer held r (given more s)))
 reply_grows held (replied.Written broken) more s = grows_given more s
 reply_grows held (replied.Whole status content_type location body) more s = grows_given more s
 
-written_heads : (head : Head) (pieces : List (List ℕ)) (response : Response) (end : State) → response.head.status ≡ head.status → response.head.content_type ≡ head.content_type → HeadsSo head.status head.content_type pieces (responds response end)
-written_heads head [] response end status content_type = tt
-written_heads head (piece ∷ pieces) response end status content_type = (status, content_type)
+written_heads : (head : Head) (pieces : List (List ℕ)) (response : Response) (end : State) → response.head ≡ head → HeadsSo head pieces (responds response end)
+written_heads head [] response end is = tt
+written_heads head (piece ∷ pieces) response end is = is
 
-reply_heads : (held : Held) (r : Reply) (more : List Answer) (s : State) → IsReplyOpen r s.writer.pieces → HeadsSo held.head.status held.head.content_type s.writer.pieces (reply_answer held r (given more s))
-reply_heads held (replied.Written broken) more s is_open = written_heads held.head s.writer.pieces (response_in held (replied.Written broken) s) (given more s) refl refl
+reply_heads : (held : Held) (r : Reply) (more : List Answer) (s : State) → IsReplyOpen r s.writer.pieces → HeadsSo (sent_head held.head s) s.writer.pieces (reply_answer held r (given more s))
+reply_heads held (replied.Written broken) more s is_open = written_heads (sent_head held.head s) s.writer.pieces (response_in held (replied.Written broken) s) (given more s) refl
 reply_heads held (replied.Whole status content_type location body) more s none =
-    no_head held.head.status held.head.content_type s.writer.pieces (reply_answer held (replied.Whole status content_type location body) (given more s)) none
+    no_head (sent_head held.head s) s.writer.pieces (reply_answer held (replied.Whole status content_type location body) (given more s)) none
 
 pub reply_within : (held : Held) (r : Reply) (more : List Answer) (s : State) → IsReplyOpen r s.writer.pieces → GoesWithin held.head s (reply_answer held r (given more s))
 reply_within held r more s is_open = (reply_grows held r more s, reply_heads held r more s is_open)
@@ -65,6 +66,7 @@ pub replies_starve : (x : Opening) (pass : ℕ) (p : Start) (new : List Entry) (
     → Starves x pass p new now course.writer.head replies.ran.after
 replies_starve x pass p new now course taken faults reply replies = record {
   turns = replies.ran.turns;
+  stops = whole_but_last replies.ran.turns replies.whole;
   did = replies.ran.did;
   asked = replies.ran.asked;
   read = let r = replies.read in omega (arith, r);
@@ -108,10 +110,10 @@ module _ (x : Opening) (pass : ℕ) (old : Standing) (ahead : Option (List ℕ))
       })
 
   -- it was abandoned
-  pub dropped : (turns : List Turn) (reached : State) (text : List ℕ) (head : Head) → reached.asked ≡ steps_of turns → ((more : List Answer) → GoesWithin head reached (meant p (answers_of x.seed turns ++ more)))
+  pub dropped : (turns : List Turn) (reached : State) (text : List ℕ) (head : Head) → are_whole_but_last turns ≡ true → reached.asked ≡ steps_of turns → ((more : List Answer) → GoesWithin head reached (meant p (answers_of x.seed turns ++ more)))
       → HasDone needs_at x pass p.begun new (all_calls p.number turns ++ (op.Abandon p.number, reply.Dropped) ∷ []) → now ≤ p.steps + all_bytes p.tree turns
-      → text ≡ dropped_text (head_of head.status head.content_type None reached) p.close p.shown reached.writer.pieces → Drops needs_at x pass p.request p.close old text (standing_of new ahead now)
-  dropped turns reached text head asked means did read text_is =
+      → text ≡ dropped_text (sent_head head reached) p.close p.shown reached.writer.pieces → Drops needs_at x pass p.request p.close old text (standing_of new ahead now)
+  dropped turns reached text head stops asked means did read text_is =
       drops_taken needs_at x pass p.request p.close old text (standing_of new ahead now) begun.takes
       (record {
         moment = begun.moment;
@@ -120,15 +122,15 @@ module _ (x : Opening) (pass : ℕ) (old : Standing) (ahead : Option (List ℕ))
           begun = p.begun;
           begins = begun.begins;
           turns = turns;
+          whole = stops;
           reached = reached;
-          asked = ([], asked ∙ sym (append-nil (steps_of turns)));
+          asked = asked;
           means = λ more. subst (λ a. Grows reached (end_state a)) (sym (meant_is (answers_of x.seed turns ++ more))) (means more).0;
           did = subst (λ n. HasDone needs_at x pass p.begun new (all_calls n turns ++ (op.Abandon n, reply.Dropped) ∷ [])) begun.number did;
           read = subst (λ n. now ≤ n) (read_is turns) read;
-          status = head.status;
-          content_type = head.content_type;
-          heads = λ more. subst (HeadsSo head.status head.content_type reached.writer.pieces) (sym (meant_is (answers_of x.seed turns ++ more))) (means more).1;
-          text_is = text_is ∙ ap (λ shown. dropped_text (head_of head.status head.content_type None reached) p.close shown reached.writer.pieces) begun.shown;
+          head = sent_head head reached;
+          heads = λ more. subst (HeadsSo (sent_head head reached) reached.writer.pieces) (sym (meant_is (answers_of x.seed turns ++ more))) (means more).1;
+          text_is = text_is ∙ ap (λ shown. dropped_text (sent_head head reached) p.close shown reached.writer.pieces) begun.shown;
         });
       })
 
@@ -147,7 +149,7 @@ module _ (x : Opening) (pass : ℕ) (old : Standing) (ahead : Option (List ℕ))
 
   -- by its Abandon
   pub starved_drop : (mid : List Entry) (reached : State) (text : List ℕ) (head : Head) → Starves x pass p mid now head reached → HasDone needs_at x pass mid new ((op.Abandon p.number, reply.Dropped) ∷ [])
-      → text ≡ dropped_text (head_of head.status head.content_type None reached) p.close p.shown reached.writer.pieces → Drops needs_at x pass p.request p.close old text (standing_of new ahead now)
+      → text ≡ dropped_text (sent_head head reached) p.close p.shown reached.writer.pieces → Drops needs_at x pass p.request p.close old text (standing_of new ahead now)
   starved_drop mid reached text head starves abandoned text_is =
-      dropped starves.turns reached text head starves.asked starves.means
+      dropped starves.turns reached text head starves.stops starves.asked starves.means
       (courses_join needs_at x pass p.begun mid new (all_calls p.number starves.turns) ((op.Abandon p.number, reply.Dropped) ∷ []) starves.did abandoned) starves.read text_is

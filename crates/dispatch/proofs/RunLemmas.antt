@@ -15,7 +15,7 @@ use Rattle.http_out.specs.declared.status.Status.TheVariants as status
 use Rattle.out_buffer.specs.Held.{Held, Stands, fresh}
 use Rattle.out_buffer.specs.Writer.{empty_writer}
 use Rattle.page_answers.specs.Standing.{found}
-use Rattle.page_answers.specs.Turns.{Turn, all_bytes, all_calls, answers_of, is_whole, steps_of}
+use Rattle.page_answers.specs.Turns.{Turn, all_bytes, all_calls, answers_of, are_whole_but_last, is_whole, steps_of}
 use Rattle.page_machine.specs.Run.{IsInOrder, StandsFor}
 use Rattle.page_made.specs.Pages.{needs_at}
 use Rattle.page_meaning.specs.Respond.{beginning}
@@ -157,7 +157,7 @@ closed_within : {E : Type 0} (answers : List Answer → Answered) (held : Held) 
 closed_within answers held after (Ok r) closed future = subst (GoesWithin held.head after) (sym (closed.1 future)) (reply_within held r future after closed.0)
 closed_within answers held after (Err e) closed future = closed future
 
-module _ (x : Opening) (pass : ℕ) (p : Start) (new : List Entry) (turns : List Turn) (did : HasDone needs_at x pass p.begun new (all_calls p.number turns)) (asked : asked_in (own pass p.begun) ≡ []) (told : told_in x.seed (own pass p.begun) ≡ []) where
+module _ (x : Opening) (pass : ℕ) (p : Start) (new : List Entry) (turns : List Turn) (did : HasDone needs_at x pass p.begun new (all_calls p.number turns)) (stops : are_whole_but_last turns ≡ true) (asked : asked_in (own pass p.begun) ≡ []) (told : told_in x.seed (own pass p.begun) ≡ []) where
   asked_so : asked_in (own pass new) ≡ steps_of turns
   asked_so = turns_asked needs_at x pass p.begun new p.number turns did ∙ ap (λ a. a ++ steps_of turns) asked
 
@@ -188,6 +188,7 @@ module _ (x : Opening) (pass : ℕ) (p : Start) (new : List Entry) (turns : List
       ran,
       record {
         turns = turns;
+        stops = stops;
         did = did;
         asked = ran.asked;
         read = read;

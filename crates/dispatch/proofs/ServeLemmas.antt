@@ -30,10 +30,11 @@ begun_as x pass old ahead request close shown seen number tree other found begun
 pub begun_starves : (x : Opening) (pass : ℕ) (p : Start) (head : Head) → Legal needs_at x p.begun → Starves x pass p p.begun p.steps head (beginning p.found [])
 begun_starves x pass p head legal = record {
   turns = [];
+  stops = refl;
   did = done_none needs_at x pass p.begun legal;
   asked = refl;
   read = omega arith;
-  means = λ more. (record { asked = front_none _; pieces = front_none _ }, tt);
+  means = λ more. (record { asked = front_none _; pieces = front_none _; session = λ committed. absurd (cc) }, tt);
 }
 
 -- nothing was sent yet

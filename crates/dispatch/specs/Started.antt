@@ -10,7 +10,7 @@ use Rattle.http_out.specs.declared.head.Head.{Head}
 use Rattle.page_answers.specs.Answers.{Answers, shows_body, takes_method}
 use Rattle.page_answers.specs.Dropped.{Drops}
 use Rattle.page_answers.specs.Standing.{Begins, Standing, session_found, standing_of, tree_at}
-use Rattle.page_answers.specs.Turns.{Turn, all_bytes, all_calls, answers_of, is_whole, steps_of}
+use Rattle.page_answers.specs.Turns.{Turn, all_bytes, all_calls, answers_of, are_whole_but_last, is_whole, steps_of}
 use Rattle.page_made.specs.Pages.{needs_at, paged_at}
 use Rattle.page_meaning.specs.Respond.{FoundSession, respond}
 use Rattle.page_meaning.specs.Response.{Answered}
@@ -102,6 +102,7 @@ pub record Replies (x : Opening) (pass : ℕ) (p : Start) (new : List Entry) (no
 -- memory was wanting, and its pages went no further than they go, behind this head
 pub record Starves (x : Opening) (pass : ℕ) (p : Start) (new : List Entry) (now : ℕ) (head : Head) (reached : State) : Type 0 where
   pub turns : List Turn
+  pub stops : are_whole_but_last turns ≡ true
   pub did : HasDone needs_at x pass p.begun new (all_calls p.number turns)
   pub asked : reached.asked ≡ steps_of turns
   pub read : now ≤ p.steps + all_bytes p.tree turns

@@ -1,5 +1,5 @@
 -- The steps of a request as they were done: what each asked, what it was told, and the entries that it used.
-use Rattle.std.specs.Prelude.{ℕ, ◌+◌, Bool, true, false, List, [], ◌∷◌, map, flat_map, Option, Some, None}
+use Rattle.std.specs.Prelude.{ℕ, ◌+◌, ◌&&◌, Bool, true, false, List, [], ◌∷◌, map, flat_map, Option, Some, None}
 use Rattle.site_words.specs.Ids.{id_of}
 use Rattle.site_words.specs.Law.{Answer, told, id}
 use Rattle.site_words.specs.PageSteps as asks
@@ -16,7 +16,7 @@ use Rattle.page_made.specs.Pages.{unit_in}
 use Rattle.unit_build.specs.Unit.{Unit}
 
 -- a step that was done: one on the application's attributes with what it was told; a session that was made; a page of which what is kept was
--- taken; one that was made anew and offered, by whether it was kept; and one that was missed where memory was wanting for its offer
+-- taken; one that was made anew and offered, by whether it was kept; and one that was missed and, memory being wanting, not offered
 pub data Turn : Type 0 where
   stepped : AppStep → AppReply → Turn
   made : (session : ℕ) → Turn
@@ -69,6 +69,12 @@ bytes_for tree (unoffered path) = page_bytes tree path
 abbrev pub is_whole : Turn → Bool
 is_whole (unoffered path) = false
 is_whole other = true
+
+-- only the last wasn't done whole, if any
+abbrev pub are_whole_but_last : List Turn → Bool
+are_whole_but_last [] = true
+are_whole_but_last (turn ∷ []) = true
+are_whole_but_last (turn ∷ next ∷ turns) = is_whole turn && are_whole_but_last (next ∷ turns)
 
 -- the same of all steps of a request, in order
 

@@ -1,7 +1,8 @@
 //! The program `pages`: a page container over standard input and output.
 //!
 //! `pages play [--seed HEX]` answers the requests that it reads from standard input, and writes the answers to standard output. Its
-//! status is 0 where the input ended between requests, a request asked to close or a response broke off, 2 where the input shows a fault.
+//! status is 0 where the input ended between requests, a request asked to close, a response broke off or 65,536 requests were answered, 2 where
+//! the input shows a fault.
 //! `pages check PATH` reads the text of a page, and writes `ok` or the line of its fault: status 0 or 6. `pages load N` talks with a
 //! generated site of N pages in memory, and writes five numbers of that. For other words the status is 1; where reading or writing failed
 //! 3 and 4, and where memory was wanting 5.

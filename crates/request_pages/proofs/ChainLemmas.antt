@@ -7,6 +7,7 @@ use Rattle.http_in.specs.declared.request.Request.{Request}
 use Rattle.http_out.specs.declared.status.Status.{Status}
 use Rattle.out_buffer.specs.Held.{Held}
 use Rattle.page_made.specs.Pages.{paged_at}
+use Rattle.page_meaning.proofs.Growing.{both}
 use Rattle.page_meaning.specs.Context.{Served, good}
 use Rattle.page_meaning.specs.Growth.{Grows, state_of}
 use Rattle.page_meaning.specs.Page.{Page}
@@ -26,20 +27,12 @@ use Rattle.request_pages.specs.declared.reply.Gone.TheVariants as gone
 use Rattle.request_pages.specs.declared.reply.Reply.{Reply}
 use Rattle.request_pages.specs.declared.reply.Reply.TheVariants as reply
 use Rattle.response_laws.specs.Laws.{ChainsUnfold, RunsGrowOn, chain_of, target_of}
+use Rattle.run_world.proofs.Parts.{adds_given}
 use Rattle.run_world.specs.Part.{given}
 use Rattle.run_world.specs.Seats.{raise_of}
 use Rattle.run_world.specs.declared.raised.Raise.{Raise}
 use Rattle.site_words.specs.Law.{Answer}
 use Rattle.source_tree.specs.declared.file.File.{File}
-
-pub grows_on : (s t u : State) → Grows s t → Grows t u → Grows s u
-grows_on s t u g k = record {
-  asked = Rattle.edges.proofs.Own.front_both s.asked t.asked u.asked g.asked k.asked;
-  pieces = Rattle.edges.proofs.Own.front_both s.writer.pieces t.writer.pieces u.writer.pieces g.pieces k.pieces;
-}
-
-grows_given : (future : List Answer) (s t : State) → Grows (given future s) t → Grows s t
-grows_given future s t g = record { asked = g.asked; pieces = g.pieces }
 
 end_open : (r : Reply) (pieces : List (List ℕ)) → IsOpen (gone.Done r) pieces → IsEndOpen (ended.Done r) pieces
 end_open (reply.Written broken) pieces h = h
@@ -61,7 +54,7 @@ module _ (unfolds : ChainsUnfold) (grow : RunsGrowOn) (served : Served) (status 
     ends = λ at_fault faults future.
         let from = given (played.got ++ future) s in
         subst (GoesWithin held.head played.after) (sym (unfolds served at_fault status left page params from few)) (
-          grows_on played.after (state_of (first_run served left page params from)) (end_state (run_answer (target_of served at_fault status) at_fault status page params (first_run served left page params from))) (played.ends future).0
+          both played.after (state_of (first_run served left page params from)) (end_state (run_answer (target_of served at_fault status) at_fault status page params (first_run served left page params from))) (played.ends future).0
               (grow.behind served at_fault status left page params from faults),
           (played.ends future).1 (target_of served at_fault status) at_fault,
         );
@@ -119,7 +112,7 @@ module _ (unfolds : ChainsUnfold) (grow : RunsGrowOn) (served : Served) (status 
         ends = λ at_fault faults future.
             subst (GoesWithin held.head played.after) (sym (unfolds served at_fault status left page params (given (played.got ++ future) s) few ∙ answers (target_of served at_fault status) at_fault future))
             (within_none held.head played.after (target_of served at_fault status path more l (given future played.after)) none
-            (grows_given future played.after (end_state (target_of served at_fault status path more l (given future played.after))) (grow.target served at_fault status path more l (given future played.after) faults none)));
+            (adds_given future played.after (end_state (target_of served at_fault status path more l (given future played.after))) (grow.target served at_fault status path more l (given future played.after) faults none)));
       }
 
   -- its target is no page

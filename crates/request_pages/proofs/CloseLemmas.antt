@@ -10,6 +10,7 @@ use Rattle.page_machine.specs.Run.{StandsFor}
 use Rattle.page_made.proofs.PageLemmas.{page_there}
 use Rattle.page_made.specs.Made.{IsPageAt, IsProgramOf}
 use Rattle.page_made.specs.Pages.{found_as, paged_at}
+use Rattle.page_meaning.proofs.Growing.{quiet}
 use Rattle.page_meaning.specs.Context.{Paged, Served, bad, good}
 use Rattle.page_meaning.specs.Faults.{Raise, run_fault_line}
 use Rattle.page_meaning.specs.Growth.{Grows}
@@ -29,6 +30,7 @@ use Rattle.request_pages.specs.declared.reply.Reply.{Reply}
 use Rattle.request_pages.specs.declared.reply.Reply.TheVariants as reply
 use Rattle.request_pages.specs.Within.{GoesWithin}
 use Rattle.response_laws.specs.Laws.{RunsGrowOn}
+use Rattle.run_world.proofs.Parts.{adds_given}
 use Rattle.run_world.specs.Origin.{Origin}
 use Rattle.run_world.specs.Part.{given}
 use Rattle.run_world.specs.declared.around.Around.{Around}
@@ -68,7 +70,7 @@ pub closed_as : {E : Type 0} (answers : List Answer → State → Answered) (ran
 closed_as answers ran stands s old new held result goes closed = record { got = closed.got; replies = closed.replies; after = closed.after; stood = goes closed.after closed.stood; ends = closed.ends }
 
 pub plain_grows : (after : State) (future : List Answer) → Grows after (given future after)
-plain_grows after future = record { asked = ([], sym (append-nil after.asked)); pieces = ([], sym (append-nil after.writer.pieces)) }
+plain_grows after future = quiet after (given future after) refl refl refl
 
 -- a whole reply closes what is answered so
 pub closed_whole : {E : Type 0} (answers : List Answer → State → Answered) (stands : State → Type 0) (s after : State) (old new : List Answer) (held : Held) (status : Status) (content_type location : Option (List ℕ)) (body : List ℕ) (result : Result Reply E)
@@ -91,7 +93,7 @@ closed_whole {E = E} answers stands s after old new held status content_type loc
 
 -- what a fault is answered adds to the steps asked and the pieces committed
 fault_grows : RunsGrowOn → (served : Served) (page : Page) (params : List Param) (r : Raise) (s : State) → s.writer.pieces ≡ [] → (future : List Answer) → Grows s (end_state (fault_answers served page params r future s))
-fault_grows grow served page params r s none future = let g = grow.error served page params r (given future s) none in record { asked = g.asked; pieces = g.pieces }
+fault_grows grow served page params r s none future = adds_given future s (end_state (fault_answers served page params r future s)) (grow.error served page params r (given future s) none)
 
 -- without memory nothing more was done
 pub closed_short : {E : Type 0} → RunsGrowOn → (served : Served) (page : Page) (params : List Param) (r : Raise) (stands : State → Type 0) (s : State) (old new : List Answer) (held : Held) (e : E) → new ≡ old → stands s → s.writer.pieces ≡ []
@@ -110,7 +112,7 @@ page_grows : RunsGrowOn → (served : Served) (page : Page) (params : List Param
 page_grows grow served page params r path target s named is none future =
     subst (λ o. Grows (fetched path s) (end_state (error_at served r params o (given future s)))) (sym named)
     (subst (λ f. Grows (fetched path s) (end_state (error_answer served r params path f (given future s)))) (sym is)
-    (let g = grow.chain (with_exception r served) (first_fault r) status_is.InternalServerError level_limit target params (with_no_visits (fetched path (given future s))) (grow.first r) none in record { asked = g.asked; pieces = g.pieces }))
+    (let g = grow.chain (with_exception r served) (first_fault r) status_is.InternalServerError level_limit target params (with_no_visits (fetched path (given future s))) (grow.first r) none in record { asked = g.asked; pieces = g.pieces; session = g.session }))
 
 -- without memory behind the fetch of an error page nothing more was done
 pub closed_fetched : {E : Type 0} → RunsGrowOn → (served : Served) (tree : List File) (page : Page) (params : List Param) (r : Raise) (path : List ℕ) (target : Page) (stands : State → Type 0) (s : State) (old new : List Answer) (held : Held) (e : E) → error_path page ≡ Some path
@@ -204,8 +206,8 @@ begun_again origin scopes held taken faults around raise asking s h = record {
 module _ (answers : List Answer → State → Answered) (tree : List File) (path : List ℕ) (origin : Origin) (scopes : ScopeState) (held : Held) (taken : Option (List ℕ)) (faults : ℕ) (around : Around) (old new : Asking) (s : State)
     (stands : StandsFor origin scopes held taken faults around old s) (none : s.writer.pieces ≡ []) (short : (future : List Answer) → Grows s (end_state (answers future s)))
     (behind : (read : Result Page PageFault) → paged_at tree path ≡ found_as true (Some read) None → (future : List Answer) → Grows (fetched path s) (end_state (answers future s))) where
-  quiet : {E : Type 0} (e : E) (file : Option File) → look_steps path file ≡ [] → HasLooked old new path file → Closed answers (Reached origin scopes held taken faults around new) s old.answers new.answers held {E = E} (Err e)
-  quiet e file steps looked = record {
+  silent : {E : Type 0} (e : E) (file : Option File) → look_steps path file ≡ [] → HasLooked old new path file → Closed answers (Reached origin scopes held taken faults around new) s old.answers new.answers held {E = E} (Err e)
+  silent e file steps looked = record {
     got = [];
     replies = looked.answers ∙ sym (append-nil old.answers);
     after = s;
@@ -224,10 +226,10 @@ module _ (answers : List Answer → State → Answered) (tree : List File) (path
         stood = record { scopes_are = on.scopes; asked = on.asked; writer = on.writer; id = on.id; fresh = on.fresh };
         ends = λ future. within_none held.head (fetched path s) (answers future s) none (behind read.0 read.1 future);
       }
-  at_file e false file is there looked = quiet e (Some file) (ap (λ b. if b then fetch path ∷ [] else []) is) looked
+  at_file e false file is there looked = silent e (Some file) (ap (λ b. if b then fetch path ∷ [] else []) is) looked
 
   at_found : {E : Type 0} (e : E) (file : Option File) → file_at path tree ≡ file → HasLooked old new path file → Closed answers (Reached origin scopes held taken faults around new) s old.answers new.answers held {E = E} (Err e)
-  at_found e None there looked = quiet e None refl looked
+  at_found e None there looked = silent e None refl looked
   at_found e (Some file) there looked = at_file e (is_page path) file refl there looked
 
   pub closed_look : {E : Type 0} (e : E) → HasLooked old new path (file_at path tree) ⊎ (new ≡ old) → Closed answers (Reached origin scopes held taken faults around new) s old.answers new.answers held {E = E} (Err e)

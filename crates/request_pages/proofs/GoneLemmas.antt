@@ -1,5 +1,5 @@
 -- How the run of a page ends, by what the page means.
-use Rattle.std.proofs.Common.{◌≡◌, ◌<◌, ℕ, Bool, true, false, List, [], ◌∷◌, ◌++◌, Some, None, refl, sym, ap, subst, ◌∙◌}
+use Rattle.std.proofs.Common.{◌≡◌, ◌<◌, ℕ, Bool, true, false, List, [], ◌++◌, Some, None, refl, sym, ap, subst, ◌∙◌}
 use Rattle.std.specs.Prelude.{IsErr, Result, Ok, Err, if◌then◌else◌}
 use Rattle.http_in.specs.declared.params.Param.{Param}
 use Rattle.http_out.specs.declared.status.Status.{Status}
@@ -7,6 +7,7 @@ use Rattle.out_buffer.specs.Held.{Held}
 use Rattle.out_buffer.specs.Writer.{has_committed, has_pieces}
 use Rattle.page_machine.specs.declared.running.RunEnd.{RunEnd}
 use Rattle.page_machine.specs.declared.running.RunEnd.TheVariants as ends
+use Rattle.page_meaning.proofs.Growing.{uncommitted}
 use Rattle.page_meaning.specs.Context.{Served}
 use Rattle.page_meaning.specs.Growth.{Leaves}
 use Rattle.page_meaning.specs.Laws.{ForwardsLeaveFewer, StepsAndPiecesGrow}
@@ -24,10 +25,6 @@ use Rattle.request_pages.specs.declared.reply.Reply.TheVariants as reply
 use Rattle.response_laws.proofs.Behind.{run_leaves}
 use Rattle.run_world.specs.Part.{given}
 use Rattle.site_words.specs.Law.{Answer}
-
-pub uncommitted : (pieces : List (List ℕ)) → has_pieces pieces ≡ false → pieces ≡ []
-uncommitted [] e = refl
-uncommitted (piece ∷ pieces) e = absurd (cc)
 
 -- what a page wrote, by the head of its writer
 written_same : (broken : Bool) (chosen : Status) (held : Held) (page : Page) (s : State) → chosen ≡ held.head.status → Some page.settings.content_type ≡ held.head.content_type → page_response chosen page broken s ≡ reply_answer held (reply.Written broken) s

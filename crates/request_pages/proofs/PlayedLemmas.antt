@@ -9,20 +9,23 @@ use Rattle.page_machine.specs.Run.{StandsFor}
 use Rattle.page_made.specs.Made.{IsPageAt, IsProgramOf}
 use Rattle.page_answers.proofs.HeadLemmas.{no_head}
 use Rattle.page_answers.specs.Dropped.{HeadsSo}
+use Rattle.page_meaning.proofs.Growing.{uncommitted}
 use Rattle.page_meaning.specs.Context.{Served}
-use Rattle.page_meaning.specs.Growth.{Grows, state_of}
+use Rattle.page_meaning.specs.Growth.{state_of}
 use Rattle.page_meaning.specs.Laws.{ForwardsLeaveFewer, StepsAndPiecesGrow}
 use Rattle.page_meaning.specs.Page.{Page}
 use Rattle.page_meaning.specs.Respond.{at_start, first_run, run_answer}
+use Rattle.page_meaning.specs.Response.{head_of}
 use Rattle.page_meaning.specs.State.{State}
 use Rattle.page_serving.specs.Meant.{page_mean}
-use Rattle.request_pages.proofs.GoneLemmas.{uncommitted}
 use Rattle.request_pages.specs.Gone.{GoneSo, PageGone}
 use Rattle.request_pages.specs.Played.{Played, PlayedSo}
 use Rattle.request_pages.specs.declared.reply.Gone.{Gone}
 use Rattle.request_pages.proofs.WithinLemmas.{run_heads}
+use Rattle.request_pages.specs.Within.{sent_head}
 use Rattle.response_laws.proofs.Behind.{first_grows, run_leaves}
 use Rattle.run_stage.specs.Standing.{head_after, naming}
+use Rattle.run_world.proofs.Parts.{adds_given}
 use Rattle.run_world.specs.Origin.{Origin}
 use Rattle.run_world.specs.Part.{given}
 use Rattle.run_world.specs.declared.around.Around.{Around}
@@ -65,9 +68,6 @@ pub none_committed : (origin : Origin) (scopes : ScopeState) (held : Held) (take
     → s.writer.pieces ≡ []
 none_committed origin scopes held taken faults around asking s none stands = uncommitted s.writer.pieces (sym stands.writer.committed ∙ none)
 
-grows_given : (future : List Answer) (s t : State) → Grows (given future s) t → Grows s t
-grows_given future s t g = record { asked = g.asked; pieces = g.pieces }
-
 -- memory was wanting before the run began
 pub played_short : {E : Type 0} → ForwardsLeaveFewer → StepsAndPiecesGrow → (served : Served) (status : Status) (page : Page) (params : List Param) (left : ℕ) (stands : State → Type 0) (s : State) (answers : List Answer) (depth : ℕ) (held : Held) (e : E)
     → stands s → s.writer.pieces ≡ [] → Played served status page params left stands s answers answers depth held {E = E} (Err e)
@@ -77,8 +77,8 @@ played_short leaves grows served status page params left stands s answers depth 
   after = s;
   stood = stood;
   ends = λ future. (
-    grows_given future s (state_of (first_run served left page params (given future s))) (first_grows leaves grows served left page params (given future s) none),
-    λ target at_fault. no_head held.head.status held.head.content_type s.writer.pieces (run_answer target at_fault status page params (first_run served left page params (given future s))) none,
+    adds_given future s (state_of (first_run served left page params (given future s))) (first_grows leaves grows served left page params (given future s) none),
+    λ target at_fault. no_head (sent_head held.head s) s.writer.pieces (run_answer target at_fault status page params (first_run served left page params (given future s))) none,
   );
 }
 
@@ -102,7 +102,7 @@ played_of {E = E} leaves grow served status page params left stands s old new de
         let all = run_leaves leaves grow served left page params (given (gone.got ++ future) (at_start page s)) in (
           grows future,
           λ target at_fault.
-              subst (λ x. HeadsSo x held.head.content_type gone.after.writer.pieces (run_answer target at_fault status page params went)) st
-              (subst (λ x. HeadsSo status x gone.after.writer.pieces (run_answer target at_fault status page params went)) ct
-              (run_heads target at_fault status page params left went all gone.after.writer.pieces (grows future).pieces)),
+              subst (λ x. HeadsSo (head_of x held.head.content_type None gone.after) gone.after.writer.pieces (run_answer target at_fault status page params went)) st
+              (subst (λ x. HeadsSo (head_of status x None gone.after) gone.after.writer.pieces (run_answer target at_fault status page params went)) ct
+              (run_heads target at_fault status page params gone.after left went all (grows future))),
         )

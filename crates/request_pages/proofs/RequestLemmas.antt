@@ -7,6 +7,7 @@ use Rattle.http_out.specs.declared.status.Status.TheVariants as status_is
 use Rattle.out_buffer.specs.Held.{Held}
 use Rattle.page_machine.specs.Run.{StandsFor}
 use Rattle.page_made.specs.Pages.{found_as, paged_at}
+use Rattle.page_meaning.proofs.Growing.{asks, both}
 use Rattle.page_meaning.specs.Context.{Paged, Served, absent, bad, good, plain}
 use Rattle.page_meaning.specs.Growth.{Grows}
 use Rattle.page_meaning.specs.Page.{Page}
@@ -15,13 +16,13 @@ use Rattle.page_meaning.specs.Response.{end_state, not_found}
 use Rattle.page_meaning.specs.State.{State}
 use Rattle.page_meaning.specs.Work.{fetched}
 use Rattle.pg_text.specs.declared.place.PageFault.{PageFault}
-use Rattle.request_pages.proofs.ChainLemmas.{grows_on}
 use Rattle.request_pages.proofs.CloseLemmas.{closed_look, plain_grows}
 use Rattle.request_pages.specs.Closed.{Closed, ClosedSo, Reached, first_answers, request_answers}
 use Rattle.request_pages.specs.declared.reply.Reply.{Reply}
 use Rattle.request_pages.specs.Within.{GoesWithin}
 use Rattle.response_laws.specs.Laws.{RunsGrowOn}
 use Rattle.run_world.specs.Origin.{Origin}
+use Rattle.run_world.proofs.Parts.{adds_given}
 use Rattle.run_world.specs.Part.{given}
 use Rattle.run_world.specs.declared.around.Around.{Around}
 use Rattle.scopes.specs.Scopes.{ScopeState}
@@ -32,21 +33,20 @@ use Rattle.source_tree.specs.Edits.{file_at}
 use Rattle.source_tree.specs.declared.file.File.{File}
 
 fetched_grows : (path : List ℕ) (s : State) → Grows s (fetched path s)
-fetched_grows path s = record { asked = (fetch path ∷ [], refl); pieces = ([], sym (append-nil s.writer.pieces)) }
+fetched_grows path s = asks (fetch path) s (fetched path s) refl refl refl
 
 -- what a request's page is answered adds to the steps asked and the pieces committed
 first_grows : RunsGrowOn → (served : Served) (page : Page) (params : List Param) (s : State) (future : List Answer) → s.writer.pieces ≡ [] → Grows s (end_state (first_answers served page params future s))
 first_grows grow served page params s future none =
-    let g = grow.chain served (on_fault served) status_is.Ok level_limit page params (given future s) (grow.error served) none in
-    record { asked = g.asked; pieces = g.pieces }
+    adds_given future s (end_state (first_answers served page params future s)) (grow.chain served (on_fault served) status_is.Ok level_limit page params (given future s) (grow.error served) none)
 
 -- so does what is answered at a path
 path_grows : RunsGrowOn → (served : Served) (params : List Param) (path : List ℕ) (found : Paged) (s : State) (future : List Answer) → s.writer.pieces ≡ [] → Grows s (end_state (path_answer served params path found (given future s)))
 path_grows grow served params path absent s future none = plain_grows s future
 path_grows grow served params path (plain t) s future none = plain_grows s future
-path_grows grow served params path (bad f) s future none = let g = fetched_grows path s in record { asked = g.asked; pieces = g.pieces }
+path_grows grow served params path (bad f) s future none = let g = fetched_grows path s in record { asked = g.asked; pieces = g.pieces; session = g.session }
 path_grows grow served params path (good page) s future none =
-    grows_on s (fetched path s) (end_state (first_answers served page params future (fetched path s))) (fetched_grows path s) (first_grows grow served page params (fetched path s) future none)
+    both s (fetched path s) (end_state (first_answers served page params future (fetched path s))) (fetched_grows path s) (first_grows grow served page params (fetched path s) future none)
 
 open_grows : RunsGrowOn → (served : Served) (params : List Param) (path : List ℕ) (hidden : Bool) (s : State) (future : List Answer) → s.writer.pieces ≡ []
     → Grows s (end_state (if hidden then not_found (given future s) else path_answer served params path (served.pages path) (given future s)))

@@ -12,6 +12,7 @@ use Rattle.page_meaning.specs.Response.{Answered}
 use Rattle.page_meaning.specs.State.{State}
 use Rattle.page_meaning.specs.Went.{Did}
 use Rattle.request_pages.specs.Gone.{IsOpen, TargetSo, gone_answer}
+use Rattle.request_pages.specs.Within.{sent_head}
 use Rattle.request_pages.specs.declared.reply.Gone.{Gone}
 use Rattle.run_world.specs.Part.{given}
 use Rattle.run_world.specs.declared.around.Around.{Around}
@@ -34,7 +35,7 @@ PlayedSo runs status page params left depth held after (Ok g) =
     × ((target : List ℕ → List Param → ℕ → State → Answered) (at_fault : OnFault) (future : List Answer) → run_answer target at_fault status page params (runs future) ≡ gone_answer target at_fault held page params g l (given future after))
 PlayedSo runs status page params left depth held after (Err e) =
     (future : List Answer) → Grows after (state_of (runs future))
-    × ((target : List ℕ → List Param → ℕ → State → Answered) (at_fault : OnFault) → HeadsSo held.head.status held.head.content_type after.writer.pieces (run_answer target at_fault status page params (runs future)))
+    × ((target : List ℕ → List Param → ℕ → State → Answered) (at_fault : OnFault) → HeadsSo (sent_head held.head after) after.writer.pieces (run_answer target at_fault status page params (runs future)))
 
 -- the run of a page from the state in which the request comes to it: the answers that it got, the state in which it ended, and how
 pub record Played (served : Served) (status : Status) (page : Page) (params : List Param) (left : ℕ) (stands : State → Type 0) (s : State) (old new : List Answer) (depth : ℕ) (held : Held) {E : Type 0} (result : Result Gone E) : Type 0 where

@@ -20,8 +20,11 @@ use std::alloc::{AllocError, Global};
 /// What a request keeps while its pages run.
 #[derive(Drop)]
 pub struct Course {
+    /// The variables of the page that runs, and those of the request and its session.
     pub scopes: Scopes,
+    /// What the page that runs has written, behind the head of the response.
     pub writer: Writer,
+    /// What the request keeps across its page runs: the visits, the charge, its session.
     pub around: Around,
 }
 

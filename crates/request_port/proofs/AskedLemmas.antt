@@ -1,17 +1,16 @@
 -- What a call of the port does to what was asked of the request.
-use Rattle.std.proofs.Common.{◌≡◌, ◌⊎◌, inl, inr, ℕ, ◌+◌, ◌-◌, ◌<◌, ◌≤◌, Bool, true, false, List, [], ◌∷◌, ◌++◌, Option, Some, None, refl, sym, ap, subst, ◌∙◌, arith, append-nil}
+use Rattle.std.proofs.Common.{◌≡◌, ◌⊎◌, inl, inr, ℕ, ◌+◌, ◌-◌, ◌<◌, ◌≤◌, Bool, true, false, List, [], ◌∷◌, ◌++◌, Option, Some, None, refl, sym, ap, subst, ◌∙◌, arith}
 use Rattle.std.specs.Prelude.{◌&&◌, ◌*◌, not, if◌then◌else◌, Result, Ok, Err}
 use Rattle.edges.specs.declared.acted.Acted.TheVariants.{Did}
 use Rattle.page_answers.specs.Turns.{all_calls, hit, missed, unoffered}
 use Rattle.pass_course.proofs.CourseLemmas.{done_acts, done_counts, done_stays}
-use Rattle.pass_course.proofs.UnderLemmas.{done_run, under_holds, under_on, under_told}
+use Rattle.pass_course.proofs.UnderLemmas.{under_holds, under_on, under_told}
 use Rattle.pass_course.specs.Course.{HasDone}
 use Rattle.pass_course.specs.Under.{Under, is_under}
 use Rattle.pg_value.proofs.Inverses.{datum_of-value_of}
 use Rattle.pg_value.specs.Attrs.{entry_at}
 use Rattle.pg_value.specs.Datum.{Datum, rec, entries_of}
 use Rattle.pg_value.specs.Limits.{is_over}
-use Rattle.pg_value.specs.Value.{datum_of}
 use Rattle.pg_value.specs.Weight.{weight_of}
 use Rattle.pg_value.specs.declared.value.Value.TheVariants as variant
 use Rattle.request_port.specs.Asked.{asked_after, asked_in, asking_of, left_if, told_after, told_in}
@@ -22,14 +21,13 @@ use Rattle.site_words.proofs.Legal.{legal_rest}
 use Rattle.site_words.proofs.Promise.{app_light, within}
 use Rattle.site_words.specs.Answers.{IsNamed, of_app, of_fresh}
 use Rattle.site_words.specs.App.{app_reply, ensure_reply, value_or_null}
-use Rattle.site_words.specs.Calls.{Acts, Calls, Stays}
+use Rattle.site_words.specs.Calls.{Acts, Calls}
 use Rattle.site_words.specs.Fits.{fits_step, has_run, has_session}
 use Rattle.site_words.specs.Invariants.{IsFit}
-use Rattle.site_words.specs.Law.{Follows, Legal, LegalFrom, May, told, id, own, run_of}
+use Rattle.site_words.specs.Law.{Legal, LegalFrom, May, told, id, own, run_of}
 use Rattle.site_words.specs.Opening.{is_sound, sound_app, sound_counts, sound_sessions, sound_tree}
 use Rattle.site_words.specs.PageSteps as asks
 use Rattle.site_words.specs.Running.{Asking, HasLooked, IsGivenSession, IsPageFile, IsTold, Looks, fits_step_reply, is_page, keeps_limits, look_claim, look_steps, page_claim}
-use Rattle.site_words.specs.Runs.{run_after}
 use Rattle.site_words.specs.State.{after, start_of}
 use Rattle.site_words.specs.Step.{step as step_of}
 use Rattle.site_words.specs.Trees.{Each, Needs}

@@ -1,9 +1,8 @@
 -- How the page at a path is found for a request.
-use Rattle.std.specs.Prelude.{◌≡◌, ◌⊎◌, ℕ, ◌+◌, ◌≤◌, Bool, List, [], ◌∷◌, ◌++◌, true, Result, Ok, Err}
+use Rattle.std.specs.Prelude.{◌≡◌, ◌⊎◌, ℕ, ◌+◌, ◌≤◌, Bool, List, [], ◌∷◌, true, Result, Ok, Err}
 use Rattle.std.specs.List.{list_all}
 use Rattle.page_answers.specs.Turns.{Turn, all_bytes, all_calls, hit, is_whole, missed, page_bytes, unoffered}
 use Rattle.pass_course.specs.Course.{HasDone}
-use Rattle.site_words.specs.Calls.{Acts, Stays}
 use Rattle.site_words.specs.Trees.{Needs}
 use Rattle.site_words.specs.declared.words.Entry.{Entry}
 use Rattle.site_words.specs.declared.words.Op.TheVariants as op

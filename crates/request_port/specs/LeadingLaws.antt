@@ -1,8 +1,7 @@
 -- The laws of what leads from a request's port to a later one.
-use Rattle.std.proofs.Common.{◌≡◌, ◌≤◌, ◌+◌, ℕ, Bool, true, false, List, [], ◌++◌, refl, sym, ap, subst, ◌∙◌, arith}
-use Rattle.std.specs.List.{list_all}
-use Rattle.page_answers.proofs.TurnLemmas.{bytes_join, calls_join, whole_join}
-use Rattle.page_answers.specs.Turns.{Turn, all_bytes, all_calls, is_whole}
+use Rattle.std.proofs.Common.{◌≡◌, ℕ, Bool, true, false, List, [], ◌++◌, refl, sym, ap, subst, ◌∙◌, append-nil, arith}
+use Rattle.page_answers.proofs.TurnLemmas.{but_last_join, bytes_join, calls_join, whole_join}
+use Rattle.page_answers.specs.Turns.{Turn, all_bytes, all_calls, are_whole_but_last}
 use Rattle.pass_course.proofs.CourseLemmas.{courses_join, done_none}
 use Rattle.pass_course.specs.Course.{HasDone}
 use Rattle.request_port.specs.Leading.{Leads}
@@ -10,10 +9,7 @@ use Rattle.request_port.specs.declared.port.RequestPort.{RequestPort}
 use Rattle.site_words.specs.Law.{Legal}
 use Rattle.site_words.specs.Trees.{Needs}
 use Rattle.site_words.specs.declared.words.Entry.{Entry}
-use Rattle.site_words.specs.declared.words.Op.{Op}
 use Rattle.site_words.specs.declared.words.Opening.{Opening}
-use Rattle.site_words.specs.declared.words.Reply.{Reply}
-use Rattle.source_tree.specs.declared.file.File.{File}
 
 -- a course of the same pass and opening
 pub same_done : (needs : Needs) (x y : Opening) (pass other : ℕ) (old new : List Entry) (request number : ℕ) (turns : List Turn) → y ≡ x → other ≡ pass → number ≡ request
@@ -39,8 +35,25 @@ module _ {Q L H : Type 0} {needs : Needs} {pass : Q → ℕ} {opening : Q → Op
     did = λ legal. done_none needs (opening port.port.now) (pass port.port.now) (seen port.port.now) legal;
     read = omega arith;
     last = λ h. h;
+    spent = λ starved. refl;
+    stops = refl;
     whole = λ s. (s, refl, omega arith);
   }
+
+  -- memory that was wanting to find a page stays wanting
+  still_starved : (first second : RequestPort Q L) → Leads needs pass opening home seen first second → first.starved ≡ true → second.starved ≡ true
+  still_starved first second a starved = go second.starved refl
+    where
+      go : (b : Bool) → second.starved ≡ b → b ≡ true
+      go true is = refl
+      go false is = absurd (let fed = (a.whole is).0 in cc)
+
+  joined_stops : (first second third : RequestPort Q L) (a : Leads needs pass opening home seen first second) (b : Leads needs pass opening home seen second third) → are_whole_but_last (a.turns ++ b.turns) ≡ true
+  joined_stops first second third a b = go second.starved refl
+    where
+      go : (starved : Bool) → second.starved ≡ starved → are_whole_but_last (a.turns ++ b.turns) ≡ true
+      go true is = ap (λ more. are_whole_but_last (a.turns ++ more)) (b.spent is) ∙ (ap are_whole_but_last (append-nil a.turns) ∙ a.stops)
+      go false is = but_last_join a.turns b.turns (a.whole is).1 b.stops
 
   pub leads_on : (first second third : RequestPort Q L) → Leads needs pass opening home seen first second → Leads needs pass opening home seen second third → Leads needs pass opening home seen first third
   leads_on first second third a b =
@@ -60,6 +73,8 @@ module _ {Q L H : Type 0} {needs : Needs} {pass : Q → ℕ} {opening : Q → Op
             (b.did (subst (λ x. Legal needs x (seen second.port.now)) (sym a.same.1) done.is_legal)));
         read = let r = a.read in let q = b.read in omega (arith, bytes, same, r, q);
         last = λ h. b.last (a.last h);
+        spent = λ starved. ap (λ turns. turns ++ b.turns) (a.spent starved) ∙ b.spent (still_starved first second a starved);
+        stops = joined_stops first second third a b;
         whole = λ s.
             let w = b.whole s in
             let v = a.whole w.0 in

@@ -12,14 +12,17 @@ use std::sync::Arc;
 /// What a running page asks of its request, over the port on which the request was begun.
 #[derive(Drop)]
 pub struct RequestPort<'a, Q, L: Ledger> {
+    /// Where the pages that are made stand.
     pub alloc: Global,
+    /// The port of the connection.
     pub port: &'a mut Q,
     /// The bytes that were read to make pages.
     pub steps: &'a mut Steps<L>,
     /// The tree that was the latest when the request began.
     pub tree: &'a Tree,
+    /// The number of the request on its port.
     pub request: u64,
-    /// Whether memory was ever wanting to find a page.
+    /// Whether memory was ever wanting to find a page; from then on no step is done.
     pub starved: bool,
     /// The page that was found last, with its path.
     pub last: Option<(Path, Arc<Made>)>,
@@ -71,11 +74,17 @@ impl<'a, Q: Port<Made>, L: Ledger> AppPort<Program> for RequestPort<'a, Q, L> {
 
     fn app(&mut self, step: AppStep) -> Result<AppReply, AllocError> {
         self.port.law();
+        if self.starved {
+            return Err(AllocError);
+        }
         self.port.app(self.request, step)
     }
 
     fn fresh(&mut self) -> Result<Fresh, AllocError> {
         self.port.law();
+        if self.starved {
+            return Err(AllocError);
+        }
         self.port.fresh(self.request)
     }
 
@@ -86,6 +95,9 @@ impl<'a, Q: Port<Made>, L: Ledger> AppPort<Program> for RequestPort<'a, Q, L> {
         };
         if !is_page(path) {
             return Ok(Paged::Plain(file.text.copy()?));
+        }
+        if self.starved {
+            return Err(AllocError);
         }
         match find(
             self.alloc,

@@ -100,8 +100,8 @@ returns-clause-ran g c = λ session attrs begun.
     let runs = runs_unless x pass p new now.steps.now after sent counted now.starved c.answer-replied.result c.come_back.result c.come_back.ensures.starved c.come_back.ensures.fed
     (λ fed.
     let whole = leads.whole fed in
-    ran_whole x pass p new leads.turns did o.2.asked o.2.told now.request now.tree.now s answers means after sent counted c.answer-replied.result c.answer-replied.ensures.headed here now.steps.now whole.1 whole.2)
-    (ran_short x pass p new leads.turns did o.2.asked o.2.told now.request now.tree.now s answers means after sent counted c.answer-replied.result c.answer-replied.ensures.headed here now.steps.now leads.read) in
+    ran_whole x pass p new leads.turns did leads.stops o.2.asked o.2.told now.request now.tree.now s answers means after sent counted c.answer-replied.result c.answer-replied.ensures.headed here now.steps.now whole.1 whole.2)
+    (ran_short x pass p new leads.turns did leads.stops o.2.asked o.2.told now.request now.tree.now s answers means after sent counted c.answer-replied.result c.answer-replied.ensures.headed here now.steps.now leads.read) in
     runs_back g.Q.Port.opening g.Q.Port.pass g.Q.Port.seen c.come_back.result x pass p after sent counted _ now.port.now _ now.steps.now (c.port-1.given.1 (sym leads.port) ∙ c.come_back.ensures.port) (c.steps-1.given.1 (sym leads.steps) ∙ c.come_back.ensures.steps) runs
 
 pub returns-clause-in_order : goal.returns-clause-in_order

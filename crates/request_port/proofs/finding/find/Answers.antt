@@ -1,4 +1,4 @@
-use Rattle.std.proofs.Common.{ap, subst, sym, ◌+◌, ◌≤◌, arith}
+use Rattle.std.proofs.Common.{◌+◌, ◌≤◌, arith}
 use Rattle.std.specs.Arc.{arc_value}
 use Rattle.page_made.specs.Made.{IsMade}
 use Rattle.page_made.specs.Pages.{needs_at}
@@ -7,7 +7,6 @@ use Rattle.request_port.proofs.FindLemmas.{fetched_on, found_hit, found_missed, 
 use Rattle.request_port.proofs.finding.find.Goals as goal
 use Rattle.site_words.specs.Weights.{end_weight, op_weight}
 use Rattle.site_words.specs.declared.words.Op.TheVariants as op
-use Rattle.site_words.specs.declared.words.Reply.TheVariants as reply
 
 pub make-requires-clause-under : goal.make-requires-clause-under
 make-requires-clause-under g c =

@@ -15,6 +15,9 @@ returns-in_err-copy-clause-leads g c = leads_here c.args.self.now
 pub returns-then-not-is_page-clause-leads : goal.returns-then-not-is_page-clause-leads
 returns-then-not-is_page-clause-leads g c = leads_here c.args.self.now
 
+pub returns-then-self-clause-leads : goal.returns-then-self-clause-leads
+returns-then-self-clause-leads g c = leads_here c.args.self.now
+
 pub find-requires-clause-under : goal.find-requires-clause-under
 find-requires-clause-under g c =
     let w = c.args.self.now in
@@ -35,7 +38,7 @@ pub returns-in-Ok-clause-leads : goal.returns-in-Ok-clause-leads
 returns-in-Ok-clause-leads g c =
     let w = c.args.self.now in
     leads_found g.Q.Port.pass g.Q.Port.opening g.Q.Port.home g.Q.Port.seen w c.find.new.port c.find.new.steps c.args.path.now _ c.in-Ok.made c.tell.new.last refl c.find.ensures.same c.in-Ok.ensures.found
-    (c.tell.ensures.last w.tree.now c.in-Ok.ensures.made)
+    (c.tell.ensures.last w.tree.now c.in-Ok.ensures.made) c.if-self.false
 
 pub returns-in-Err-clause-looked : goal.returns-in-Err-clause-looked
 returns-in-Err-clause-looked g c =
