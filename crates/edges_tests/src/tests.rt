@@ -1,8 +1,8 @@
 ghost use Rattle.std.specs.Prelude.{◌≡◌, ◌<◌, IfOk};
 
 use edges::{
-    Clock, Counting, Failed, Gate, MemClock, MemSink, MemSource, OpenGate, ReadSource, Sink,
-    Source, Steps, Unseen, WriteSink,
+    Accept, Accepted, Bind, Clock, Clocks, Counting, Failed, Gate, MemClock, MemSink, MemSource,
+    NotedClock, OpenGate, ReadSource, Sink, Source, Steps, StillClock, Unseen, WriteSink,
 };
 use std::alloc::AllocError;
 use std::io;
@@ -100,8 +100,87 @@ fn a_clock_in_memory_keeps_its_last_moment(rt: HostRuntime) -> Result<(), Fail> 
     for wanted in [5, 3, 3] {
         assert_eq!(rt; clock.now(), wanted);
     }
+    assert_eq!(rt; clock.left(), 1);
     OpenGate.pass(0);
     Ok(())
+}
+
+#[test]
+fn a_clock_notes_what_another_answers(rt: HostRuntime) -> Result<(), Fail> {
+    let moments = Vec::from_array(rt.alloc(), [5, 3])?;
+    let mut clock = NotedClock::new(rt.alloc(), MemClock::new(moments));
+    assert_eq!(rt; clock.noted(), Some([].as_slice()));
+    for wanted in [5, 3, 3] {
+        assert_eq!(rt; clock.now(), wanted);
+    }
+    assert_eq!(rt; clock.noted(), Some([5, 3, 3].as_slice()));
+    Ok(())
+}
+
+// The moment of a clock that was made.
+fn first_moment<W: Clocks>(clocks: &W) -> u64 {
+    clocks.clock().now()
+}
+
+#[test]
+fn a_clock_that_stands_makes_such_clocks(rt: HostRuntime) {
+    assert_eq!(rt; first_moment(&StillClock { moment: 7 }), 7);
+}
+
+// A listener whose rounds are over at once.
+#[derive(Clone, Copy, Drop)]
+struct Quiet;
+
+impl Accept for Quiet {
+    type From = MemSource;
+
+    type Into = MemSink;
+
+    type Closing = u64;
+
+    fn accept(&self, _faults: &mut u64) -> Result<Accepted<MemSource, MemSink, u64>, Failed> {
+        Ok(Accepted::Closed(1))
+    }
+
+    fn renew(&mut self) {}
+}
+
+// Binds each port but 0.
+#[derive(Drop)]
+struct Ports {
+    faults: u64,
+}
+
+impl Bind for Ports {
+    type On = Quiet;
+
+    ghost faults = { λ ports. ports.faults };
+
+    fn bind(&mut self, port: u16, _round: Option<u32>) -> Result<Quiet, Failed> {
+        if port == 0 {
+            self.faults = self.faults.saturating_add(1);
+            return Err(Failed);
+        }
+        Ok(Quiet)
+    }
+}
+
+// Binds a port, and says whether its round was over at once, and then again in a new one.
+fn is_quiet<B: Bind>(ports: &mut B, port: u16) -> Result<bool, Failed> {
+    let mut listener = ports.bind(port, Some(0))?;
+    let mut faults = 0;
+    let first = listener.accept(&mut faults)?;
+    listener.renew();
+    let second = listener.accept(&mut faults)?;
+    Ok(matches!(first, Accepted::Closed(_)) && matches!(second, Accepted::Closed(_)))
+}
+
+#[test]
+fn a_listener_gives_its_mark(rt: HostRuntime) {
+    let mut ports = Ports { faults: 0 };
+    for (port, wanted) in [(80, Ok(true)), (0, Err(Failed))] {
+        assert_eq!(rt; is_quiet(&mut ports, port), wanted);
+    }
 }
 
 // Counts 2 and 3, and tells what is kept.

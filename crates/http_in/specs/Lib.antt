@@ -1,4 +1,5 @@
 pub mod Cookie
+pub mod FaultNumber
 pub mod Faults
 pub mod Fields
 pub mod Head

@@ -1,3 +1,6 @@
+ghost use Rattle.std.specs.Prelude.{◌≡◌};
+ghost use Rattle.http_in.specs.FaultNumber.{fault_number};
+
 use thiserror::Error;
 
 /// Why a request could not be read. After a fault the connection has no further requests.
@@ -19,4 +22,22 @@ pub enum HttpFault {
     CutOff,
     #[error("the source failed")]
     ReadFault,
+}
+
+impl HttpFault {
+    /// The number of the fault, as a recorded talk names it.
+    pub fn number(self) -> u8
+        ensures { result ≡ fault_number self }
+    {
+        match self {
+            HttpFault::HeadTooLarge => 1,
+            HttpFault::BadHead => 2,
+            HttpFault::WrongVersion => 3,
+            HttpFault::ChunkedRequest => 4,
+            HttpFault::BadLength => 5,
+            HttpFault::BodyTooLarge => 6,
+            HttpFault::CutOff => 7,
+            HttpFault::ReadFault => 8,
+        }
+    }
 }
