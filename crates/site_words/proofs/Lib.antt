@@ -13,3 +13,4 @@ pub mod Charge
 pub mod Apart
 pub mod Counts
 pub mod RunTree
+pub mod WordsCross

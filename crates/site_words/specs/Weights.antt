@@ -1,5 +1,5 @@
 -- What operations, replies and entries weigh.
-use Rattle.std.specs.Prelude.{ℕ, ◌+◌, ◌-◌, ◌^◌, min, length, List, [], ◌∷◌}
+use Rattle.std.specs.Prelude.{ℕ, ◌+◌, ◌-◌, ◌^◌, min, nat_lt, length, List, [], ◌∷◌, Option, Some, None, if◌then◌else◌}
 use Rattle.source_tree.specs.declared.edit.Edit.{Edit}
 use Rattle.source_tree.specs.declared.edit.Edit.TheVariants.{Put, Delete}
 use Rattle.pg_value.specs.Weight.{weight_of}
@@ -17,6 +17,10 @@ use Rattle.site_words.specs.declared.words.Reply.TheVariants as reply
 -- a weight as a number of 64 bits
 abbrev pub capped : ℕ → ℕ
 capped n = min n (2 ^ 64 - 1)
+
+-- a weight where 64 bits hold it; one that they don't hold is over every limit
+abbrev pub weight_held : ℕ → Option ℕ
+weight_held n = if nat_lt n (2 ^ 64) then Some n else None
 
 -- the most bytes of a cookie
 abbrev pub most_cookie : ℕ

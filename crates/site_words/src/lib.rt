@@ -16,7 +16,7 @@ pub use copies::{copy_op, copy_reply, copy_step};
 pub use edges::Acted;
 pub use ids::word;
 pub use port::{Begun, Fresh, Port, Published, Snapped};
-pub use weights::{entry_weight, is_over, op_weight, reply_weight};
+pub use weights::{entry_weight, is_over, op_weight, publishing_weight, reply_weight};
 pub use words::{
     AppReply, AppStep, Entry, KeptSession, KeptSessions, Op, Opening, Refusal, Reply, Run,
 };

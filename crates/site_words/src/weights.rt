@@ -1,5 +1,5 @@
-ghost use Rattle.std.specs.Prelude.{◌≡◌, ◌+◌, ◌-◌, ◌^◌, ◌≤◌, nat_lt, min, length};
-ghost use Rattle.site_words.specs.Weights.{capped, text_weight, edit_weight, edits_weight, names_weight, step_weight, answer_weight, op_weight, reply_weight, weight_with};
+ghost use Rattle.std.specs.Prelude.{◌≡◌, ◌+◌, ◌-◌, ◌^◌, ◌≤◌, nat_lt, min, length, ℕ};
+ghost use Rattle.site_words.specs.Weights.{answer_weight, capped, edit_weight, edits_weight, names_weight, op_weight, reply_weight, step_weight, text_weight, weight_held, weight_with};
 
 use crate::words::{AppReply, AppStep, Entry, Op, Reply};
 use pg_text::Names;
@@ -11,35 +11,48 @@ fn text_weight(bytes: usize) -> u64
     (bytes as u64).saturating_add(16)
 }
 
-fn edit_weight(edit: &Edit) -> u64
-    ensures { result ≡ capped (edit_weight edit.now) }
+// None where 64 bits don't hold the weight.
+fn edit_weight(edit: &Edit) -> Option<u64>
+    ensures { result ≡ weight_held (edit_weight edit.now) }
 {
     match edit {
         Edit::Put(path, text) => {
-            text_weight(path.as_bytes().len()).saturating_add(text_weight(text.len()))
+            text_weight(path.as_bytes().len()).checked_add(text_weight(text.len()))
         }
-        Edit::Delete(path) => text_weight(path.as_bytes().len()),
+        Edit::Delete(path) => Some(text_weight(path.as_bytes().len())),
     }
 }
 
-fn edits_weight(edits: &Edits) -> u64
-    ensures { result ≡ capped (edits_weight edits.now) }
+// None where 64 bits don't hold the weight.
+fn edits_weight(edits: &Edits) -> Option<u64>
+    ensures { result ≡ weight_held (edits_weight edits.now) }
 {
     let mut weight: u64 = 0;
     for edit in edits.as_slice() {
-        weight = weight.saturating_add(edit_weight(edit));
+        weight = weight.checked_add(edit_weight(edit)?)?;
     }
-    weight
+    Some(weight)
 }
 
-fn names_weight(names: &Names) -> u64
-    ensures { result ≡ capped (names_weight names.now) }
+// None where 64 bits don't hold the weight.
+fn names_weight(names: &Names) -> Option<u64>
+    ensures { result ≡ weight_held (names_weight names.now) }
 {
     let mut weight: u64 = 0;
     for name in names.as_slice() {
-        weight = weight.saturating_add(text_weight(name.as_bytes().len()));
+        weight = weight.checked_add(text_weight(name.as_bytes().len()))?;
     }
-    weight
+    Some(weight)
+}
+
+/// What the entry of a publishing weighs, with the reply that names what it made old. None where 64 bits don't hold the weight,
+/// which is then over every limit.
+pub fn publishing_weight(edits: &Edits, dirty: &Names) -> Option<u64>
+    ensures { result ≡ weight_held (64 + edits_weight edits.now + names_weight dirty.now) }
+{
+    edits_weight(edits)?
+        .checked_add(64)?
+        .checked_add(names_weight(dirty)?)
 }
 
 fn step_weight(step: &AppStep) -> u64
@@ -58,12 +71,19 @@ fn step_weight(step: &AppStep) -> u64
     }
 }
 
+// A weight that stops at the greatest `u64`.
+fn stopped(weight: Option<u64>) -> u64
+    ensures { (n : ℕ) → weight ≡ weight_held n → result ≡ capped n }
+{
+    weight.unwrap_or(u64::MAX)
+}
+
 /// The weight of an operation, which stops at the greatest `u64`.
 pub fn op_weight(op: &Op) -> u64
     ensures { result ≡ capped (op_weight op.now) }
 {
     match op {
-        Op::Publish { base: _, edits } => edits_weight(edits).saturating_add(64),
+        Op::Publish { base: _, edits } => stopped(edits_weight(edits)).saturating_add(64),
         Op::Begin { cookie, moment: _ } => text_weight(cookie.len()).saturating_add(64),
         Op::App { request: _, step } => step_weight(step).saturating_add(64),
         Op::Fresh { .. } => 64,
@@ -92,7 +112,7 @@ pub fn reply_weight(reply: &Reply) -> u64
     ensures { result ≡ capped (reply_weight reply.now) }
 {
     match reply {
-        Reply::Published { version: _, dirty } => names_weight(dirty),
+        Reply::Published { version: _, dirty } => stopped(names_weight(dirty)),
         Reply::App(answer) => answer_weight(answer),
         _ => 0,
     }
