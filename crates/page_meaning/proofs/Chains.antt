@@ -138,7 +138,7 @@ module _ (left : ℕ) (target : List ℕ → List Param → ℕ → State → An
       record { grows = h.grows; goes_on = λ more. ap (run_answer target at_fault status page params) (h.goes_on more); pieces = sym h.leaves }
   run_at s (Awaits step t) ds h leaves = record {
     grows = h.grows;
-    goes_on = λ more. ((h.goes_on more).0, run_asks step t more (ds more) (leaves more) (h.goes_on more).1);
+    goes_on = λ more. ((h.goes_on more).0, run_asks step t more (ds more) (leaves more) (h.goes_on more).1, (h.goes_on more).2);
     pieces = tt;
   }
 

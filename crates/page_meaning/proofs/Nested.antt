@@ -69,7 +69,7 @@ passed left change passes s (Ended leaving t) ws h = record {
 passed left change passes s (Awaits step t) ws h =
     let at : OrderlyAt left s (Awaits step t) (λ more. change (ws more)) = record {
       grows = h.grows;
-      goes_on = λ more. ((h.goes_on more).0, passed_asks left change passes step t more (ws more) (h.goes_on more).1);
+      goes_on = λ more. ((h.goes_on more).0, passed_asks left change passes step t more (ws more) (h.goes_on more).1, (h.goes_on more).2);
       leaves = tt;
     } in
     subst (λ w. OrderlyAt left s w (λ more. change (ws more))) (sym (passes.awaits step t)) at
@@ -166,7 +166,7 @@ DeepOrderly left (deeper l run) = (l < left) × ((nodes : Nodes) (here : Here) �
 -- a session's start
 started_at : (left : ℕ) (s : State) (answers : List Answer) → s.answers ≡ answers → has_committed s.writer ≡ false
     → OrderlyAt left s (session_started answers s) (λ more. session_started (answers ++ more) (with_more more s))
-started_at left s [] none free = record { grows = same s; goes_on = λ more. (none, waits more); leaves = tt }
+started_at left s [] none free = record { grows = same s; goes_on = λ more. (none, waits more, refl); leaves = tt }
   where
     waits : (more : List Answer) → AsksOn fresh s more (session_started more (with_more more s))
     waits [] = refl

@@ -76,7 +76,7 @@ module _ {left : ℕ} where
   then_at s (Ended leaving t) ws go h next = record { grows = h.grows; goes_on = λ more. ap (λ x. then_do x go) (h.goes_on more); leaves = h.leaves }
   then_at s (Awaits step t) ws go h next = record {
     grows = h.grows;
-    goes_on = λ more. ((h.goes_on more).0, then_asks step t more (ws more) go next (h.goes_on more).1);
+    goes_on = λ more. ((h.goes_on more).0, then_asks step t more (ws more) go next (h.goes_on more).1, (h.goes_on more).2);
     leaves = tt;
   }
 
@@ -99,7 +99,7 @@ module _ {left : ℕ} where
   tidied_at change calm s (Ended leaving t) ws h = record { grows = h.grows; goes_on = λ more. ap (tidied change) (h.goes_on more); leaves = h.leaves }
   tidied_at change calm s (Awaits step t) ws h = record {
     grows = h.grows;
-    goes_on = λ more. ((h.goes_on more).0, tidied_asks change calm step t more (ws more) (h.goes_on more).1);
+    goes_on = λ more. ((h.goes_on more).0, tidied_asks change calm step t more (ws more) (h.goes_on more).1, (h.goes_on more).2);
     leaves = tt;
   }
 

@@ -58,7 +58,7 @@ module _ {left : ℕ} where
   -- an answer is used, or waited for
   answer_orderly : (x : AppStep) (s : State) (answers : List Answer) → s.answers ≡ answers
       → OrderlyAt left s (answer_from x answers s) (λ more. answer_from x (answers ++ more) (with_more more s))
-  answer_orderly x s [] none = record { grows = same s; goes_on = λ more. (none, waits more); leaves = tt }
+  answer_orderly x s [] none = record { grows = same s; goes_on = λ more. (none, waits more, refl); leaves = tt }
     where
       waits : (more : List Answer) → AsksOn (app x) s more (answer_from x more (with_more more s))
       waits [] = refl

@@ -1,10 +1,10 @@
 -- What a run adds to a request's state, and what it does under more answers.
-use Rattle.std.specs.Prelude.{◌≡◌, ◌<◌, ℕ, Bool, true, List, [], ◌∷◌, ◌++◌, Option}
+use Rattle.std.specs.Prelude.{◌≡◌, ◌<◌, ℕ, Bool, true, false, List, [], ◌∷◌, ◌++◌, Option}
 use Rattle.edges.specs.History.{IsFront}
 use Rattle.out_buffer.specs.Writer.{has_committed}
 use Rattle.site_words.specs.Law.{Answer}
 use Rattle.page_meaning.specs.State.{State}
-use Rattle.site_words.specs.PageSteps.{Step}
+use Rattle.site_words.specs.PageSteps.{Step, app, fresh, fetch}
 use Rattle.page_meaning.specs.Went.{Went, Well, Raised, Ended, Awaits, Leaving, forwards, redirects}
 
 -- the state in which a part went or waits
@@ -32,17 +32,24 @@ pub record Grows (s t : State) : Type 0 where
   pub pieces : IsFront s.writer.pieces t.writer.pieces
   pub session : has_committed s.writer ≡ true → session_of t ≡ session_of s
 
+-- whether a step has an answer
+abbrev pub takes_answer : Step → Bool
+takes_answer (app step) = true
+takes_answer fresh = true
+takes_answer (fetch path) = false
+
 -- what waited for a step waits for it still, or, where there is an answer, has asked it and gone on
 abbrev pub AsksOn : {A : Type 0} → Step → State → List Answer → Went A → Type 0
 AsksOn step s [] w = w ≡ Awaits step (with_more [] s)
 AsksOn step s (answer ∷ rest) w = Grows (with_asked step s) (state_of w)
 
--- under more answers a part goes as it went, and leaves these answers; where it waited for a step, none was left, and it goes on from there
+-- under more answers a part goes as it went, and leaves these answers; where it waited for a step, none was left, it goes on from there, and the
+-- step is one that has an answer
 abbrev pub GoesOn : {A : Type 0} → List Answer → Went A → Went A → Type 0
 GoesOn more (Well a s) w = w ≡ Well a (with_more more s)
 GoesOn more (Raised fault place s) w = w ≡ Raised fault place (with_more more s)
 GoesOn more (Ended leaving s) w = w ≡ Ended leaving (with_more more s)
-GoesOn more (Awaits step s) w = (s.answers ≡ []) × AsksOn step s more w
+GoesOn more (Awaits step s) w = (s.answers ≡ []) × AsksOn step s more w × (takes_answer step ≡ true)
 
 -- a forward leaves fewer levels, and nothing was committed before a forward or a redirect
 abbrev pub LeavesBy : (left : ℕ) → Leaving → State → Type 0

@@ -1,5 +1,5 @@
 -- Laws of the meaning: what is true of every run.
-use Rattle.std.specs.Prelude.{◌≡◌, ◌≤◌, ℕ, suc, List, [], ◌∷◌, ◌++◌, Option}
+use Rattle.std.specs.Prelude.{◌≡◌, ◌≤◌, ℕ, suc, true, List, [], ◌∷◌, ◌++◌, Option}
 use Rattle.el_reader.specs.Tree.{Tree, Trees, Pairs}
 use Rattle.http_in.specs.declared.params.Param.{Param}
 use Rattle.http_in.specs.declared.request.Request.{Request}
@@ -14,7 +14,7 @@ use Rattle.page_meaning.specs.Attributes.{Coercion}
 use Rattle.page_meaning.specs.Context.{Served, Run, Here, in_tag, Called, source_text, body_nodes, Paged, no_deeper, deeper}
 use Rattle.page_meaning.specs.Expressions.{ev, ev_all, ev_pairs}
 use Rattle.page_meaning.specs.Fragments.{fragment_mean}
-use Rattle.page_meaning.specs.Growth.{state_of, with_more, with_asked, Grows, GoesOn, Leaves}
+use Rattle.page_meaning.specs.Growth.{state_of, with_more, with_asked, Grows, GoesOn, Leaves, takes_answer}
 use Rattle.page_meaning.specs.Includes.{include_path, forward_path}
 use Rattle.page_meaning.specs.Meaning.{node_mean, nodes_mean, attributes_mean, params_mean, branches_mean, below}
 use Rattle.page_meaning.specs.Page.{Page, Node, Nodes, Attributes, Params, Branches}
@@ -73,10 +73,11 @@ abbrev pub RequestAsksOn : Step → State → List Answer → Answered → Type 
 RequestAsksOn step s [] a = a ≡ awaits step (with_more [] s)
 RequestAsksOn step s (answer ∷ rest) a = Grows (with_asked step s) (end_state a)
 
--- under more answers a request is answered as it was; where it waited for a step, no answer was left, and it goes on from there
+-- under more answers a request is answered as it was; where it waited for a step, no answer was left, it goes on from there, and the step is one that
+-- has an answer
 abbrev pub RequestGoesOn : List Answer → Answered → Answered → Type 0
 RequestGoesOn more (responds response s) a = a ≡ responds response (with_more more s)
-RequestGoesOn more (awaits step s) a = (s.answers ≡ []) × RequestAsksOn step s more a
+RequestGoesOn more (awaits step s) a = (s.answers ≡ []) × RequestAsksOn step s more a × (takes_answer step ≡ true)
 
 -- a request goes on so
 abbrev pub RequestsGoOn : Type 0
