@@ -16,7 +16,7 @@ use Rattle.page_answers.specs.Standing.{Standing, session_found, standing_of, tr
 use Rattle.page_answers.specs.Turns.{Turn, all_bytes, all_calls, answers_of, are_whole_but_last, is_whole, steps_of}
 use Rattle.page_made.specs.Pages.{needs_at, paged_at}
 use Rattle.page_meaning.proofs.Growing.{quiet}
-use Rattle.page_meaning.specs.Growth.{Grows}
+use Rattle.page_meaning.specs.Growth.{Grows, IsOrdered}
 use Rattle.page_meaning.specs.Respond.{respond}
 use Rattle.page_meaning.specs.Response.{closing, end_state, head_of, responds}
 use Rattle.page_meaning.specs.State.{State}
@@ -69,6 +69,7 @@ replies_starve x pass p new now course taken faults reply replies = record {
   stops = whole_but_last replies.ran.turns replies.whole;
   did = replies.ran.did;
   asked = replies.ran.asked;
+  ordered = replies.ran.stood.ordered;
   read = let r = replies.read in omega (arith, r);
   means = λ more. subst (GoesWithin course.writer.head replies.ran.after) (sym (replies.means more)) (reply_within course.writer reply more replies.ran.after replies.is_open);
 }
@@ -110,10 +111,10 @@ module _ (x : Opening) (pass : ℕ) (old : Standing) (ahead : Option (List ℕ))
       })
 
   -- it was abandoned
-  pub dropped : (turns : List Turn) (reached : State) (text : List ℕ) (head : Head) → are_whole_but_last turns ≡ true → reached.asked ≡ steps_of turns → ((more : List Answer) → GoesWithin head reached (meant p (answers_of x.seed turns ++ more)))
+  pub dropped : (turns : List Turn) (reached : State) (text : List ℕ) (head : Head) → are_whole_but_last turns ≡ true → reached.asked ≡ steps_of turns → IsOrdered reached → ((more : List Answer) → GoesWithin head reached (meant p (answers_of x.seed turns ++ more)))
       → HasDone needs_at x pass p.begun new (all_calls p.number turns ++ (op.Abandon p.number, reply.Dropped) ∷ []) → now ≤ p.steps + all_bytes p.tree turns
       → text ≡ dropped_text (sent_head head reached) p.close p.shown reached.writer.pieces → Drops needs_at x pass p.request p.close old text (standing_of new ahead now)
-  dropped turns reached text head stops asked means did read text_is =
+  dropped turns reached text head stops asked ordered means did read text_is =
       drops_taken needs_at x pass p.request p.close old text (standing_of new ahead now) begun.takes
       (record {
         moment = begun.moment;
@@ -125,6 +126,7 @@ module _ (x : Opening) (pass : ℕ) (old : Standing) (ahead : Option (List ℕ))
           whole = stops;
           reached = reached;
           asked = asked;
+          ordered = ordered;
           means = λ more. subst (λ a. Grows reached (end_state a)) (sym (meant_is (answers_of x.seed turns ++ more))) (means more).0;
           did = subst (λ n. HasDone needs_at x pass p.begun new (all_calls n turns ++ (op.Abandon n, reply.Dropped) ∷ [])) begun.number did;
           read = subst (λ n. now ≤ n) (read_is turns) read;
@@ -151,5 +153,5 @@ module _ (x : Opening) (pass : ℕ) (old : Standing) (ahead : Option (List ℕ))
   pub starved_drop : (mid : List Entry) (reached : State) (text : List ℕ) (head : Head) → Starves x pass p mid now head reached → HasDone needs_at x pass mid new ((op.Abandon p.number, reply.Dropped) ∷ [])
       → text ≡ dropped_text (sent_head head reached) p.close p.shown reached.writer.pieces → Drops needs_at x pass p.request p.close old text (standing_of new ahead now)
   starved_drop mid reached text head starves abandoned text_is =
-      dropped starves.turns reached text head starves.stops starves.asked starves.means
+      dropped starves.turns reached text head starves.stops starves.asked starves.ordered starves.means
       (courses_join needs_at x pass p.begun mid new (all_calls p.number starves.turns) ((op.Abandon p.number, reply.Dropped) ∷ []) starves.did abandoned) starves.read text_is

@@ -116,6 +116,7 @@ module _ (cookie : List ℕ) (session : Option ℕ) (attrs : Entries) (close sho
     begun_stands taken faults = record {
       scopes = ap starting (starts_so cookie attrs session) ∙ sym begun.scopes;
       asked = sym (ap (λ (a : Asking). a.asked) (opened_asking x pass seen number held tree opened));
+      ordered = (refl, tt);
       writer = subst (λ held. Stands taken faults held taken faults (empty_writer None true)) (sym begun.writer) (fresh_stands (empty_head close) shown taken faults);
       visits = sym (ap (λ (a : Around). a.visits) begun.around);
       charge = sym (ap (λ (a : Around). a.charge) begun.around);
@@ -191,6 +192,7 @@ module _ (x : Opening) (pass : ℕ) (p : Start) (new : List Entry) (turns : List
         stops = stops;
         did = did;
         asked = ran.asked;
+        ordered = closed.stood.ordered;
         read = read;
         means = λ more. subst (GoesWithin course.writer.head closed.after) (sym (meant_so more)) (closed_within (λ future. answers (closed.got ++ future) s) course.writer closed.after result closed.ends more);
       },

@@ -14,6 +14,7 @@ use Rattle.site_words.specs.Law.{Legal}
 use Rattle.site_words.specs.declared.words.Entry.{Entry}
 use Rattle.site_words.specs.declared.words.Opening.{Opening}
 use Rattle.source_tree.specs.declared.file.File.{File}
+use Rattle.page_meaning.proofs.Growing.{behind_none}
 
 -- the same of a port that is told to be the same
 pub at_same : (F : Opening → ℕ → Type 0) (x y : Opening) (pass other : ℕ) → y ≡ x → other ≡ pass → F y other → F x pass
@@ -33,8 +34,9 @@ begun_starves x pass p head legal = record {
   stops = refl;
   did = done_none needs_at x pass p.begun legal;
   asked = refl;
+  ordered = (refl, tt);
   read = omega arith;
-  means = λ more. (record { asked = front_none _; pieces = front_none _; session = λ committed. absurd (cc) }, tt);
+  means = λ more. (record { asked = front_none _; order = (_, refl, behind_none [] refl _); pieces = front_none _; session = λ committed. absurd (cc) }, tt);
 }
 
 -- nothing was sent yet

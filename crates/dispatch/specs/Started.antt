@@ -29,6 +29,7 @@ use Rattle.site_words.specs.Running.{Asking}
 use Rattle.site_words.specs.declared.words.Entry.{Entry}
 use Rattle.site_words.specs.declared.words.Opening.{Opening}
 use Rattle.source_tree.specs.declared.file.File.{File}
+use Rattle.page_meaning.specs.Growth.{IsOrdered}
 
 -- a request that has just begun: how it is answered, its number, its tree and the session that it found; what the pass had seen and what was
 -- read when it began; and what the sink had taken then, and its count of faults
@@ -105,6 +106,7 @@ pub record Starves (x : Opening) (pass : ℕ) (p : Start) (new : List Entry) (no
   pub stops : are_whole_but_last turns ≡ true
   pub did : HasDone needs_at x pass p.begun new (all_calls p.number turns)
   pub asked : reached.asked ≡ steps_of turns
+  pub ordered : IsOrdered reached
   pub read : now ≤ p.steps + all_bytes p.tree turns
   pub means : (more : List Answer) → GoesWithin head reached (meant p (answers_of x.seed turns ++ more))
 

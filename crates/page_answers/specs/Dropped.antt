@@ -5,7 +5,7 @@ use Rattle.http_in.specs.declared.request.Request.{Request}
 use Rattle.http_out.specs.Response.{no_memory}
 use Rattle.http_out.specs.declared.head.Head.{Head}
 use Rattle.out_buffer.specs.Streamed.{opened}
-use Rattle.page_meaning.specs.Growth.{Grows}
+use Rattle.page_meaning.specs.Growth.{Grows, IsOrdered}
 use Rattle.page_meaning.specs.Respond.{respond}
 use Rattle.page_meaning.specs.Response.{Answered, awaits, end_state, responds}
 use Rattle.page_meaning.specs.State.{State}
@@ -44,7 +44,8 @@ pub record IsUnbegun (needs : Needs) (x : Opening) (pass : ℕ) (old : Standing)
   pub text_is : text ≡ []
 
 -- the request was begun, did a front of the steps that its pages ask, whatever they would be told next, the last of them perhaps without its
--- Offer, and was abandoned; what it had committed stands at the front of what they commit, behind the head of their response
+-- Offer, and was abandoned; what it had committed stands at the front of what they commit, behind the head of their response. All that they commit
+-- before a step which was done was committed, and nothing that they commit behind a step which wasn't
 pub record IsDropped (needs : Needs) (x : Opening) (pass : ℕ) (request : Request) (close : Bool) (old : Standing) (text : List ℕ) (new : Standing) (moment : ℕ) : Type 0 where
   pub begun : List Entry
   pub begins : Begins needs x pass request.cookie moment old.seen begun
@@ -52,6 +53,7 @@ pub record IsDropped (needs : Needs) (x : Opening) (pass : ℕ) (request : Reque
   pub whole : are_whole_but_last turns ≡ true
   pub reached : State
   pub asked : reached.asked ≡ steps_of turns
+  pub ordered : IsOrdered reached
   pub means : (more : List Answer) → Grows reached (end_state (respond (paged_at (tree_at needs x begun)) request (session_found needs x request.cookie begun begins.session) (answers_of x.seed turns ++ more)))
   pub did : HasDone needs x pass begun new.seen (all_calls begins.request turns ++ (op.Abandon begins.request, reply.Dropped) ∷ [])
   pub read : new.steps ≤ old.steps + all_bytes (tree_at needs x begun) turns

@@ -1,5 +1,5 @@
 -- What a stage stands for where a page run is lent it, and where the run gives it back.
-use Rattle.std.proofs.Common.{◌≡◌, inl, ◌≤◌, ◌+◌, ◌-◌, ℕ, List, [], ◌++◌, Option, Some, None, refl, sym, ap, ◌∙◌, subst, arith}
+use Rattle.std.proofs.Common.{◌≡◌, inl, ◌≤◌, ◌+◌, ◌-◌, ℕ, List, [], ◌++◌, Option, Some, None, refl, sym, ap, ◌∙◌, subst, arith, length, map}
 use Rattle.std.specs.Option.{option_copied}
 use Rattle.std.specs.Prelude.{⊤, false, is_some, option_map}
 use Rattle.std.specs.Borrow.{Bor}
@@ -31,6 +31,9 @@ use Rattle.scopes.specs.Scopes.{ScopeState}
 use Rattle.site_words.specs.Law.{Answer}
 use Rattle.site_words.specs.Running.{Asking}
 use Rattle.source_tree.specs.declared.file.File.{File}
+use Rattle.std.proofs.lemmas.List.{length-map}
+use Rattle.site_words.specs.PageSteps.{Step}
+use Rattle.site_words.specs.Trees.{Each}
 
 -- the fault that an error page sees, behind a reference
 pub raise_seen : (seen : Option (Bor Raise)) (kept : Option Raise) → option_copied seen ≡ kept → option_map (λ (r : Bor Raise). raise_of r.now) seen ≡ option_map raise_of kept
@@ -47,6 +50,7 @@ pub stands_aside : (origin : Origin) (variables : ScopeState) (held : Held) (tak
 stands_aside origin variables held taken faults around asking s depth exception h = record {
   scopes = h.scopes;
   asked = h.asked;
+  ordered = h.ordered;
   writer = h.writer;
   visits = h.visits;
   charge = h.charge;
@@ -56,7 +60,11 @@ stands_aside origin variables held taken faults around asking s depth exception 
 
 -- a state that a request's parts stand for, whatever was asked before
 abbrev pub state_at : ScopeState → Writer → Around → Asking → State
-state_at variables writer around asking = record { scopes = variables; writer = writer; visits = around.visits; charge = around.charge; id = around.id; is_fresh = around.fresh; answers = []; asked = asking.asked }
+state_at variables writer around asking = record { scopes = variables; writer = writer; visits = around.visits; charge = around.charge; id = around.id; is_fresh = around.fresh; answers = []; asked = asking.asked; order = map (λ step. 0) asking.asked }
+
+all_first : (limit : ℕ) (steps : List Step) → Each (λ count. count ≤ limit) (map (λ step. 0) steps)
+all_first limit [] = tt
+all_first limit (step ∷ steps) = (omega arith, all_first limit steps)
 
 -- and the place from where it counts
 abbrev pub origin_at : Option (List ℕ) → ℕ → Origin
@@ -67,6 +75,7 @@ pub stands_at : (variables : ScopeState) (held : Held) (taken : Option (List ℕ
 stands_at variables held taken faults around asking start before writer h = record {
   scopes = refl;
   asked = refl;
+  ordered = (length-map asking.asked (λ step. 0), all_first (length writer.pieces) asking.asked);
   writer = h;
   visits = refl;
   charge = refl;
@@ -100,6 +109,7 @@ module _ {P K : Type 0} {taken : K → Option (List ℕ)} {faults : K → ℕ} {
     writer = h.writer;
     scopes = h.scopes;
     asked = h.asked;
+    ordered = h.ordered;
     depth = refl;
     visits = h.visits;
     charge = h.charge;
@@ -116,6 +126,7 @@ module _ {P K : Type 0} {taken : K → Option (List ℕ)} {faults : K → ℕ} {
   given_back first w origin s r = record {
     scopes = r.scopes;
     asked = r.asked;
+    ordered = r.ordered;
     writer = r.writer;
     visits = r.visits;
     charge = r.charge;

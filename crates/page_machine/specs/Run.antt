@@ -11,7 +11,7 @@ use Rattle.run_world.specs.declared.program.Program as machine_program
 use Rattle.run_world.specs.declared.raised.Raise.{Raise}
 use Rattle.page_machine.specs.declared.running.RunEnd.{RunEnd}
 use Rattle.page_machine.specs.declared.running.RunEnd.TheVariants as ends
-use Rattle.page_meaning.specs.Growth.{state_of, Grows}
+use Rattle.page_meaning.specs.Growth.{state_of, Grows, IsOrdered}
 use Rattle.page_meaning.specs.State.{State}
 use Rattle.page_meaning.specs.Went.{Did, Well, Raised, Ended, forwards, redirects}
 use Rattle.page_table.specs.Checked.{ServingFits}
@@ -64,6 +64,7 @@ pub record IsServed (made : machine_program.Program → List File → List ℕ �
 pub record StandsFor (origin : Origin) (variables : ScopeState) (held : Held) (taken : Option (List ℕ)) (faults : ℕ) (around : Around) (asking : Asking) (s : State) : Type 0 where
   pub scopes : s.scopes ≡ variables
   pub asked : s.asked ≡ origin.asked ++ asking.asked
+  pub ordered : IsOrdered s
   pub writer : Stands origin.start origin.before held taken faults s.writer
   pub visits : s.visits ≡ around.visits
   pub charge : s.charge ≡ around.charge

@@ -7,14 +7,14 @@ use Rattle.http_out.specs.declared.status.Status.TheVariants as status_is
 use Rattle.site_words.specs.Law.{Answer}
 use Rattle.page_meaning.specs.Context.{Served, Paged, absent, plain, bad, good}
 use Rattle.page_meaning.specs.Faults.{Raise, page_fault_line}
-use Rattle.page_meaning.specs.Growth.{state_of, with_more, with_asked, Grows, AsksOn, Leaves}
+use Rattle.page_meaning.specs.Growth.{state_of, with_more, Grows, AsksOn, Leaves}
 use Rattle.page_meaning.specs.Includes.{page_run}
 use Rattle.page_meaning.specs.Laws.{ChainsEnd, RequestAsksOn, RequestGoesOn, HasPieces}
 use Rattle.page_meaning.specs.Meaning.{nodes_mean, below}
 use Rattle.page_meaning.specs.Page.{Page}
 use Rattle.page_meaning.specs.Respond.{at_start, first_run, OnFault, run_answer, target_answer, chain_answer}
 use Rattle.page_meaning.specs.Response.{Answered, end_state, whole, plain_line, file_type, page_response}
-use Rattle.page_meaning.specs.State.{State}
+use Rattle.page_meaning.specs.State.{State, with_asked}
 use Rattle.site_words.specs.PageSteps.{Step}
 use Rattle.page_meaning.specs.Went.{Did, Well, Raised, Ended, Awaits, forwards, redirects}
 use Rattle.out_buffer.specs.Writer.{has_committed}

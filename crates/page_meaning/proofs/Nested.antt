@@ -18,11 +18,11 @@ use Rattle.page_meaning.specs.Core.{is_caught, catch_mean}
 use Rattle.page_meaning.specs.Exports.{is_at_end, is_at_fragment, copied_out, given_back}
 use Rattle.page_meaning.specs.Faults.{fault_record}
 use Rattle.page_meaning.specs.Fragments.{given_run, given_deeper, fragment_mean}
-use Rattle.page_meaning.specs.Growth.{state_of, with_more, with_asked, Grows, AsksOn, GoesOn, Leaves}
+use Rattle.page_meaning.specs.Growth.{state_of, with_more, Grows, AsksOn, GoesOn, Leaves}
 use Rattle.page_meaning.specs.Includes.{target_path, target_params, is_page_path, fetched_or_fault, ask_page, starts_session, session_started, page_run, included_end, included, include_path, include_at, include_mean, left_for, forward_path, forward_at, forward_mean}
 use Rattle.page_meaning.specs.Loops.{with_named}
 use Rattle.page_meaning.specs.Page.{Page, Nodes, Attributes, Body, TagFile}
-use Rattle.page_meaning.specs.State.{State, in_scopes, in_writer}
+use Rattle.page_meaning.specs.State.{State, in_scopes, in_writer, with_asked}
 use Rattle.site_words.specs.PageSteps.{Step, fresh, fetch}
 use Rattle.page_meaning.specs.Tags.{first_frame, call_ended, call_run, call_of, call_mean, tag_mean, tag_coercion}
 use Rattle.page_meaning.specs.Variables.{back_to}
@@ -170,9 +170,9 @@ started_at left s [] none free = record { grows = same s; goes_on = λ more. (no
   where
     waits : (more : List Answer) → AsksOn fresh s more (session_started more (with_more more s))
     waits [] = refl
-    waits (answer ∷ rest) = starts (with_asked fresh s) (state_of (session_started (answer ∷ rest) (with_more (answer ∷ rest) s))) free (front_same (s.asked ++ fresh ∷ [])) refl
+    waits (answer ∷ rest) = starts (with_asked fresh s) (state_of (session_started (answer ∷ rest) (with_more (answer ∷ rest) s))) free (front_same (with_asked fresh s).asked) (front_same (with_asked fresh s).order) refl
 started_at left s (answer ∷ rest) some free = record {
-  grows = starts s (state_of (session_started (answer ∷ rest) s)) free (fresh ∷ [], refl) refl;
+  grows = starts s (state_of (session_started (answer ∷ rest) s)) free (fresh ∷ [], refl) (length s.writer.pieces ∷ [], refl) refl;
   goes_on = λ more. refl;
   leaves = tt;
 }

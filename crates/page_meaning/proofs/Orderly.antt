@@ -3,8 +3,8 @@ use Rattle.std.proofs.Common.{◌≡◌, ◌≤◌, ℕ, Bool, true, false, List
 use Rattle.pg_text.specs.declared.place.Place.{Place}
 use Rattle.pg_value.specs.declared.fault.RunFault.{RunFault}
 use Rattle.site_words.specs.Law.{Answer}
-use Rattle.page_meaning.specs.Growth.{state_of, with_more, with_asked, Grows, AsksOn, GoesOn, LeavesBy, Leaves}
-use Rattle.page_meaning.specs.State.{State}
+use Rattle.page_meaning.specs.Growth.{state_of, with_more, Grows, AsksOn, GoesOn, LeavesBy, Leaves}
+use Rattle.page_meaning.specs.State.{State, with_asked}
 use Rattle.site_words.specs.PageSteps.{Step}
 use Rattle.page_meaning.proofs.Growing.{both, same}
 use Rattle.page_meaning.specs.Went.{Went, Well, Raised, Ended, Awaits, Leaving, forwards, redirects, then_do, tidied, either, result_of}

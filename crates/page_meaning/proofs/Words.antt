@@ -18,9 +18,9 @@ use Rattle.site_words.specs.Law.{Answer}
 use Rattle.site_words.specs.declared.words.AppStep.{AppStep}
 use Rattle.site_words.specs.declared.words.AppStep.TheVariants as step
 use Rattle.page_meaning.specs.Bodies.{put_text, taken, keeping, kept_value, given_value, shown_mean, trimmed, trimmed_if}
-use Rattle.page_meaning.specs.Growth.{state_of, with_more, with_asked, AsksOn}
+use Rattle.page_meaning.specs.Growth.{state_of, with_more, AsksOn}
 use Rattle.page_meaning.specs.Page.{Variable}
-use Rattle.page_meaning.specs.State.{State, in_scopes, in_writer}
+use Rattle.page_meaning.specs.State.{State, in_scopes, in_writer, with_asked}
 use Rattle.site_words.specs.PageSteps.{app, fetch, told_value}
 use Rattle.page_meaning.specs.Variables.{set_held, set_application, set_in, assign, remove_in, unassign, unassign_in, assign_variable, scope_or_page, without_inner, inner_found, look_up_else, look_up, back_to}
 use Rattle.page_meaning.specs.Went.{Went, Did, Well, Raised, then_do, either, result_of}
@@ -118,8 +118,8 @@ module _ {left : ℕ} where
   pub look_up_orderly : (place : Place) (name : List ℕ) → Orderly left (look_up place name)
   look_up_orderly place name s = look_up_else_orderly place name (inner_found s.scopes name) s
 
--- what is put only adds pieces
-abbrev AddsPieces : List (List ℕ) → Result Writer RunFault → Type 0
+-- what is put or flushed only adds pieces
+abbrev pub AddsPieces : List (List ℕ) → Result Writer RunFault → Type 0
 AddsPieces pieces (Ok w) = IsFront pieces w.pieces
 AddsPieces pieces (Err f) = Unit {0}
 
@@ -141,12 +141,12 @@ placed_adds : (kept : List (List ℕ)) (bytes : List ℕ) (w : Writer) → AddsP
 placed_adds [] bytes w = written_adds w.size bytes w
 placed_adds (body ∷ outer) bytes w = ([], sym (append-nil w.pieces))
 
-put_adds : (bytes : List ℕ) (w : Writer) → AddsPieces w.pieces (put bytes w)
+pub put_adds : (bytes : List ℕ) (w : Writer) → AddsPieces w.pieces (put bytes w)
 put_adds bytes w =
     let counted = record w { count = w.count + length bytes } in
     pick (AddsPieces w.pieces) (nat_lt put_limit (w.count + length bytes)) (Err fault.OutputTooLong) (placed w.kept bytes counted) tt (placed_adds w.kept bytes counted)
 
-flushed_adds : (kept : List (List ℕ)) (w : Writer) → IsFront w.pieces (flushed kept w).pieces
+pub flushed_adds : (kept : List (List ℕ)) (w : Writer) → IsFront w.pieces (flushed kept w).pieces
 flushed_adds [] w = (piece_of w.buffer, refl)
 flushed_adds (body ∷ outer) w = ([], sym (append-nil w.pieces))
 

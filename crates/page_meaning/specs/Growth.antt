@@ -1,9 +1,10 @@
 -- What a run adds to a request's state, and what it does under more answers.
-use Rattle.std.specs.Prelude.{◌≡◌, ◌<◌, ℕ, Bool, true, false, List, [], ◌∷◌, ◌++◌, Option}
+use Rattle.std.specs.Prelude.{◌≡◌, ◌<◌, ◌≤◌, ℕ, Bool, true, false, List, [], ◌∷◌, ◌++◌, length, Option}
 use Rattle.edges.specs.History.{IsFront}
 use Rattle.out_buffer.specs.Writer.{has_committed}
 use Rattle.site_words.specs.Law.{Answer}
-use Rattle.page_meaning.specs.State.{State}
+use Rattle.site_words.specs.Trees.{Each}
+use Rattle.page_meaning.specs.State.{State, with_asked}
 use Rattle.site_words.specs.PageSteps.{Step, app, fresh, fetch}
 use Rattle.page_meaning.specs.Went.{Went, Well, Raised, Ended, Awaits, Leaving, forwards, redirects}
 
@@ -18,19 +19,25 @@ state_of (Awaits step s) = s
 abbrev pub with_more : List Answer → State → State
 with_more more s = record s { answers = s.answers ++ more }
 
--- with one step asked more
-abbrev pub with_asked : Step → State → State
-with_asked step s = record s { asked = s.asked ++ step ∷ [] }
-
 -- the id of the session, and whether this request made it
 abbrev pub session_of : State → Option (List ℕ) × Bool
 session_of s = (s.id, s.is_fresh)
 
--- the steps asked and the committed pieces of the first state stand at the front of those of the second, and behind a commit no session starts
+-- more steps stand in the order, each of them behind at least so many pieces
+abbrev pub OrderGrows : (committed : ℕ) → (old new : List ℕ) → Type 0
+OrderGrows committed old new = (later : List ℕ) × (new ≡ old ++ later) × Each (λ count. committed ≤ count) later
+
+-- the steps asked and the committed pieces of the first state stand at the front of those of the second, the other steps come behind all that was
+-- committed, and behind a commit no session starts
 pub record Grows (s t : State) : Type 0 where
   pub asked : IsFront s.asked t.asked
+  pub order : OrderGrows (length s.writer.pieces) s.order t.order
   pub pieces : IsFront s.writer.pieces t.writer.pieces
   pub session : has_committed s.writer ≡ true → session_of t ≡ session_of s
+
+-- each step asked has its place in the order, and none comes behind more pieces than are committed
+abbrev pub IsOrdered : State → Type 0
+IsOrdered s = (length s.order ≡ length s.asked) × Each (λ count. count ≤ length s.writer.pieces) s.order
 
 -- whether a step has an answer
 abbrev pub takes_answer : Step → Bool

@@ -13,7 +13,7 @@ use Rattle.site_words.specs.Law.{Answer}
 use Rattle.page_meaning.specs.Bodies.{put_text}
 use Rattle.page_meaning.specs.Context.{Served, Run, Here, in_page, Paged, absent, plain, bad, good, Deeper, no_deeper, deeper}
 use Rattle.page_meaning.specs.Page.{Page, Nodes}
-use Rattle.page_meaning.specs.State.{State, in_scopes, in_writer}
+use Rattle.page_meaning.specs.State.{State, in_scopes, in_writer, with_asked}
 use Rattle.site_words.specs.PageSteps.{fresh, told_id}
 use Rattle.page_meaning.specs.Variables.{back_to}
 use Rattle.page_meaning.specs.Went.{Did, Went, Well, Raised, Ended, Awaits, forwards, redirects, then_do, either}
@@ -51,7 +51,7 @@ starts_session page s = page.settings.session && is_none s.scopes.session && not
 abbrev pub session_started : List Answer → State → Did
 session_started [] s = Awaits fresh s
 session_started (answer ∷ rest) s =
-    Well tt (record s { answers = rest; asked = s.asked ++ fresh ∷ []; id = Some (told_id answer); is_fresh = true; scopes = with_session s.scopes })
+    Well tt (record (with_asked fresh s) { answers = rest; id = Some (told_id answer); is_fresh = true; scopes = with_session s.scopes })
 
 -- the run of a page in the current frame: its session first, then its nodes
 abbrev pub page_run : (Nodes → Here → State → Did) → Page → List Param → State → Did

@@ -14,13 +14,13 @@ use Rattle.page_meaning.specs.Attributes.{Coercion}
 use Rattle.page_meaning.specs.Context.{Served, Run, Here, in_tag, Called, source_text, body_nodes, Paged, no_deeper, deeper}
 use Rattle.page_meaning.specs.Expressions.{ev, ev_all, ev_pairs}
 use Rattle.page_meaning.specs.Fragments.{fragment_mean}
-use Rattle.page_meaning.specs.Growth.{state_of, with_more, with_asked, Grows, GoesOn, Leaves, takes_answer}
+use Rattle.page_meaning.specs.Growth.{state_of, with_more, Grows, GoesOn, Leaves, takes_answer}
 use Rattle.page_meaning.specs.Includes.{include_path, forward_path}
 use Rattle.page_meaning.specs.Meaning.{node_mean, nodes_mean, attributes_mean, params_mean, branches_mean, below}
 use Rattle.page_meaning.specs.Page.{Page, Node, Nodes, Attributes, Params, Branches}
 use Rattle.page_meaning.specs.Respond.{OnFault, FoundSession, chain_answer, level_limit, respond}
 use Rattle.page_meaning.specs.Response.{Answered, responds, awaits, end_state}
-use Rattle.page_meaning.specs.State.{State}
+use Rattle.page_meaning.specs.State.{State, with_asked}
 use Rattle.site_words.specs.PageSteps.{Step}
 use Rattle.page_meaning.specs.Tags.{call_run}
 use Rattle.page_meaning.specs.Went.{Went, Raised}
@@ -37,7 +37,7 @@ pub record OfEveryPart (P : (left : ℕ) → (A : Type 0) → (State → Went A)
   pub params : (left : ℕ) (served : Served) (ps : Params) (here : Here) → P left (List Param) (params_mean served (below served left) ps here)
   pub branches : (left : ℕ) (served : Served) (bs : Branches) (here : Here) → P left Unit (branches_mean served (below served left) bs here)
 
--- steps asked and committed pieces only grow, and behind a commit no session starts
+-- steps asked and committed pieces only grow, later steps come behind all that was committed, and behind a commit no session starts
 abbrev pub StepsAndPiecesGrow : Type 0
 StepsAndPiecesGrow = OfEveryPart (λ left A part. (s : State) → Grows s (state_of (part s)))
 

@@ -146,6 +146,7 @@ beginning session answers = record {
   is_fresh = false;
   answers = answers;
   asked = [];
+  order = [];
 }
 
 -- what a request is answered under the pages of one tree, by the session that it found and the answers to its steps

@@ -1,10 +1,10 @@
 -- What a request may do: its visits, and what it asks of the site against its charge.
-use Rattle.std.specs.Prelude.{ℕ, ◌+◌, Bool, List, [], ◌∷◌, ◌++◌, nat_lt, nat_le, if◌then◌else◌}
+use Rattle.std.specs.Prelude.{ℕ, ◌+◌, Bool, List, [], ◌∷◌, nat_lt, nat_le, if◌then◌else◌}
 use Rattle.pg_text.specs.declared.place.Place.{Place}
 use Rattle.pg_value.specs.declared.fault.RunFault.TheVariants as fault
 use Rattle.site_words.specs.Law.{Answer}
 use Rattle.site_words.specs.declared.words.AppStep.{AppStep}
-use Rattle.page_meaning.specs.State.{State}
+use Rattle.page_meaning.specs.State.{State, with_asked}
 use Rattle.site_words.specs.PageSteps.{app, fetch, step_charge, page_charge}
 use Rattle.page_meaning.specs.Went.{Went, Did, Well, Raised, Awaits, then_do, either}
 
@@ -31,7 +31,7 @@ is_spent s = nat_le charge_limit s.charge
 -- the first of these answers to a step, which is charged, or the end of what is known
 abbrev pub answer_from : AppStep → List Answer → State → Went Answer
 answer_from step [] s = Awaits (app step) s
-answer_from step (answer ∷ rest) s = Well answer (record s { answers = rest; asked = s.asked ++ app step ∷ []; charge = s.charge + step_charge step answer })
+answer_from step (answer ∷ rest) s = Well answer (record (with_asked (app step) s) { answers = rest; charge = s.charge + step_charge step answer })
 
 -- a step on the application's attributes, or X22
 abbrev pub ask : Place → AppStep → State → Went Answer
@@ -39,4 +39,4 @@ ask place step s = either (is_spent s) (Raised fault.AppTooMuch place) (answer_f
 
 -- with the fetch of a page asked and the page's run charged
 abbrev pub fetched : (path : List ℕ) → State → State
-fetched path s = record s { asked = s.asked ++ fetch path ∷ []; charge = s.charge + page_charge path }
+fetched path s = record (with_asked (fetch path) s) { charge = s.charge + page_charge path }

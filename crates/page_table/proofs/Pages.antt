@@ -1,5 +1,5 @@
 -- The beginning of a page's run and what a path of the tree is asked are tame; a forward and a redirect never go on.
-use Rattle.std.proofs.Common.{◌≡◌, ℕ, zero, suc, Bool, true, false, List, [], ◌∷◌, Result, Ok, Err, refl, arith}
+use Rattle.std.proofs.Common.{◌≡◌, ℕ, zero, suc, Bool, true, false, List, [], ◌∷◌, Result, Ok, Err, refl, arith, length}
 use Rattle.std.specs.Prelude.{◌&&◌}
 use Rattle.std.specs.List.{list_any}
 use Rattle.http_in.specs.declared.params.Param.{Param}
@@ -28,7 +28,7 @@ use Rattle.page_table.proofs.Tame.{Keeps, keeps_same, TameAt, keeps_at, Tame, Ca
 started_keeps : (s : State) (answers : List Answer) → has_committed s.writer ≡ false → TameAt s (session_started answers s)
 started_keeps s [] free = record { grows = same s; bodies = refl; visits = omega arith; frames = omega arith }
 started_keeps s (answer ∷ rest) free =
-    record { grows = starts s (state_of (session_started (answer ∷ rest) s)) free (fresh ∷ [], refl) refl; bodies = refl; visits = omega arith; frames = omega arith }
+    record { grows = starts s (state_of (session_started (answer ∷ rest) s)) free (fresh ∷ [], refl) (length s.writer.pieces ∷ [], refl) refl; bodies = refl; visits = omega arith; frames = omega arith }
 
 pub page_begun_keeps : (program : Program) (s : State) → TameAt s (page_begun program s)
 page_begun_keeps program s = go (starts_session (page_of program) s) (uncommitted_start (page_of program) s)

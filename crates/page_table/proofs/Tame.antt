@@ -7,7 +7,7 @@ use Rattle.pg_value.specs.declared.fault.RunFault.{RunFault}
 use Rattle.scopes.specs.Scopes.{Entries, ScopeState, changed_in}
 use Rattle.scopes.specs.declared.held_scope.HeldScope.{HeldScope}
 use Rattle.scopes.specs.declared.held_scope.HeldScope.TheVariants as held
-use Rattle.page_meaning.proofs.Growing.{both, quiet, same}
+use Rattle.page_meaning.proofs.Growing.{both, quiet, same, trace_of}
 use Rattle.page_meaning.specs.Growth.{state_of, session_of, Grows}
 use Rattle.page_meaning.specs.State.{State, in_scopes}
 use Rattle.page_meaning.specs.Went.{Went, Well, Raised, Ended, Awaits, then_do, either, result_of}
@@ -32,9 +32,9 @@ pub keeps_both : (s t u : State) → Keeps s t → Keeps t u → Keeps s u
 keeps_both s t u g k = record { grows = both s t u g.grows k.grows; bodies = k.bodies ∙ g.bodies; visits = omega (arith, g.visits, k.visits); frames = omega (arith, g.frames, k.frames) }
 
 -- a change of neither the steps nor the writer nor the session nor the visits, which takes no frame back
-keeps_quiet : (s t : State) → t.asked ≡ s.asked → t.writer ≡ s.writer → session_of t ≡ session_of s → t.visits ≡ s.visits → framed s ≤ framed t → Keeps s t
-keeps_quiet s t asked writer session visits frames =
-    record { grows = quiet s t asked (ap (λ w. w.pieces) writer) session; bodies = ap (λ w. length w.kept) writer; visits = omega (arith, visits); frames = frames }
+keeps_quiet : (s t : State) → trace_of t ≡ trace_of s → t.writer ≡ s.writer → session_of t ≡ session_of s → t.visits ≡ s.visits → framed s ≤ framed t → Keeps s t
+keeps_quiet s t trace writer session visits frames =
+    record { grows = quiet s t trace (ap (λ w. w.pieces) writer) session; bodies = ap (λ w. length w.kept) writer; visits = omega (arith, visits); frames = frames }
 
 pub keeps_scopes : (s : State) (scopes : ScopeState) → framed s ≤ length scopes.frames → Keeps s (in_scopes scopes s)
 keeps_scopes s scopes frames = keeps_quiet s (in_scopes scopes s) refl refl refl refl frames

@@ -17,7 +17,7 @@ use Rattle.page_table.specs.Seat.{Seat, code_of}
 abbrev pub OneEnd : Type 0
 OneEnd = (serving : Serving) (seat : Seat) (c : Config) (d other : Did) → Runs serving seat c d → Runs serving seat c other → d ≡ other
 
--- a run only adds to the steps asked and to the pieces committed, and behind a commit starts no session
+-- a run only adds to the steps asked, behind all that was committed, and to the pieces committed, and behind a commit starts no session
 abbrev pub RunsGrow : Type 0
 RunsGrow = (serving : Serving) (seat : Seat) (c : Config) (d : Did) → Runs serving seat c d → Grows (config_state c) (state_of d)
 

@@ -51,7 +51,7 @@ path_same program tree path page made is =
 
 pub reached : (origin : Origin) (scopes : ScopeState) (held : Held) (taken : Option (List ℕ)) (faults : ℕ) (around : Around) (asking : Asking) (s : State) → StandsFor origin scopes held taken faults around asking s
     → Reached origin scopes held taken faults around asking s
-reached origin scopes held taken faults around asking s h = record { scopes_are = h.scopes; asked = h.asked; writer = h.writer; id = h.id; fresh = h.fresh }
+reached origin scopes held taken faults around asking s h = record { scopes_are = h.scopes; asked = h.asked; ordered = h.ordered; writer = h.writer; id = h.id; fresh = h.fresh }
 
 -- a look changes only the charge
 pub reached_looked : (origin : Origin) (scopes : ScopeState) (held : Held) (taken : Option (List ℕ)) (faults : ℕ) (old new : Around) (asking : Asking) (s : State) → new ≡ record old { charge = new.charge } → Reached origin scopes held taken faults old asking s
@@ -59,6 +59,7 @@ pub reached_looked : (origin : Origin) (scopes : ScopeState) (held : Held) (take
 reached_looked origin scopes held taken faults old new asking s same h = record {
   scopes_are = h.scopes_are;
   asked = h.asked;
+  ordered = h.ordered;
   writer = h.writer;
   id = h.id ∙ ap (λ (a : Around). a.id) (sym same);
   fresh = h.fresh ∙ ap (λ (a : Around). a.fresh) (sym same);
@@ -112,7 +113,7 @@ page_grows : RunsGrowOn → (served : Served) (page : Page) (params : List Param
 page_grows grow served page params r path target s named is none future =
     subst (λ o. Grows (fetched path s) (end_state (error_at served r params o (given future s)))) (sym named)
     (subst (λ f. Grows (fetched path s) (end_state (error_answer served r params path f (given future s)))) (sym is)
-    (let g = grow.chain (with_exception r served) (first_fault r) status_is.InternalServerError level_limit target params (with_no_visits (fetched path (given future s))) (grow.first r) none in record { asked = g.asked; pieces = g.pieces; session = g.session }))
+    (let g = grow.chain (with_exception r served) (first_fault r) status_is.InternalServerError level_limit target params (with_no_visits (fetched path (given future s))) (grow.first r) none in record { asked = g.asked; order = g.order; pieces = g.pieces; session = g.session }))
 
 -- without memory behind the fetch of an error page nothing more was done
 pub closed_fetched : {E : Type 0} → RunsGrowOn → (served : Served) (tree : List File) (page : Page) (params : List Param) (r : Raise) (path : List ℕ) (target : Page) (stands : State → Type 0) (s : State) (old new : List Answer) (held : Held) (e : E) → error_path page ≡ Some path
@@ -195,6 +196,7 @@ pub begun_again : (origin : Origin) (scopes : ScopeState) (held : Held) (taken :
 begun_again origin scopes held taken faults around raise asking s h = record {
   scopes = h.scopes;
   asked = h.asked;
+  ordered = h.ordered;
   writer = h.writer;
   visits = refl;
   charge = h.charge;
@@ -223,7 +225,7 @@ module _ (answers : List Answer → State → Answered) (tree : List File) (path
         got = [];
         replies = looked.answers ∙ sym (append-nil old.answers);
         after = fetched path s;
-        stood = record { scopes_are = on.scopes; asked = on.asked; writer = on.writer; id = on.id; fresh = on.fresh };
+        stood = record { scopes_are = on.scopes; asked = on.asked; ordered = on.ordered; writer = on.writer; id = on.id; fresh = on.fresh };
         ends = λ future. within_none held.head (fetched path s) (answers future s) none (behind read.0 read.1 future);
       }
   at_file e false file is there looked = silent e (Some file) (ap (λ b. if b then fetch path ∷ [] else []) is) looked

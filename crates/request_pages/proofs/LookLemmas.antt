@@ -12,6 +12,7 @@ use Rattle.scopes.specs.Scopes.{ScopeState}
 use Rattle.site_words.specs.PageSteps.{fetch, page_charge}
 use Rattle.site_words.specs.Running.{Asking, HasLooked, IsPageFile, IsPlain, is_page, look_claim, look_steps, page_claim}
 use Rattle.source_tree.specs.declared.file.File.{File}
+use Rattle.page_meaning.proofs.Growing.{ordered_asked}
 
 -- a file that is no page takes nothing
 pub plain_free : (path : List ℕ) (file : Option File) (text : List ℕ) → IsPlain path file text → look_claim path file ≡ 0
@@ -28,6 +29,7 @@ pub quiet_stands : (origin : Origin) (scopes : ScopeState) (held : Held) (taken 
 quiet_stands origin scopes held taken faults around old new path file s none looked h = record {
   scopes = h.scopes;
   asked = h.asked ∙ ap (λ a. origin.asked ++ a) (sym (looked.asked ∙ (ap (λ l. old.asked ++ l) none ∙ append-nil old.asked)));
+  ordered = h.ordered;
   writer = h.writer;
   visits = h.visits;
   charge = h.charge;
@@ -41,6 +43,7 @@ pub page_stands : (origin : Origin) (scopes : ScopeState) (held : Held) (taken :
 page_stands origin scopes held taken faults around old new path file s charge so is looked h = record {
   scopes = h.scopes;
   asked = ap (λ a. a ++ fetch path ∷ []) h.asked ∙ (append_assoc origin.asked old.asked (fetch path ∷ []) ∙ ap (λ a. origin.asked ++ a) (sym (looked.asked ∙ ap (λ l. old.asked ++ l) (page_steps path file is).1)));
+  ordered = ordered_asked (fetch path) s h.ordered;
   writer = h.writer;
   visits = h.visits;
   charge = ap (λ k. k + page_charge path) h.charge ∙ ap (λ k. around.charge + k) (sym so);

@@ -44,7 +44,7 @@ first_grows grow served page params s future none =
 path_grows : RunsGrowOn → (served : Served) (params : List Param) (path : List ℕ) (found : Paged) (s : State) (future : List Answer) → s.writer.pieces ≡ [] → Grows s (end_state (path_answer served params path found (given future s)))
 path_grows grow served params path absent s future none = plain_grows s future
 path_grows grow served params path (plain t) s future none = plain_grows s future
-path_grows grow served params path (bad f) s future none = let g = fetched_grows path s in record { asked = g.asked; pieces = g.pieces; session = g.session }
+path_grows grow served params path (bad f) s future none = let g = fetched_grows path s in record { asked = g.asked; order = g.order; pieces = g.pieces; session = g.session }
 path_grows grow served params path (good page) s future none =
     both s (fetched path s) (end_state (first_answers served page params future (fetched path s))) (fetched_grows path s) (first_grows grow served page params (fetched path s) future none)
 

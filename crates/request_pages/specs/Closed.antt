@@ -20,12 +20,14 @@ use Rattle.run_world.specs.declared.around.Around.{Around}
 use Rattle.scopes.specs.Scopes.{ScopeState}
 use Rattle.site_words.specs.Law.{Answer}
 use Rattle.site_words.specs.Running.{Asking}
+use Rattle.page_meaning.specs.Growth.{IsOrdered}
 
 -- the scopes, the writer with its sink, the session and what was asked of the port stand for a state; its counts may be others, since
 -- memory may be wanting before they are raised
 pub record Reached (origin : Origin) (scopes : ScopeState) (held : Held) (taken : Option (List ℕ)) (faults : ℕ) (around : Around) (asking : Asking) (s : State) : Type 0 where
   pub scopes_are : s.scopes ≡ scopes
   pub asked : s.asked ≡ origin.asked ++ asking.asked
+  pub ordered : IsOrdered s
   pub writer : Stands origin.start origin.before held taken faults s.writer
   pub id : s.id ≡ around.id
   pub fresh : s.is_fresh ≡ around.fresh

@@ -1,5 +1,5 @@
 -- What comes behind a page's run.
-use Rattle.std.proofs.Common.{◌≡◌, ◌<◌, ◌≤◌, ℕ, zero, suc, Bool, true, false, List, [], ◌∷◌, Option, Some, None, refl, sym, ◌∙◌, arith}
+use Rattle.std.proofs.Common.{◌≡◌, ◌<◌, ◌≤◌, ℕ, zero, suc, Bool, true, false, List, [], ◌∷◌, Option, Some, None, refl, sym, ◌∙◌, arith, length}
 use Rattle.std.specs.Prelude.{if◌then◌else◌}
 use Rattle.http_in.specs.declared.params.Param.{Param}
 use Rattle.http_out.specs.declared.status.Status.{Status}
@@ -51,7 +51,7 @@ module _ (leaves : ForwardsLeaveFewer) (grows : StepsAndPiecesGrow) (served : Se
 
   session_grows : (b : Bool) (answers : List Answer) (s : State) → (b ≡ true → has_committed s.writer ≡ false) → Grows s (state_of (either b (session_started answers) (λ s1. Well tt s1) s))
   session_grows true [] s free = same s
-  session_grows true (answer ∷ rest) s free = starts s (state_of (session_started (answer ∷ rest) s)) (free refl) (fresh ∷ [], refl) refl
+  session_grows true (answer ∷ rest) s free = starts s (state_of (session_started (answer ∷ rest) s)) (free refl) (fresh ∷ [], refl) (length s.writer.pieces ∷ [], refl) refl
   session_grows false answers s free = same s
 
   pub run_grows : (s : State) → Grows s (state_of (page_run (nodes_mean served (below served left)) page params s))

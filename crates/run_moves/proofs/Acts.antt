@@ -59,8 +59,8 @@ then_at_grows o (Ended leaving t) go h = same t
 then_at_grows o (Awaits step t) go h = same t
 
 pub move_given : (a : List Answer) (s : State) (m : Move) → MoveGrows (given a s) m → MoveGrows s m
-move_given a s (On c) g = record { asked = g.asked; pieces = g.pieces; session = g.session }
-move_given a s (Into callee first back) g = (record { asked = g.0.asked; pieces = g.0.pieces; session = g.0.session }, g.1)
+move_given a s (On c) g = record { asked = g.asked; order = g.order; pieces = g.pieces; session = g.session }
+move_given a s (Into callee first back) g = (record { asked = g.0.asked; order = g.0.order; pieces = g.0.pieces; session = g.0.session }, g.1)
 move_given a s Stuck g = tt
 
 pub move_behind : (s t : State) (m : Move) → Grows s t → MoveGrows t m → MoveGrows s m

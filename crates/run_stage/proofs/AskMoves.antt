@@ -1,13 +1,13 @@
 -- What a step, a new session and a look at a path do of the state for which a stage stands.
-use Rattle.std.proofs.Common.{◌≡◌, ◌⊎◌, inl, inr, ◌≤◌, ◌+◌, ℕ, Bool, true, false, List, [], ◌∷◌, ◌++◌, Option, Some, None, Result, Ok, Err, refl, sym, ap, ◌∙◌, subst, append_assoc, append-nil, arith}
+use Rattle.std.proofs.Common.{◌≡◌, ◌⊎◌, inl, inr, ◌≤◌, ◌+◌, ℕ, Bool, true, false, List, [], ◌∷◌, ◌++◌, Option, Some, None, Result, Ok, Err, refl, sym, ap, ◌∙◌, subst, append_assoc, append-nil, arith, length}
 use Rattle.std.specs.Prelude.{IsErrAnd, IsNone, is_some, nat_le}
 use Rattle.edges.proofs.Own.{front_same}
 use Rattle.http_out.specs.declared.head.Head.{Head}
 use Rattle.out_buffer.specs.Held.{Held, Stands}
 use Rattle.out_buffer.specs.Writer.{Writer, has_committed}
-use Rattle.page_meaning.specs.Growth.{state_of, Grows}
+use Rattle.page_meaning.specs.Growth.{state_of, Grows, IsOrdered}
 use Rattle.page_meaning.specs.Includes.{session_started}
-use Rattle.page_meaning.specs.State.{State}
+use Rattle.page_meaning.specs.State.{State, with_asked}
 use Rattle.page_meaning.specs.Went.{Went, Well, Raised, either}
 use Rattle.page_meaning.specs.Work.{answer_from, ask, charge_limit}
 use Rattle.pg_text.specs.declared.failure.Failure.{Failure}
@@ -18,7 +18,7 @@ use Rattle.pg_value.specs.declared.fault.RunFault.TheVariants as fault
 use Rattle.run_stage.specs.Stage.{Reached}
 use Rattle.run_stage.specs.Standing.{fresh_claim, head_after, naming}
 use Rattle.run_stage.specs.declared.stage.Stage.{Stage}
-use Rattle.page_meaning.proofs.Growing.{same as grows_here, starts}
+use Rattle.page_meaning.proofs.Growing.{ordered_asked, same as grows_here, starts}
 use Rattle.run_world.proofs.Parts.{adds_given}
 use Rattle.run_world.specs.Origin.{Origin}
 use Rattle.run_world.specs.Part.{Doing, given}
@@ -62,7 +62,7 @@ no_id session id none e = sym e ∙ none
 -- a session that is started only adds to the steps
 pub session_adds : (answers : List Answer) (s : State) → has_committed s.writer ≡ false → Grows s (state_of (session_started answers s))
 session_adds [] s free = grows_here s
-session_adds (answer ∷ rest) s free = starts s (state_of (session_started (answer ∷ rest) s)) free (fresh ∷ [], refl) refl
+session_adds (answer ∷ rest) s free = starts s (state_of (session_started (answer ∷ rest) s)) free (fresh ∷ [], refl) (length s.writer.pieces ∷ [], refl) refl
 
 -- where there is no session there was none
 none_before : (old new : Option (List ℕ)) → is_some new ≡ false → (is_some old ≡ true → new ≡ old) → is_some old ≡ false
@@ -81,6 +81,7 @@ module _ {P K : Type 0} {taken : K → Option (List ℕ)} {faults : K → ℕ} {
     writer = r.writer;
     scopes = r.scopes;
     asked = r.asked ∙ ap (λ a. origin.asked ++ a.asked) (sym e);
+    ordered = r.ordered;
     depth = r.depth;
     visits = r.visits;
     charge = r.charge ∙ sym is;
@@ -95,17 +96,18 @@ module _ {P K : Type 0} {taken : K → Option (List ℕ)} {faults : K → ℕ} {
   }
 
   -- the port asked steps, which were charged
-  pub stage_asked : ((first second third : P) → leads first second → leads second third → leads first third) → (first w : Stage P K) (origin : Origin) (s : State) (port : P) (n m : ℕ) (steps asked : List Step)
+  pub stage_asked : ((first second third : P) → leads first second → leads second third → leads first third) → (first w : Stage P K) (origin : Origin) (s : State) (port : P) (n m : ℕ) (steps asked : List Step) (order : List ℕ)
       → Reached taken faults leads asking tree first origin w s → leads w.port.now port → tree port ≡ tree w.port.now → (asking port).asked ≡ (asking w.port.now).asked ++ steps → asked ≡ s.asked ++ steps
-      → (n ≡ w.around.now.charge) ⊎ (n ≤ 4197000) → w.around.now.charge + (asking w.port.now).left ≤ n + (asking port).left → m ≡ n
-      → Reached taken faults leads asking tree first origin (asked_stage w port n) (record s { asked = asked; charge = m })
-  stage_asked leads_on first w origin s port n m steps asked r on same tells now rise pays is = record {
+      → IsOrdered (record s { asked = asked; order = order; charge = m }) → (n ≡ w.around.now.charge) ⊎ (n ≤ 4197000) → w.around.now.charge + (asking w.port.now).left ≤ n + (asking port).left → m ≡ n
+      → Reached taken faults leads asking tree first origin (asked_stage w port n) (record s { asked = asked; order = order; charge = m })
+  stage_asked leads_on first w origin s port n m steps asked order r on same tells now ordered rise pays is = record {
     same = record { scopes = r.same.scopes; writer = r.same.writer; sink = r.same.sink; around = r.same.around; port = r.same.port };
     leads = leads_on first.port.now w.port.now port r.leads on;
     tree = same ∙ r.tree;
     writer = r.writer;
     scopes = r.scopes;
     asked = now ∙ ap (λ a. a ++ steps) r.asked ∙ append_assoc origin.asked (asking w.port.now).asked steps ∙ ap (λ a. origin.asked ++ a) (sym tells);
+    ordered = ordered;
     depth = r.depth;
     visits = r.visits;
     charge = is;
@@ -124,7 +126,7 @@ module _ {P K : Type 0} {taken : K → Option (List ℕ)} {faults : K → ℕ} {
       → Reached taken faults leads asking tree first origin w s → leads w.port.now port → tree port ≡ tree w.port.now → (asking port).asked ≡ (asking w.port.now).asked ++ fresh ∷ []
       → (asking port).left + 64 ≡ (asking w.port.now).left → is_some w.around.now.id ≡ false → scopes ≡ with_session w.scopes.now
       → Stands origin.start origin.before held (taken w.sink.now) (faults w.sink.now) s.writer → held.head ≡ naming w.writer.now.head (Some id) is_fresh → held.shown ≡ w.writer.now.shown
-      → Reached taken faults leads asking tree first origin (session_stage w port scopes held id is_fresh) (record s { asked = s.asked ++ fresh ∷ []; id = Some id; is_fresh = is_fresh; scopes = with_session s.scopes })
+      → Reached taken faults leads asking tree first origin (session_stage w port scopes held id is_fresh) (record (with_asked fresh s) { id = Some id; is_fresh = is_fresh; scopes = with_session s.scopes })
   stage_session leads_on first w origin s port scopes held id is_fresh r on same tells left none started stands head shown =
       let before : is_some first.around.now.id ≡ false = none_before first.around.now.id w.around.now.id none (λ there. (r.session.stays there).0) in
       let untouched : w.writer.now.head ≡ first.writer.now.head =
@@ -138,6 +140,7 @@ module _ {P K : Type 0} {taken : K → Option (List ℕ)} {faults : K → ℕ} {
         writer = stands;
         scopes = ap with_session r.scopes ∙ sym started;
         asked = ap (λ a. a ++ fresh ∷ []) r.asked ∙ append_assoc origin.asked (asking w.port.now).asked (fresh ∷ []) ∙ ap (λ a. origin.asked ++ a) (sym tells);
+        ordered = ordered_asked fresh s r.ordered;
         depth = r.depth;
         visits = r.visits;
         charge = r.charge;
@@ -185,13 +188,13 @@ module _ {P K : Type 0} {taken : K → Option (List ℕ)} {faults : K → ℕ} {
           record {
             got = told reply ∷ [];
             replies = answers;
-            after = record s { asked = s.asked ++ app x ∷ []; charge = n };
-            stood = stage_asked leads_on first w origin s port n n (app x ∷ []) (s.asked ++ app x ∷ []) r on same asked refl (inr low) pays refl;
+            after = record (with_asked (app x) s) { charge = n };
+            stood = stage_asked leads_on first w origin s port n n (app x ∷ []) (with_asked (app x) s).asked (with_asked (app x) s).order r on same asked refl (ordered_asked (app x) s r.ordered) (inr low) pays refl;
             went = λ place future.
                 let s1 = given (told reply ∷ future) s in
                 ap (λ b. either b (Raised fault.AppTooMuch place) (answer_from x (told reply ∷ future)) s1) (ap (nat_le charge_limit) r.charge ∙ unspent)
-                ∙ ap (λ c. Well (told reply) (record s { answers = future; asked = s.asked ++ app x ∷ []; charge = c })) sum
-                ∙ ap (λ a. Well (told a) (record s { answers = future; asked = s.asked ++ app x ∷ []; charge = n })) (sym told_so);
+                ∙ ap (λ c. Well (told reply) (record (with_asked (app x) s) { answers = future; charge = c })) sum
+                ∙ ap (λ a. Well (told a) (record (with_asked (app x) s) { answers = future; charge = n })) (sym told_so);
           };
     }
 
@@ -219,7 +222,7 @@ module _ {P K : Type 0} {taken : K → Option (List ℕ)} {faults : K → ℕ} {
     by = λ first origin s r. record {
       got = id_told id ∷ [];
       replies = answers;
-      after = record s { asked = s.asked ++ fresh ∷ []; id = Some id; is_fresh = true; scopes = with_session s.scopes };
+      after = record (with_asked fresh s) { id = Some id; is_fresh = true; scopes = with_session s.scopes };
       stood = stage_session leads_on first w origin s port scopes held id true r on same asked left none started
           (stands origin.start origin.before (taken w.sink.now) (faults w.sink.now) s.writer r.writer) (ap (λ x. x.head) is) (ap (λ x. x.shown) is);
       went = λ place future. refl;
@@ -234,13 +237,13 @@ module _ {P K : Type 0} {taken : K → Option (List ℕ)} {faults : K → ℕ} {
       → Doing (Reached taken faults leads asking tree) (λ w. (asking w.port.now).answers) (λ u. u) (λ place s. session_started s.answers s) w (session_stage w port scopes w.writer.now id false) (Err failure.NoMemory)
   fresh_short leads_on w port scopes id none started on same asked answers left free = record {
     by = λ first origin s r.
-        let after : State = record s { asked = s.asked ++ fresh ∷ []; id = Some id; is_fresh = false; scopes = with_session s.scopes } in
+        let after : State = record (with_asked fresh s) { id = Some id; is_fresh = false; scopes = with_session s.scopes } in
         record {
           got = id_told id ∷ [];
           replies = answers;
           after = after;
           stood = stage_session leads_on first w origin s port scopes w.writer.now id false r on same asked left none started r.writer refl refl;
           went = λ place future.
-              starts after (record s { answers = future; asked = s.asked ++ fresh ∷ []; id = Some id; is_fresh = true; scopes = with_session s.scopes }) (sym r.writer.committed ∙ free) (front_same after.asked) refl;
+              starts after (record (with_asked fresh s) { answers = future; id = Some id; is_fresh = true; scopes = with_session s.scopes }) (sym r.writer.committed ∙ free) (front_same after.asked) (front_same after.order) refl;
         };
   }

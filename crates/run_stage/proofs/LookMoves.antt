@@ -1,9 +1,9 @@
 -- What a look at a path does of the state for which a stage stands.
-use Rattle.std.proofs.Common.{◌≡◌, ◌⊎◌, inl, inr, ◌≤◌, ◌+◌, ◌*◌, ℕ, Bool, true, false, List, [], ◌∷◌, ◌++◌, length, Option, Some, None, Ok, Err, refl, sym, ap, ◌∙◌, subst, append-nil, arith}
+use Rattle.std.proofs.Common.{◌≡◌, ◌⊎◌, inl, inr, ◌≤◌, ◌+◌, ◌*◌, ℕ, Bool, true, false, List, [], ◌∷◌, ◌++◌, length, Option, Some, None, Ok, Err, refl, sym, ap, ◌∙◌, subst, append-nil, arith, map, length-append}
 use Rattle.std.specs.Prelude.{◌&&◌, if◌then◌else◌, nat_le}
-use Rattle.page_meaning.specs.Growth.{state_of, session_of, Grows}
+use Rattle.page_meaning.specs.Growth.{state_of, session_of, Grows, IsOrdered}
 use Rattle.page_meaning.specs.Includes.{ask_page, fetched_or_fault}
-use Rattle.page_meaning.specs.State.{State}
+use Rattle.page_meaning.specs.State.{State, with_asked}
 use Rattle.page_meaning.specs.Went.{Well, Raised, either}
 use Rattle.page_meaning.specs.Work.{charge_limit, fetched}
 use Rattle.page_table.specs.Program.{Serving, Stored, absent, plain, bad, good, paged_of, served_of}
@@ -14,7 +14,7 @@ use Rattle.pg_value.specs.declared.fault.RunFault.TheVariants as fault
 use Rattle.run_stage.proofs.AskMoves.{asked_stage, stage_asked}
 use Rattle.run_stage.specs.Stage.{IsPageStored, Reached, StoresSo}
 use Rattle.run_stage.specs.declared.stage.Stage.{Stage}
-use Rattle.page_meaning.proofs.Growing.{asks, quiet}
+use Rattle.page_meaning.proofs.Growing.{asks, ordered_asked, quiet, trace_of}
 use Rattle.run_world.specs.Part.{Doing, given}
 use Rattle.run_world.specs.Programs.{stored_of}
 use Rattle.run_world.specs.declared.program.Program.{Program}
@@ -24,6 +24,9 @@ use Rattle.site_words.specs.declared.app_port.Paged.{Paged}
 use Rattle.site_words.specs.declared.app_port.Paged.TheVariants as found
 use Rattle.source_tree.specs.Edits.{file_at}
 use Rattle.source_tree.specs.declared.file.File.{File}
+use Rattle.std.proofs.lemmas.List.{length-map}
+use Rattle.site_words.proofs.Items.{each_both}
+use Rattle.site_words.specs.Trees.{Each}
 
 -- what a look takes of the promise and what it asks, by what stands at the path
 
@@ -71,29 +74,54 @@ look_goes serving place path s n st allowed charge e =
     ap (λ b. either b (Raised fault.AppTooMuch place) (fetched_or_fault place path (paged_of (serving.stored path))) s) (ap (λ c. is_page path && nat_le charge_limit c) charge ∙ allowed)
     ∙ ap (λ x. fetched_or_fault place path (paged_of x) s) e
 
+-- with these steps asked more
+asked_all : List Step → State → List Step × List ℕ
+asked_all steps s = (s.asked ++ steps, s.order ++ map (λ step. length s.writer.pieces) steps)
+
+asked_none : (s : State) → asked_all [] s ≡ trace_of s
+asked_none s = ap (λ a. (a, s.order ++ [])) (append-nil s.asked) ∙ ap (λ o. (s.asked, o)) (append-nil s.order)
+
+-- an ordered state stays so
+all_behind : (n : ℕ) (steps : List Step) → Each (λ count. count ≤ n) (map (λ step. n) steps)
+all_behind n [] = tt
+all_behind n (step ∷ steps) = (omega arith, all_behind n steps)
+
+ordered_all : (steps : List Step) (s : State) (charge : ℕ) → IsOrdered s → IsOrdered (record s { asked = (asked_all steps s).0; order = (asked_all steps s).1; charge = charge })
+ordered_all steps s charge ordered =
+    let n = length s.writer.pieces in
+    let counts = length-append s.order (map (λ step. n) steps) in
+    let marks = length-map steps (λ step. n) in
+    let sum = length-append s.asked steps in
+    (omega (arith, counts, marks, sum, ordered.0), each_both (λ count. count ≤ n) s.order (map (λ step. n) steps) ordered.1 (all_behind n steps))
+
+-- the same step is asked of states that asked and committed the same
+asked_alike : (step : Step) (t s : State) → trace_of t ≡ trace_of s → t.writer.pieces ≡ s.writer.pieces → trace_of (with_asked step t) ≡ trace_of (with_asked step s)
+asked_alike step t s e f =
+    ap (λ p. (p.0 ++ step ∷ [], p.1 ++ length t.writer.pieces ∷ [])) e ∙ ap (λ pieces. (s.asked ++ step ∷ [], s.order ++ length pieces ∷ [])) f
+
 -- what a look adds where its answer isn't known: no more than the fetch of a page
-unfetched_grows : (st : Stored) (place : Place) (path : List ℕ) (after t : State) → t.asked ≡ after.asked → t.writer.pieces ≡ after.writer.pieces → session_of t ≡ session_of after → Grows after (state_of (fetched_or_fault place path (paged_of st) t))
+unfetched_grows : (st : Stored) (place : Place) (path : List ℕ) (after t : State) → trace_of t ≡ trace_of after → t.writer.pieces ≡ after.writer.pieces → session_of t ≡ session_of after → Grows after (state_of (fetched_or_fault place path (paged_of st) t))
 unfetched_grows absent place path after t e f k = quiet after t e f k
 unfetched_grows (plain content) place path after t e f k = quiet after t e f k
-unfetched_grows (bad reason) place path after t e f k = asks (fetch path) after (fetched path t) (ap (λ a. a ++ fetch path ∷ []) e) f k
-unfetched_grows (good program) place path after t e f k = asks (fetch path) after (fetched path t) (ap (λ a. a ++ fetch path ∷ []) e) f k
+unfetched_grows (bad reason) place path after t e f k = asks (fetch path) after (fetched path t) (asked_alike (fetch path) t after e f) f k
+unfetched_grows (good program) place path after t e f k = asks (fetch path) after (fetched path t) (asked_alike (fetch path) t after e f) f k
 
-fetched_grows : (st : Stored) (place : Place) (path : List ℕ) (after t : State) → IsPageStored st → after.asked ≡ t.asked ++ fetch path ∷ [] → t.writer.pieces ≡ after.writer.pieces → session_of t ≡ session_of after
+fetched_grows : (st : Stored) (place : Place) (path : List ℕ) (after t : State) → IsPageStored st → trace_of after ≡ trace_of (with_asked (fetch path) t) → t.writer.pieces ≡ after.writer.pieces → session_of t ≡ session_of after
     → Grows after (state_of (fetched_or_fault place path (paged_of st) t))
 fetched_grows absent place path after t is e f k = absurd is
 fetched_grows (plain content) place path after t is e f k = absurd is
 fetched_grows (bad reason) place path after t is e f k = quiet after (fetched path t) (sym e) f k
 fetched_grows (good program) place path after t is e f k = quiet after (fetched path t) (sym e) f k
 
-file_grows : (b : Bool) (st : Stored) (place : Place) (path : List ℕ) (s after t : State) → (b ≡ true → IsPageStored st) → t.asked ≡ s.asked → after.asked ≡ s.asked ++ (if b then fetch path ∷ [] else []) → t.writer.pieces ≡ after.writer.pieces → session_of t ≡ session_of after
-    → Grows after (state_of (fetched_or_fault place path (paged_of st) t))
-file_grows true st place path s after t is same e f k = fetched_grows st place path after t (is refl) (e ∙ ap (λ a. a ++ fetch path ∷ []) (sym same)) f k
-file_grows false st place path s after t is same e f k = unfetched_grows st place path after t (same ∙ sym (append-nil s.asked) ∙ sym e) f k
-
-look_grows : (file : Option File) (st : Stored) (place : Place) (path : List ℕ) (s after t : State) → (IsPageFile path file → IsPageStored st) → t.asked ≡ s.asked → after.asked ≡ s.asked ++ look_steps path file → t.writer.pieces ≡ after.writer.pieces → session_of t ≡ session_of after
-    → Grows after (state_of (fetched_or_fault place path (paged_of st) t))
-look_grows None st place path s after t is same e f k = unfetched_grows st place path after t (same ∙ sym (append-nil s.asked) ∙ sym e) f k
-look_grows (Some file) st place path s after t is same e f k = file_grows (is_page path) st place path s after t is same e f k
+-- s and t asked and committed the same, and behind s the look was done
+look_grows : (file : Option File) (st : Stored) (place : Place) (path : List ℕ) (s after t : State) → (IsPageFile path file → IsPageStored st) → trace_of t ≡ trace_of s → t.writer.pieces ≡ s.writer.pieces → trace_of after ≡ asked_all (look_steps path file) s
+    → t.writer.pieces ≡ after.writer.pieces → session_of t ≡ session_of after → Grows after (state_of (fetched_or_fault place path (paged_of st) t))
+look_grows None st place path s after t is same written e f k = unfetched_grows st place path after t (same ∙ (sym (asked_none s) ∙ sym e)) f k
+look_grows (Some file) st place path s after t is same written e f k = go (is_page path) is e
+  where
+    go : (b : Bool) → (b ≡ true → IsPageStored st) → trace_of after ≡ asked_all (if b then fetch path ∷ [] else []) s → Grows after (state_of (fetched_or_fault place path (paged_of st) t))
+    go true is e = fetched_grows st place path after t (is refl) (e ∙ sym (asked_alike (fetch path) t s same written)) f k
+    go false is e = unfetched_grows st place path after t (same ∙ (sym (asked_none s) ∙ sym e)) f k
 
 module _ {P K : Type 0} {taken : K → Option (List ℕ)} {faults : K → ℕ} {leads : P → P → Type 0} {asking : P → Asking} {tree : P → List File} where
   -- a page that is asked for under a charge that is spent
@@ -117,12 +145,12 @@ module _ {P K : Type 0} {taken : K → Option (List ℕ)} {faults : K → ℕ} {
       (Err failure.NoMemory)
   unlooked_doing leads_on w port serving path allowed on same e n is rise = record {
     by = λ first origin s r.
-        let after : State = record s { asked = s.asked; charge = n } in
+        let after : State = record s { asked = s.asked; order = s.order; charge = n } in
         record {
           got = [];
           replies = ap (λ (a : Asking). a.answers) e ∙ sym (append-nil (asking w.port.now).answers);
           after = after;
-          stood = stage_asked leads_on first w origin s port n n [] s.asked r on same (ap (λ (a : Asking). a.asked) e ∙ sym (append-nil (asking w.port.now).asked)) (sym (append-nil s.asked)) rise
+          stood = stage_asked leads_on first w origin s port n n [] s.asked s.order r on same (ap (λ (a : Asking). a.asked) e ∙ sym (append-nil (asking w.port.now).asked)) (sym (append-nil s.asked)) r.ordered rise
               (omega (arith, ap (λ (a : Asking). a.left) e, is)) refl;
           went = λ place future.
               subst (λ x. Grows after (state_of x)) (sym (look_goes serving place path (given future s) w.around.now.charge (serving.stored path) allowed r.charge refl))
@@ -143,8 +171,8 @@ module _ {P K : Type 0} {taken : K → Option (List ℕ)} {faults : K → ℕ} {
           record {
             got = [];
             replies = looked.answers ∙ sym (append-nil (asking w.port.now).answers);
-            after = record s { asked = s.asked; charge = s.charge };
-            stood = stage_asked leads_on first w origin s port n s.charge [] s.asked r on same (looked.asked ∙ ap (λ a. (asking w.port.now).asked ++ a) steps) (sym (append-nil s.asked)) (inl is)
+            after = record s { asked = s.asked; order = s.order; charge = s.charge };
+            stood = stage_asked leads_on first w origin s port n s.charge [] s.asked s.order r on same (looked.asked ∙ ap (λ a. (asking w.port.now).asked ++ a) steps) (sym (append-nil s.asked)) r.ordered (inl is)
                 (omega (arith, looked.left, claim)) (r.charge ∙ sym is);
             went = λ place future. look_goes serving place path (given future s) w.around.now.charge absent allowed r.charge (stores.told path found.Absent paged);
           };
@@ -159,8 +187,8 @@ module _ {P K : Type 0} {taken : K → Option (List ℕ)} {faults : K → ℕ} {
           record {
             got = [];
             replies = looked.answers ∙ sym (append-nil (asking w.port.now).answers);
-            after = record s { asked = s.asked; charge = s.charge };
-            stood = stage_asked leads_on first w origin s port n s.charge [] s.asked r on same (looked.asked ∙ ap (λ a. (asking w.port.now).asked ++ a) steps.1) (sym (append-nil s.asked)) (inl is)
+            after = record s { asked = s.asked; order = s.order; charge = s.charge };
+            stood = stage_asked leads_on first w origin s port n s.charge [] s.asked s.order r on same (looked.asked ∙ ap (λ a. (asking w.port.now).asked ++ a) steps.1) (sym (append-nil s.asked)) r.ordered (inl is)
                 (omega (arith, looked.left, look_claimed path (file_at path (tree w.port.now)), plain_claimed path steps.0)) (r.charge ∙ sym is);
             went = λ place future. look_goes serving place path (given future s) w.around.now.charge (plain text) allowed r.charge (stores.told path (found.Plain text) paged);
           };
@@ -177,8 +205,8 @@ module _ {P K : Type 0} {taken : K → Option (List ℕ)} {faults : K → ℕ} {
               got = [];
               replies = looked.answers ∙ sym (append-nil (asking w.port.now).answers);
               after = fetched path s;
-              stood = stage_asked leads_on first w origin s port n (s.charge + page_charge path) (fetch path ∷ []) (s.asked ++ fetch path ∷ []) r on same
-                  (looked.asked ∙ ap (λ a. (asking w.port.now).asked ++ a) steps.1) refl rise
+              stood = stage_asked leads_on first w origin s port n (s.charge + page_charge path) (fetch path ∷ []) (fetched path s).asked (fetched path s).order r on same
+                  (looked.asked ∙ ap (λ a. (asking w.port.now).asked ++ a) steps.1) refl (ordered_asked (fetch path) s r.ordered) rise
                   (omega (arith, looked.left, is, look_claimed path (file_at path (tree w.port.now)))) (omega (arith, is, r.charge, page_claimed path steps.0));
               went = λ place future. look_goes serving place path (given future s) w.around.now.charge (bad reason) allowed r.charge (stores.told path (found.Bad reason) paged);
             };
@@ -194,8 +222,8 @@ module _ {P K : Type 0} {taken : K → Option (List ℕ)} {faults : K → ℕ} {
               got = [];
               replies = looked.answers ∙ sym (append-nil (asking w.port.now).answers);
               after = fetched path s;
-              stood = stage_asked leads_on first w origin s port n (s.charge + page_charge path) (fetch path ∷ []) (s.asked ++ fetch path ∷ []) r on same
-                  (looked.asked ∙ ap (λ a. (asking w.port.now).asked ++ a) steps.1) refl rise
+              stood = stage_asked leads_on first w origin s port n (s.charge + page_charge path) (fetch path ∷ []) (fetched path s).asked (fetched path s).order r on same
+                  (looked.asked ∙ ap (λ a. (asking w.port.now).asked ++ a) steps.1) refl (ordered_asked (fetch path) s r.ordered) rise
                   (omega (arith, looked.left, is, look_claimed path (file_at path (tree w.port.now)))) (omega (arith, is, r.charge, page_claimed path steps.0));
               went = λ place future. look_goes serving place path (given future s) w.around.now.charge (good program) allowed r.charge (stored ∙ e) ∙ ap (λ st. Well (paged_of st) (fetched path (given future s))) (sym e);
             };
@@ -207,16 +235,17 @@ module _ {P K : Type 0} {taken : K → Option (List ℕ)} {faults : K → ℕ} {
       untold_doing = record {
         by = λ first origin s r.
             let file = file_at path (tree w.port.now) in
-            let after : State = record s { asked = s.asked ++ look_steps path file; charge = n } in
+            let steps = look_steps path file in
+            let after : State = record s { asked = (asked_all steps s).0; order = (asked_all steps s).1; charge = n } in
             record {
               got = [];
               replies = looked.answers ∙ sym (append-nil (asking w.port.now).answers);
               after = after;
-              stood = stage_asked leads_on first w origin s port n n (look_steps path file) (s.asked ++ look_steps path file) r on same looked.asked refl rise
+              stood = stage_asked leads_on first w origin s port n n steps after.asked after.order r on same looked.asked refl (ordered_all steps s n r.ordered) rise
                   (omega (arith, looked.left, is, look_claimed path file)) refl;
               went = λ place future.
                   subst (λ x. Grows after (state_of x)) (sym (look_goes serving place path (given future s) w.around.now.charge (serving.stored path) allowed r.charge refl))
-                  (look_grows file (serving.stored path) place path s after (given future s) (stores.pages path) refl refl refl refl);
+                  (look_grows file (serving.stored path) place path s after (given future s) (stores.pages path) refl refl refl refl refl);
             };
       }
 

@@ -9,6 +9,10 @@ use Rattle.run_stage.specs.Stage.{Reached}
 use Rattle.run_stage.specs.declared.stage.Stage.{Stage}
 use Rattle.run_world.proofs.Adds.{put_text_adds, result as result_adds}
 use Rattle.run_world.proofs.Parts.{adds_given}
+use Rattle.edges.proofs.Own.{front_same}
+use Rattle.edges.specs.History.{IsFront}
+use Rattle.page_meaning.proofs.Growing.{ordered_on}
+use Rattle.page_meaning.proofs.Words.{AddsPieces, put_adds}
 use Rattle.page_meaning.specs.Bodies.{put_text, taken as body_taken}
 use Rattle.page_meaning.specs.Growth.{state_of}
 use Rattle.page_meaning.specs.State.{State, in_scopes, in_writer}
@@ -34,15 +38,16 @@ module _ {P K : Type 0} where
 
 module _ {P K : Type 0} {taken : K → Option (List ℕ)} {faults : K → ℕ} {leads : P → P → Type 0} {asking : P → Asking} {tree : P → List File} where
   pub stage_written : (first w : Stage P K) (origin : Origin) (s : State) (held : Held) (sink : K) (t : Writer) → Reached taken faults leads asking tree first origin w s
-      → Stands origin.start origin.before held (taken sink) (faults sink) t → held.head ≡ w.writer.now.head → held.shown ≡ w.writer.now.shown
+      → Stands origin.start origin.before held (taken sink) (faults sink) t → held.head ≡ w.writer.now.head → held.shown ≡ w.writer.now.shown → IsFront s.writer.pieces t.pieces
       → Reached taken faults leads asking tree first origin (written_stage w held sink) (in_writer t s)
-  stage_written first w origin s held sink t r stands head shown = record {
+  stage_written first w origin s held sink t r stands head shown more = record {
     same = record { scopes = r.same.scopes; writer = r.same.writer; sink = r.same.sink; around = r.same.around; port = r.same.port };
     leads = r.leads;
     tree = r.tree;
     writer = stands;
     scopes = r.scopes;
     asked = r.asked;
+    ordered = ordered_on s (in_writer t s) refl more r.ordered;
     depth = r.depth;
     visits = r.visits;
     charge = r.charge;
@@ -62,6 +67,7 @@ module _ {P K : Type 0} {taken : K → Option (List ℕ)} {faults : K → ℕ} {
     writer = r.writer;
     scopes = refl;
     asked = r.asked;
+    ordered = r.ordered;
     depth = r.depth;
     visits = r.visits;
     charge = r.charge;
@@ -81,12 +87,12 @@ module _ {P K : Type 0} {taken : K → Option (List ℕ)} {faults : K → ℕ} {
   }
 
   -- a change of the writer
-  pub writer_changed : (w : Stage P K) (change : Writer → Writer) (held : Held) (sink : K)
+  pub writer_changed : (w : Stage P K) (change : Writer → Writer) → ((writer : Writer) → IsFront writer.pieces (change writer).pieces) → (held : Held) (sink : K)
       → ((start : Option (List ℕ)) (before : ℕ) (writer : Writer) → Stands start before w.writer.now (taken w.sink.now) (faults w.sink.now) writer → Stands start before held (taken sink) (faults sink) (change writer))
       → held.head ≡ w.writer.now.head → held.shown ≡ w.writer.now.shown
       → Changes (Reached taken faults leads asking tree) (λ s. in_writer (change s.writer) s) w (written_stage w held sink)
-  writer_changed w change held sink stands head shown = record {
-    by = λ first origin s r. stage_written first w origin s held sink (change s.writer) r (stands origin.start origin.before s.writer r.writer) head shown;
+  writer_changed w change adds held sink stands head shown = record {
+    by = λ first origin s r. stage_written first w origin s held sink (change s.writer) r (stands origin.start origin.before s.writer r.writer) head shown (adds s.writer);
   }
 
   -- a text that is put
@@ -102,7 +108,7 @@ module _ {P K : Type 0} {taken : K → Option (List ℕ)} {faults : K → ℕ} {
           got = [];
           replies = same ∙ sym (append-nil (replies w));
           after = in_writer h.0 s;
-          stood = stage_written first w origin s held sink h.0 r h.2 head shown;
+          stood = stage_written first w origin s held sink h.0 r h.2 head shown (subst (AddsPieces s.writer.pieces) h.1 (put_adds text s.writer));
           went = λ place future. ap (λ x. then_do (result_of place x (given future s)) (λ v s1. let d : Did = Well tt (in_writer v s1) in d)) h.1;
         };
   }
@@ -142,7 +148,8 @@ module _ {P K : Type 0} {taken : K → Option (List ℕ)} {faults : K → ℕ} {
       got = [];
       replies = same ∙ sym (append-nil (replies w));
       after = in_writer (without_body s.writer) s;
-      stood = stage_written first w origin s held w.sink.now (without_body s.writer) r (stands origin.start origin.before (taken w.sink.now) (faults w.sink.now) s.writer r.writer) head shown;
+      stood = stage_written first w origin s held w.sink.now (without_body s.writer) r (stands origin.start origin.before (taken w.sink.now) (faults w.sink.now) s.writer r.writer) head shown
+          (front_same s.writer.pieces);
       went = λ place. goes place s (ap (λ (x : Writer). x.kept) r.writer.holds) result answers;
     };
   }
@@ -156,9 +163,9 @@ module _ {P K : Type 0} {taken : K → Option (List ℕ)} {faults : K → ℕ} {
 
 -- a change of the writer that may lack memory
 module _ {P K : Type 0} (taken : K → Option (List ℕ)) (faults : K → ℕ) (leads : P → P → Type 0) (asking : P → Asking) (tree : P → List File) where
-  pub writer_ok : {A E : Type 0} (w : Stage P K) (change : Writer → Writer) (held : Held) (sink : K) (result : Result A E)
+  pub writer_ok : {A E : Type 0} (w : Stage P K) (change : Writer → Writer) → ((writer : Writer) → IsFront writer.pieces (change writer).pieces) → (held : Held) (sink : K) (result : Result A E)
       → ((start : Option (List ℕ)) (before : ℕ) (writer : Writer) → Stands start before w.writer.now (taken w.sink.now) (faults w.sink.now) writer → OnOk result (Stands start before held (taken sink) (faults sink) (change writer)))
       → held.head ≡ w.writer.now.head → held.shown ≡ w.writer.now.shown
       → OnOk result (Changes (Reached taken faults leads asking tree) (λ s. in_writer (change s.writer) s) w (written_stage w held sink))
-  writer_ok w change held sink (Ok a) stands head shown = writer_changed w change held sink stands head shown
-  writer_ok w change held sink (Err e) stands head shown = tt
+  writer_ok w change adds held sink (Ok a) stands head shown = writer_changed w change adds held sink stands head shown
+  writer_ok w change adds held sink (Err e) stands head shown = tt

@@ -6,6 +6,7 @@ use Rattle.run_world.specs.Programs.{stored_of}
 use Rattle.run_stage.specs.Standing.{HasCharged, KeepsResponse, KeepsSession, session_weight}
 use Rattle.run_world.specs.declared.program.Program.{Program}
 use Rattle.run_stage.specs.declared.stage.Stage.{Stage}
+use Rattle.page_meaning.specs.Growth.{IsOrdered}
 use Rattle.page_meaning.specs.State.{State}
 use Rattle.page_table.specs.Program.{Stored, absent, plain, bad, good}
 use Rattle.pg_text.specs.declared.place.PageFault.{PageFault}
@@ -33,6 +34,7 @@ pub record Reached {P K : Type 0} (taken : K → Option (List ℕ)) (faults : K 
   pub writer : Stands origin.start origin.before w.writer.now (taken w.sink.now) (faults w.sink.now) s.writer
   pub scopes : s.scopes ≡ w.scopes.now
   pub asked : s.asked ≡ origin.asked ++ (asking w.port.now).asked
+  pub ordered : IsOrdered s
   pub depth : w.around.now.depth ≡ first.around.now.depth
   pub visits : s.visits ≡ w.around.now.visits
   pub charge : s.charge ≡ w.around.now.charge

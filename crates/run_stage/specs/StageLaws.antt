@@ -37,6 +37,7 @@ module _ {P K : Type 0} {taken : K → Option (List ℕ)} {faults : K → ℕ} {
     writer = r.writer;
     scopes = r.scopes;
     asked = r.asked;
+    ordered = r.ordered;
     depth = refl;
     visits = r.visits;
     charge = r.charge;

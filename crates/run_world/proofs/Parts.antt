@@ -16,7 +16,7 @@ use Rattle.run_world.proofs.Adds.{Adds, then_at}
 
 -- what a state adds to doesn't look at the answers
 pub adds_given : (a : List Answer) (s t : State) → Grows (given a s) t → Grows s t
-adds_given a s t g = record { asked = g.asked; pieces = g.pieces; session = g.session }
+adds_given a s t g = record { asked = g.asked; order = g.order; pieces = g.pieces; session = g.session }
 
 module _ {W : Type 0} {reached : W → Origin → W → State → Type 0} {replies : W → List Answer} where
   -- memory was wanting before anything was done

@@ -64,7 +64,7 @@ returns-in-Ok-Plain-clause-closed g c = λ path made page is origin s stands non
     let named = c.in-Ok-Some.ensures page (ap (λ p. p.path) c.deref.ensures ∙ path_same program tree path page made is) (ap (λ p. p.settings) c.deref.ensures ∙ settings_same program tree path page made is) in
     let found = rw c.in-Ok-Plain.field-0-is at (c.in-Ok-Plain.ensures.looked origin _ _ _ _ s stands) in
     let on = reached _ _ _ _ _ _ _ s found.1 in
-    closed_whole _ _ s (with_no_visits s) _ _ _ _ _ _ _ c.file.result found.2 (record { scopes_are = on.scopes_are; asked = on.asked; writer = on.writer; id = on.id; fresh = on.fresh }) none (rw c.requires.status at c.file.ensures)
+    closed_whole _ _ s (with_no_visits s) _ _ _ _ _ _ _ c.file.result found.2 (record { scopes_are = on.scopes_are; asked = on.asked; ordered = on.ordered; writer = on.writer; id = on.id; fresh = on.fresh }) none (rw c.requires.status at c.file.ensures)
     (λ future. says_found (served_at c.args.port.now.tree.now c.args.request.now c.args.course.now.around) page (params_of c.args.request.now c.args.failure.own) (raise_of c.args.failure.raise) c.in-Ok-Some.path (plain c.in-Ok-Plain.text) s future (sym named ∙ c.in-Ok-Some.field-0-is) (paged_plain tree c.in-Ok-Some.path c.in-Ok-Plain.text found.0))
 
 pub returns-in_default-clause-closed : goal.returns-in_default-clause-closed
