@@ -1,4 +1,4 @@
-pub mod Functions
+pub mod Backward
 pub mod OneConversation
 pub mod Told
 pub mod WalkLemmas

@@ -1,6 +1,5 @@
 -- Where requests determine their exchanges, the bytes have one conversation.
 use Rattle.std.proofs.Common.{◌≡◌, ◌+◌, ℕ, Bool, true, false, List, [], ◌∷◌, map, refl, sym, ap, subst, ◌∙◌}
-use Rattle.std.specs.Bool.{MatchBool}
 use Rattle.http_in.specs.Requests.{Stop, Front, StopsAt}
 use Rattle.http_in.proofs.OneCut.{one_first, first_goes_on, one_stop}
 use Rattle.conversation.specs.Exchange.{Exchange, request_in}

@@ -25,10 +25,19 @@ closes number request = request.close || (number + 1 == MAX_REQUESTS)
 abbrev pub stops_after : ℕ → Exchange → Bool
 stops_after number e = closes number e.request || e.broken
 
--- the exchanges lead from one state to the other, one after the other; so many came before them
+-- the exchanges lead from one state to the other, one after the other; each comes with whether the connection closes after it
+abbrev pub WalkedBy : {W : Type 0} → (Bool → W → Exchange → W → Type 0) → W → List (Bool × Exchange) → W → Type 0
+WalkedBy serves old [] new = new ≡ old
+WalkedBy {W = W} serves old ((close, e) ∷ exchanges) new = (mid : W) × serves close old e mid × WalkedBy serves mid exchanges new
+
+-- each exchange with whether the connection closes after it; so many came before them
+abbrev pub with_closings : ℕ → List Exchange → List (Bool × Exchange)
+with_closings number [] = []
+with_closings number (e ∷ exchanges) = (closes number e.request, e) ∷ with_closings (number + 1) exchanges
+
+-- the exchanges of a connection lead from one state to the other; so many came before them
 abbrev pub Walked : {W : Type 0} → (Bool → W → Exchange → W → Type 0) → ℕ → W → List Exchange → W → Type 0
-Walked serves number old [] new = new ≡ old
-Walked {W = W} serves number old (e ∷ exchanges) new = (mid : W) × serves (closes number e.request) old e mid × Walked serves (number + 1) mid exchanges new
+Walked serves number old exchanges new = WalkedBy serves old (with_closings number exchanges) new
 
 -- the responses, joined
 abbrev pub texts : List Exchange → List ℕ

@@ -59,17 +59,17 @@ pub trait Desk {
         port: &mut Self::Port,
         clock: &mut Self::Clock,
         count: &mut Self::Count,
-        request: &Request,
+        request: Request,
         number: u64,
         close: bool,
         sink: &mut K,
     ) -> Outcome
         requires few { number < MAX_REQUESTS }
-        requires cookie { length request.now.cookie ≤ SESSION_ID_BYTES }
+        requires cookie { length request.cookie ≤ SESSION_ID_BYTES }
         requires ready { ready number self.old port.old clock.old count.old }
         ensures ready { ready (number + 1) self.new port.new clock.new count.new }
         ensures world { world self.new port.new clock.new count.new ≡ world self.old port.old clock.old count.old }
-        ensures served { Served (serves (world self.old port.old clock.old count.old)) (starves (world self.old port.old clock.old count.old)) close request.now (state self.old port.old clock.old count.old) (state self.new port.new clock.new count.new) (K.faults sink.old) (K.faults sink.new) (K.taken sink.old) (K.taken sink.new) result }
+        ensures served { Served (serves (world self.old port.old clock.old count.old)) (starves (world self.old port.old clock.old count.old)) close request (state self.old port.old clock.old count.old) (state self.new port.new clock.new count.new) (K.faults sink.old) (K.faults sink.new) (K.taken sink.old) (K.taken sink.new) result }
         ensures later { K.faults sink.old ≤ K.faults sink.new }
         ensures failed { result ≡ Outcome.WriteFault → Rose (K.faults sink.old) (K.faults sink.new) };
 }

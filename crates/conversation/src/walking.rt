@@ -46,7 +46,7 @@ pub fn walk<D: Desk, S: Source, K: Sink>(
             Err(Failure::Fault(fault)) => return refuse(alloc, fault, sink),
         };
         let last = closes(number, &request);
-        match desk.serve(alloc, port, clock, count, &request, number, last, sink) {
+        match desk.serve(alloc, port, clock, count, request, number, last, sink) {
             Outcome::Whole => {}
             Outcome::Broken => return Ended::Done,
             Outcome::WriteFault => return Ended::WriteFault,

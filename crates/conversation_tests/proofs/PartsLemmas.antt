@@ -1,7 +1,6 @@
 -- A response that was sent in parts, whole or in part.
 use Rattle.std.proofs.Common.{◌≡◌, ℕ, Bool, true, false, List, Option, sym, refl, ◌∙◌}
 use Rattle.std.specs.Prelude.{if◌then◌else◌}
-use Rattle.edges.specs.Faults.{Rose}
 use Rattle.http_in.specs.declared.request.Request.{Request}
 use Rattle.http_out.specs.Sent.{Sent}
 use Rattle.conversation.specs.declared.desk.Outcome.{Outcome}

@@ -38,7 +38,7 @@ impl Desk for Parts {
         _port: &mut u8,
         _clock: &mut u8,
         _count: &mut u8,
-        request: &Request,
+        request: Request,
         _number: u64,
         _close: bool,
         sink: &mut K,

@@ -5,6 +5,7 @@ use Rattle.std.specs.Option.{unwrap_or}
 use Rattle.dispatch.proofs.ServedLemmas.{answers_taken, drops_taken}
 use Rattle.dispatch.specs.Replied.{response_in}
 use Rattle.dispatch.specs.Started.{HasBegun, Replies, Start, Starves, meant}
+use Rattle.edges.specs.Clock.{Moments}
 use Rattle.http_out.specs.Response.{Response, wire}
 use Rattle.http_out.specs.declared.head.Head.{Head}
 use Rattle.out_buffer.specs.Held.{Held}
@@ -74,7 +75,7 @@ replies_starve x pass p new now course taken faults reply replies = record {
   means = λ more. subst (GoesWithin course.writer.head replies.ran.after) (sym (replies.means more)) (reply_within course.writer reply more replies.ran.after replies.is_open);
 }
 
-module _ (x : Opening) (pass : ℕ) (old : Standing) (ahead : Option (List ℕ)) (p : Start) (begun : HasBegun x pass old ahead p) (new : List Entry) (now : ℕ) where
+module _ (x : Opening) (pass : ℕ) (old : Standing) (moments : Moments) (p : Start) (begun : HasBegun x pass old moments p) (new : List Entry) (now : ℕ) where
   -- under the tree and the session of its Begin
   meant_is : (answers : List Answer) → respond (paged_at (tree_at needs_at x p.begun)) p.request (session_found needs_at x p.request.cookie p.begun begun.begins.session) answers ≡ meant p answers
   meant_is answers =
@@ -87,9 +88,9 @@ module _ (x : Opening) (pass : ℕ) (old : Standing) (ahead : Option (List ℕ))
   -- it was answered to its end
   pub answered : (turns : List Turn) (response : Response) (end : State) → list_all is_whole turns ≡ true → meant p (answers_of x.seed turns) ≡ responds response end → end.asked ≡ steps_of turns → end.answers ≡ []
       → HasDone needs_at x pass p.begun new (all_calls p.number turns ++ (op.End p.number (attrs_left end), reply.Ended) ∷ []) → now ≡ p.steps + all_bytes p.tree turns
-      → Answers needs_at x pass p.request p.close old (wire (closing p.close response) p.shown) response.broken (standing_of new ahead now)
+      → Answers needs_at x pass p.request p.close old (wire (closing p.close response) p.shown) response.broken (standing_of new moments now)
   answered turns response end whole means asked used did read =
-      answers_taken needs_at x pass p.request p.close old (wire (closing p.close response) p.shown) response.broken (standing_of new ahead now) begun.takes
+      answers_taken needs_at x pass p.request p.close old (wire (closing p.close response) p.shown) response.broken (standing_of new moments now) begun.takes
       (record {
         moment = begun.moment;
         told = begun.told;
@@ -113,9 +114,9 @@ module _ (x : Opening) (pass : ℕ) (old : Standing) (ahead : Option (List ℕ))
   -- it was abandoned
   pub dropped : (turns : List Turn) (reached : State) (text : List ℕ) (head : Head) → are_whole_but_last turns ≡ true → reached.asked ≡ steps_of turns → IsOrdered reached → ((more : List Answer) → GoesWithin head reached (meant p (answers_of x.seed turns ++ more)))
       → HasDone needs_at x pass p.begun new (all_calls p.number turns ++ (op.Abandon p.number, reply.Dropped) ∷ []) → now ≤ p.steps + all_bytes p.tree turns
-      → text ≡ dropped_text (sent_head head reached) p.close p.shown reached.writer.pieces → Drops needs_at x pass p.request p.close old text (standing_of new ahead now)
+      → text ≡ dropped_text (sent_head head reached) p.close p.shown reached.writer.pieces → Drops needs_at x pass p.request p.close old text (standing_of new moments now)
   dropped turns reached text head stops asked ordered means did read text_is =
-      drops_taken needs_at x pass p.request p.close old text (standing_of new ahead now) begun.takes
+      drops_taken needs_at x pass p.request p.close old text (standing_of new moments now) begun.takes
       (record {
         moment = begun.moment;
         told = begun.told;
@@ -139,7 +140,7 @@ module _ (x : Opening) (pass : ℕ) (old : Standing) (ahead : Option (List ℕ))
   -- by its reply and its End
   pub replied_answer : (mid : List Entry) (course : Course) (taken : Option (List ℕ)) (faults : ℕ) (r : Reply) (replies : Replies x pass p mid now course taken faults r)
       → HasDone needs_at x pass mid new ((op.End p.number (unwrap_or course.scopes.session []), reply.Ended) ∷ [])
-      → Answers needs_at x pass p.request p.close old (wire (closing p.close (response_in course.writer r replies.ran.after)) p.shown) (response_in course.writer r replies.ran.after).broken (standing_of new ahead now)
+      → Answers needs_at x pass p.request p.close old (wire (closing p.close (response_in course.writer r replies.ran.after)) p.shown) (response_in course.writer r replies.ran.after).broken (standing_of new moments now)
   replied_answer mid course taken faults r replies ended =
       let ran = replies.ran in
       let attrs : unwrap_or course.scopes.session [] ≡ attrs_left (given [] ran.after) = ap (λ (scopes : ScopeState). unwrap_or scopes.session []) (sym ran.stood.scopes_are) in
@@ -151,7 +152,7 @@ module _ (x : Opening) (pass : ℕ) (old : Standing) (ahead : Option (List ℕ))
 
   -- by its Abandon
   pub starved_drop : (mid : List Entry) (reached : State) (text : List ℕ) (head : Head) → Starves x pass p mid now head reached → HasDone needs_at x pass mid new ((op.Abandon p.number, reply.Dropped) ∷ [])
-      → text ≡ dropped_text (sent_head head reached) p.close p.shown reached.writer.pieces → Drops needs_at x pass p.request p.close old text (standing_of new ahead now)
+      → text ≡ dropped_text (sent_head head reached) p.close p.shown reached.writer.pieces → Drops needs_at x pass p.request p.close old text (standing_of new moments now)
   starved_drop mid reached text head starves abandoned text_is =
       dropped starves.turns reached text head starves.stops starves.asked starves.ordered starves.means
       (courses_join needs_at x pass p.begun mid new (all_calls p.number starves.turns) ((op.Abandon p.number, reply.Dropped) ∷ []) starves.did abandoned) starves.read text_is

@@ -8,6 +8,7 @@ use Rattle.dispatch.proofs.AnsweredLemmas.{replied_answer, starved_drop}
 use Rattle.dispatch.proofs.ReplyLemmas.{head_is}
 use Rattle.dispatch.specs.Replied.{Wrote, response_in}
 use Rattle.dispatch.specs.Started.{Came, HasBegun, IsAt, Ran, Replies, Start, Starves}
+use Rattle.edges.specs.Clock.{Moments}
 use Rattle.edges.specs.Faults.{Rose}
 use Rattle.http_out.specs.Response.{no_memory, wire}
 use Rattle.http_out.specs.Sent.{Sent}
@@ -61,31 +62,31 @@ pub fault_rose : (start : Option (List ℕ)) (before : ℕ) (text : List ℕ) (b
     → Rose before faults
 fault_rose start before text broken pieces taken faults o is wrote = (subst (λ o. Wrote {E = AllocError} start before text broken pieces taken faults (Ok o)) is wrote).1
 
-module _ (x : Opening) (pass : ℕ) (old : Standing) (ahead : Option (List ℕ)) (p : Start) (begun : HasBegun x pass old ahead p) (new : List Entry) (now : ℕ) where
+module _ (x : Opening) (pass : ℕ) (old : Standing) (moments : Moments) (p : Start) (begun : HasBegun x pass old moments p) (new : List Entry) (now : ℕ) where
   -- the response was written, whole or in part
-  came_written : (text : List ℕ) (broken : Bool) (pieces : List (List ℕ)) (taken : Option (List ℕ)) (faults : ℕ) (o : Outcome) → Answers needs_at x pass p.request p.close old text broken (standing_of new ahead now)
-      → Wrote {E = AllocError} p.taken p.faults text broken pieces taken faults (Ok o) → Came x pass old ahead p new now taken faults o
+  came_written : (text : List ℕ) (broken : Bool) (pieces : List (List ℕ)) (taken : Option (List ℕ)) (faults : ℕ) (o : Outcome) → Answers needs_at x pass p.request p.close old text broken (standing_of new moments now)
+      → Wrote {E = AllocError} p.taken p.faults text broken pieces taken faults (Ok o) → Came x pass old moments p new now taken faults o
   came_written text broken pieces taken faults outcome.Whole answers wrote =
-      record { text = text; served = subst (λ b. Answers needs_at x pass p.request p.close old text b (standing_of new ahead now)) wrote.1 answers; written = wrote.0 }
+      record { text = text; served = subst (λ b. Answers needs_at x pass p.request p.close old text b (standing_of new moments now)) wrote.1 answers; written = wrote.0 }
   came_written text broken pieces taken faults outcome.Broken answers wrote =
-      record { text = text; served = subst (λ b. Answers needs_at x pass p.request p.close old text b (standing_of new ahead now)) wrote.1 answers; written = wrote.0 }
+      record { text = text; served = subst (λ b. Answers needs_at x pass p.request p.close old text b (standing_of new moments now)) wrote.1 answers; written = wrote.0 }
   came_written text broken pieces taken faults outcome.WriteFault answers wrote = record { text = text; broken = broken; served = answers; sent = wrote.0 }
   came_written text broken pieces taken faults outcome.NoMemory answers wrote = absurd wrote
 
   -- its pages replied, and it was ended
   pub came_ended : (mid : List Entry) (course : Course) (before taken : Option (List ℕ)) (counted faults : ℕ) (r : Reply) (o : Outcome) (replies : Replies x pass p mid now course before counted r)
       → Wrote {E = AllocError} p.taken p.faults (wire (closing p.close (response_in course.writer r replies.ran.after)) p.shown) (response_in course.writer r replies.ran.after).broken replies.ran.after.writer.pieces taken faults (Ok o)
-      → HasDone needs_at x pass mid new ((op.End p.number (unwrap_or course.scopes.session []), reply.Ended) ∷ []) → Came x pass old ahead p new now taken faults o
+      → HasDone needs_at x pass mid new ((op.End p.number (unwrap_or course.scopes.session []), reply.Ended) ∷ []) → Came x pass old moments p new now taken faults o
   came_ended mid course before taken counted faults r o replies wrote ended =
       came_written (wire (closing p.close (response_in course.writer r replies.ran.after)) p.shown) (response_in course.writer r replies.ran.after).broken replies.ran.after.writer.pieces taken faults o
-      (replied_answer x pass old ahead p begun new now mid course before counted r replies ended) wrote
+      (replied_answer x pass old moments p begun new now mid course before counted r replies ended) wrote
 
   -- memory was wanting before anything was committed, and the plain answer says so
   pub came_silent : (mid : List Entry) (head : Head) (reached : State) (failed : Bool) (taken : Option (List ℕ)) (faults : ℕ) → Starves x pass p mid now head reached → reached.writer.pieces ≡ [] → HasDone needs_at x pass mid new ((op.Abandon p.number, reply.Dropped) ∷ [])
-      → Sent p.taken taken (no_memory p.close p.shown) failed → (failed ≡ true → Rose p.faults faults) → Came x pass old ahead p new now taken faults outcome.NoMemory
+      → Sent p.taken taken (no_memory p.close p.shown) failed → (failed ≡ true → Rose p.faults faults) → Came x pass old moments p new now taken faults outcome.NoMemory
   came_silent mid head reached failed taken faults starves none abandoned sent cause = record {
     text = no_memory p.close p.shown;
-    left = starved_drop x pass old ahead p begun new now mid reached (no_memory p.close p.shown) head starves abandoned (ap (dropped_text (head_of head.status head.content_type None reached) p.close p.shown) (sym none));
+    left = starved_drop x pass old moments p begun new now mid reached (no_memory p.close p.shown) head starves abandoned (ap (dropped_text (head_of head.status head.content_type None reached) p.close p.shown) (sym none));
     failed = failed;
     sent = sent;
     cause = cause;
@@ -93,7 +94,7 @@ module _ (x : Opening) (pass : ℕ) (old : Standing) (ahead : Option (List ℕ))
 
   -- or behind a commit, and what was sent stands
   pub came_cut : (mid : List Entry) (course : Course) (taken : Option (List ℕ)) (faults : ℕ) (ran : Ran x pass p mid course taken faults) → course.writer.committed ≡ true → Starves x pass p mid now course.writer.head ran.after
-      → HasDone needs_at x pass mid new ((op.Abandon p.number, reply.Dropped) ∷ []) → Came x pass old ahead p new now taken faults outcome.NoMemory
+      → HasDone needs_at x pass mid new ((op.Abandon p.number, reply.Dropped) ∷ []) → Came x pass old moments p new now taken faults outcome.NoMemory
   came_cut mid course taken faults ran committed starves abandoned =
       let s = ran.after in
       let held = course.writer in
@@ -102,7 +103,7 @@ module _ (x : Opening) (pass : ℕ) (old : Standing) (ahead : Option (List ℕ))
       let streamed = ran.stood.writer.streamed in
       record {
         text = so_far held.head held.shown s.writer.pieces;
-        left = starved_drop x pass old ahead p begun new now mid s (so_far held.head held.shown s.writer.pieces) held.head starves abandoned
+        left = starved_drop x pass old moments p begun new now mid s (so_far held.head held.shown s.writer.pieces) held.head starves abandoned
             (ap (λ shown. so_far held.head shown s.writer.pieces) ran.headed.shown_is
             ∙ sent_so_far (head_of held.head.status held.head.content_type None s) held.head p.close p.shown s.writer.pieces s.writer refl some head);
         failed = held.failed;
@@ -112,14 +113,14 @@ module _ (x : Opening) (pass : ℕ) (old : Standing) (ahead : Option (List ℕ))
 
   -- the same where it was abandoned by its number
   pub came_abandoned : (mid : List Entry) (head : Head) (reached : State) (failed : Bool) (taken : Option (List ℕ)) (faults number : ℕ) (close shown : Bool) → IsAt p number close shown → Starves x pass p mid now head reached → reached.writer.pieces ≡ []
-      → HasDone needs_at x pass mid new ((op.Abandon number, reply.Dropped) ∷ []) → Sent p.taken taken (no_memory close shown) failed → (failed ≡ true → Rose p.faults faults) → Came x pass old ahead p new now taken faults outcome.NoMemory
+      → HasDone needs_at x pass mid new ((op.Abandon number, reply.Dropped) ∷ []) → Sent p.taken taken (no_memory close shown) failed → (failed ≡ true → Rose p.faults faults) → Came x pass old moments p new now taken faults outcome.NoMemory
   came_abandoned mid head reached failed taken faults number close shown is starves none abandoned sent cause =
       came_silent mid head reached failed taken faults starves none (subst (λ n. HasDone needs_at x pass mid new ((op.Abandon n, reply.Dropped) ∷ [])) (sym is.number_is) abandoned)
       (subst (λ close. Sent p.taken taken (no_memory close p.shown) failed) (sym is.close_is) (subst (λ shown. Sent p.taken taken (no_memory close shown) failed) (sym is.shown_is) sent)) cause
 
   -- or behind a commit
   pub came_cut_off : (mid : List Entry) (course : Course) (taken : Option (List ℕ)) (faults number : ℕ) (close shown : Bool) (ran : Ran x pass p mid course taken faults) → IsAt p number close shown → course.writer.committed ≡ true → Starves x pass p mid now course.writer.head ran.after
-      → HasDone needs_at x pass mid new ((op.Abandon number, reply.Dropped) ∷ []) → Came x pass old ahead p new now taken faults outcome.NoMemory
+      → HasDone needs_at x pass mid new ((op.Abandon number, reply.Dropped) ∷ []) → Came x pass old moments p new now taken faults outcome.NoMemory
   came_cut_off mid course taken faults number close shown ran is committed starves abandoned =
       came_cut mid course taken faults ran committed starves (subst (λ n. HasDone needs_at x pass mid new ((op.Abandon n, reply.Dropped) ∷ [])) (sym is.number_is) abandoned)
 
@@ -127,7 +128,7 @@ module _ (x : Opening) (pass : ℕ) (old : Standing) (ahead : Option (List ℕ))
   pub came_finished : (mid : List Entry) (course : Course) (before taken : Option (List ℕ)) (counted faults number : ℕ) (close shown : Bool) (r : Reply) (o : Outcome) (attrs : Entries) (replies : Replies x pass p mid now course before counted r)
       → IsAt p number close shown
       → Wrote {E = AllocError} p.taken p.faults (wire (closing close (response_in course.writer r replies.ran.after)) shown) (response_in course.writer r replies.ran.after).broken replies.ran.after.writer.pieces taken faults (Ok o)
-      → attrs ≡ unwrap_or course.scopes.session [] → HasDone needs_at x pass mid new ((op.End number attrs, reply.Ended) ∷ []) → Came x pass old ahead p new now taken faults o
+      → attrs ≡ unwrap_or course.scopes.session [] → HasDone needs_at x pass mid new ((op.End number attrs, reply.Ended) ∷ []) → Came x pass old moments p new now taken faults o
   came_finished mid course before taken counted faults number close shown r o attrs replies is wrote attrs_are ended =
       let response = response_in course.writer r replies.ran.after in
       let pieces = replies.ran.after.writer.pieces in

@@ -2,6 +2,7 @@
 use Rattle.std.proofs.Common.{◌≡◌, ℕ, Bool, false, List, [], Option, refl, sym, subst, arith}
 use Rattle.dispatch.specs.Started.{HasBegun, Start, Starves, started}
 use Rattle.edges.proofs.Own.{front_none}
+use Rattle.edges.specs.Clock.{Moments}
 use Rattle.http_in.specs.declared.request.Request.{Request}
 use Rattle.http_out.proofs.SentLemmas.{sent_none}
 use Rattle.http_out.specs.declared.head.Head.{Head}
@@ -21,11 +22,11 @@ pub at_same : (F : Opening → ℕ → Type 0) (x y : Opening) (pass other : ℕ
 at_same F x y pass other opening same h = subst (λ x. F x pass) opening (subst (F y) same h)
 
 -- of the tree that a reference shows
-pub begun_as : (x : Opening) (pass : ℕ) (old : Standing) (ahead : Option (List ℕ)) (request : Request) (close shown seen : Bool) (number : ℕ) (tree other : List File) (found : Option FoundSession) (begun : List Entry) (steps : ℕ) (taken : Option (List ℕ)) (faults : ℕ)
-    → shown ≡ seen → other ≡ tree → HasBegun x pass old ahead (started request close seen number tree found begun steps taken faults) → HasBegun x pass old ahead (started request close shown number other found begun steps taken faults)
-begun_as x pass old ahead request close shown seen number tree other found begun steps taken faults shown_is tree_is h =
-    subst (λ shown. HasBegun x pass old ahead (started request close shown number other found begun steps taken faults)) (sym shown_is)
-    (subst (λ tree. HasBegun x pass old ahead (started request close seen number tree found begun steps taken faults)) (sym tree_is) h)
+pub begun_as : (x : Opening) (pass : ℕ) (old : Standing) (moments : Moments) (request : Request) (close shown seen : Bool) (number : ℕ) (tree other : List File) (found : Option FoundSession) (begun : List Entry) (steps : ℕ) (taken : Option (List ℕ)) (faults : ℕ)
+    → shown ≡ seen → other ≡ tree → HasBegun x pass old moments (started request close seen number tree found begun steps taken faults) → HasBegun x pass old moments (started request close shown number other found begun steps taken faults)
+begun_as x pass old moments request close shown seen number tree other found begun steps taken faults shown_is tree_is h =
+    subst (λ shown. HasBegun x pass old moments (started request close shown number other found begun steps taken faults)) (sym shown_is)
+    (subst (λ tree. HasBegun x pass old moments (started request close seen number tree found begun steps taken faults)) (sym tree_is) h)
 
 -- where memory was wanting before any page ran
 pub begun_starves : (x : Opening) (pass : ℕ) (p : Start) (head : Head) → Legal needs_at x p.begun → Starves x pass p p.begun p.steps head (beginning p.found [])

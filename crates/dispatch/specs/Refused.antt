@@ -15,7 +15,7 @@ use Rattle.site_words.specs.declared.words.Refusal.{Refusal}
 -- its Begin was refused at a moment of the clock, and nothing was read
 pub record IsTurnedAway (needs : Needs) (x : Opening) (pass : ℕ) (request : Request) (refusal : Refusal) (old new : Standing) : Type 0 where
   pub moment : ℕ
-  pub told : Answers old.ahead new.ahead moment
+  pub told : Answers old.moments new.moments moment
   pub stays : Stays needs x pass old.seen new.seen
   pub refused : step needs x (site_after needs x new.seen) pass (op.Begin request.cookie moment) ≡ Refused refusal
   pub read : new.steps ≡ old.steps

@@ -4,7 +4,7 @@ use Rattle.std.specs.List.{list_all}
 use Rattle.conversation.specs.Exchange.{Exchange}
 use Rattle.conversation.specs.Served.{Served}
 use Rattle.conversation.specs.declared.desk.Outcome.{Outcome}
-use Rattle.edges.specs.Clock.{Answers as Tells}
+use Rattle.edges.specs.Clock.{Answers as Tells, Moments}
 use Rattle.http_in.specs.declared.request.Request.{Request}
 use Rattle.http_out.specs.declared.head.Head.{Head}
 use Rattle.page_answers.specs.Answers.{Answers, shows_body, takes_method}
@@ -64,10 +64,10 @@ origin_of p = record { start = p.taken; before = p.faults; asked = [] }
 abbrev pub meant : Start → List Answer → Answered
 meant p answers = respond (paged_at p.tree) p.request p.found answers
 
--- it was begun at a moment of the clock, from this standing; these moments are ahead then
-pub record HasBegun (x : Opening) (pass : ℕ) (old : Standing) (ahead : Option (List ℕ)) (p : Start) : Type 0 where
+-- it was begun at a moment of the clock, from this standing; this is what the clock tells of its moments then
+pub record HasBegun (x : Opening) (pass : ℕ) (old : Standing) (moments : Moments) (p : Start) : Type 0 where
   pub moment : ℕ
-  pub told : Tells old.ahead ahead moment
+  pub told : Tells old.moments moments moment
   pub begins : Begins needs_at x pass p.request.cookie moment old.seen p.begun
   pub number : p.number ≡ begins.request
   pub tree : p.tree ≡ tree_at needs_at x p.begun
@@ -77,9 +77,9 @@ pub record HasBegun (x : Opening) (pass : ℕ) (old : Standing) (ahead : Option 
   pub takes : takes_method p.request.method ≡ true
 
 -- what came of it by the outcome: the pass has seen this then, so much was read, and the sink has taken this
-abbrev pub Came : Opening → (pass : ℕ) → (old : Standing) → (ahead : Option (List ℕ)) → Start → (new : List Entry) → (now : ℕ) → (taken : Option (List ℕ)) → (faults : ℕ) → Outcome → Type 0
-Came x pass old ahead p new now taken faults outcome =
-    Served (λ close old (e : Exchange) new. Answers needs_at x pass e.request close old e.text e.broken new) (λ close old asked text new. Drops needs_at x pass asked close old text new) p.close p.request old (standing_of new ahead now) p.faults
+abbrev pub Came : Opening → (pass : ℕ) → (old : Standing) → (moments : Moments) → Start → (new : List Entry) → (now : ℕ) → (taken : Option (List ℕ)) → (faults : ℕ) → Outcome → Type 0
+Came x pass old moments p new now taken faults outcome =
+    Served (λ close old (e : Exchange) new. Answers needs_at x pass e.request close old e.text e.broken new) (λ close old asked text new. Drops needs_at x pass asked close old text new) p.close p.request old (standing_of new moments now) p.faults
     faults p.taken taken outcome
 
 -- it did these turns, and what it keeps stands for this state

@@ -7,6 +7,7 @@ ghost use Rattle.conversation.specs.declared.desk.Outcome.TheVariants as outcome
 ghost use Rattle.dispatch.specs.Begun.{IsBegun};
 ghost use Rattle.dispatch.specs.Opened.{IsOpened};
 ghost use Rattle.dispatch.specs.Started.{Came, HasBegun, IsAt, Ran, Replies, RunsSo, Start, Starves, started};
+ghost use Rattle.edges.specs.Clock.{Moments};
 ghost use Rattle.edges.specs.Faults.{Rose};
 ghost use Rattle.edges.specs.declared.acted.Acted.TheVariants.{Did};
 ghost use Rattle.http_out.specs.declared.head.Head.{Head};
@@ -56,8 +57,8 @@ pub(crate) fn serve<Q: Port<Made>, K: Sink, L: Ledger>(
     requires opened { IsOpened (Q.opening port.old) (Q.pass port.old) (Q.seen port.old) begun.request begun.session (arc_value begun.tree) }
     ensures idle { IsIdle (Q.opening port.new) (Q.pass port.new) (Q.seen port.new) }
     ensures same { IsSamePort (Q.pass port.old) (Q.pass port.new) (Q.opening port.old) (Q.opening port.new) (Q.home port.old) (Q.home port.new) }
-    ensures came { (old : Standing) (ahead : Option (List ℕ)) → let p : Start = started request.now close (shows_body request.now) begun.request (arc_value begun.tree) (found request.now.cookie begun.session begun.attrs) (Q.seen port.old) steps.old (K.taken sink.old) (K.faults sink.old) in
-        HasBegun (Q.opening port.old) (Q.pass port.old) old ahead p → Came (Q.opening port.old) (Q.pass port.old) old ahead p (Q.seen port.new) steps.new (K.taken sink.new) (K.faults sink.new) result }
+    ensures came { (old : Standing) (moments : Moments) → let p : Start = started request.now close (shows_body request.now) begun.request (arc_value begun.tree) (found request.now.cookie begun.session begun.attrs) (Q.seen port.old) steps.old (K.taken sink.old) (K.faults sink.old) in
+        HasBegun (Q.opening port.old) (Q.pass port.old) old moments p → Came (Q.opening port.old) (Q.pass port.old) old moments p (Q.seen port.new) steps.new (K.taken sink.new) (K.faults sink.new) result }
     ensures later { K.faults sink.old ≤ K.faults sink.new }
     ensures failed { result ≡ outcome.WriteFault → Rose (K.faults sink.old) (K.faults sink.new) }
 {
@@ -167,8 +168,8 @@ fn finish<Q: Port<Made>, K: Sink>(
     requires drops { May (Q.opening port.old) (Q.seen port.old) (Q.pass port.old) (own (Q.pass port.old) (Q.seen port.old)) (op.Abandon number) }
     ensures idle { IsIdle (Q.opening port.new) (Q.pass port.new) (Q.seen port.new) }
     ensures same { IsSamePort (Q.pass port.old) (Q.pass port.new) (Q.opening port.old) (Q.opening port.new) (Q.home port.old) (Q.home port.new) }
-    ensures came { (p : Start) (old : Standing) (ahead : Option (List ℕ)) (now : ℕ) → IsAt p number close shown → HasBegun (Q.opening port.old) (Q.pass port.old) old ahead p
-        → Replies (Q.opening port.old) (Q.pass port.old) p (Q.seen port.old) now course (K.taken sink.old) (K.faults sink.old) reply → Came (Q.opening port.old) (Q.pass port.old) old ahead p (Q.seen port.new) now (K.taken sink.new) (K.faults sink.new) result }
+    ensures came { (p : Start) (old : Standing) (moments : Moments) (now : ℕ) → IsAt p number close shown → HasBegun (Q.opening port.old) (Q.pass port.old) old moments p
+        → Replies (Q.opening port.old) (Q.pass port.old) p (Q.seen port.old) now course (K.taken sink.old) (K.faults sink.old) reply → Came (Q.opening port.old) (Q.pass port.old) old moments p (Q.seen port.new) now (K.taken sink.new) (K.faults sink.new) result }
     ensures failed { (p : Start) (now : ℕ) → IsAt p number close shown → Replies (Q.opening port.old) (Q.pass port.old) p (Q.seen port.old) now course (K.taken sink.old) (K.faults sink.old) reply → result ≡ outcome.WriteFault → Rose p.faults (K.faults sink.new) }
     ensures later { K.faults sink.old ≤ K.faults sink.new }
 {
@@ -198,9 +199,9 @@ fn give_up<Q: Port<Made>, K: Sink>(
     requires drops { May (Q.opening port.old) (Q.seen port.old) (Q.pass port.old) (own (Q.pass port.old) (Q.seen port.old)) (op.Abandon number) }
     ensures idle { IsIdle (Q.opening port.new) (Q.pass port.new) (Q.seen port.new) }
     ensures same { IsSamePort (Q.pass port.old) (Q.pass port.new) (Q.opening port.old) (Q.opening port.new) (Q.home port.old) (Q.home port.new) }
-    ensures came { (p : Start) (old : Standing) (ahead : Option (List ℕ)) (now : ℕ) (course : Course') (ran : Ran (Q.opening port.old) (Q.pass port.old) p (Q.seen port.old) course (K.taken sink.old) (K.faults sink.old)) → IsAt p number close shown
-        → HasBegun (Q.opening port.old) (Q.pass port.old) old ahead p → committed ≡ course.writer.committed → Starves (Q.opening port.old) (Q.pass port.old) p (Q.seen port.old) now course.writer.head ran.after
-        → Came (Q.opening port.old) (Q.pass port.old) old ahead p (Q.seen port.new) now (K.taken sink.new) (K.faults sink.new) result }
+    ensures came { (p : Start) (old : Standing) (moments : Moments) (now : ℕ) (course : Course') (ran : Ran (Q.opening port.old) (Q.pass port.old) p (Q.seen port.old) course (K.taken sink.old) (K.faults sink.old)) → IsAt p number close shown
+        → HasBegun (Q.opening port.old) (Q.pass port.old) old moments p → committed ≡ course.writer.committed → Starves (Q.opening port.old) (Q.pass port.old) p (Q.seen port.old) now course.writer.head ran.after
+        → Came (Q.opening port.old) (Q.pass port.old) old moments p (Q.seen port.new) now (K.taken sink.new) (K.faults sink.new) result }
     ensures outcome { result ≡ outcome.NoMemory }
     ensures later { K.faults sink.old ≤ K.faults sink.new }
 {
@@ -222,9 +223,9 @@ fn abandon<Q: Port<Made>, K: Sink>(
     requires drops { May (Q.opening port.old) (Q.seen port.old) (Q.pass port.old) (own (Q.pass port.old) (Q.seen port.old)) (op.Abandon number) }
     ensures idle { IsIdle (Q.opening port.new) (Q.pass port.new) (Q.seen port.new) }
     ensures same { IsSamePort (Q.pass port.old) (Q.pass port.new) (Q.opening port.old) (Q.opening port.new) (Q.home port.old) (Q.home port.new) }
-    ensures came { (p : Start) (old : Standing) (ahead : Option (List ℕ)) (now : ℕ) (head : Head) (reached : State) → IsAt p number close shown → HasBegun (Q.opening port.old) (Q.pass port.old) old ahead p
+    ensures came { (p : Start) (old : Standing) (moments : Moments) (now : ℕ) (head : Head) (reached : State) → IsAt p number close shown → HasBegun (Q.opening port.old) (Q.pass port.old) old moments p
         → Starves (Q.opening port.old) (Q.pass port.old) p (Q.seen port.old) now head reached → reached.writer.pieces ≡ [] → HasTaken p.taken p.faults [] false (K.taken sink.old) (K.faults sink.old)
-        → Came (Q.opening port.old) (Q.pass port.old) old ahead p (Q.seen port.new) now (K.taken sink.new) (K.faults sink.new) result }
+        → Came (Q.opening port.old) (Q.pass port.old) old moments p (Q.seen port.new) now (K.taken sink.new) (K.faults sink.new) result }
     ensures outcome { result ≡ outcome.NoMemory }
     ensures later { K.faults sink.old ≤ K.faults sink.new }
 {

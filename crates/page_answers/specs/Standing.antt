@@ -1,6 +1,6 @@
 -- What a request finds and leaves, and when it begins.
 use Rattle.std.specs.Prelude.{◌≡◌, ℕ, ◌+◌, List, Option, Some, None}
-use Rattle.edges.specs.Clock.{Answers}
+use Rattle.edges.specs.Clock.{Answers, Moments}
 use Rattle.page_meaning.specs.Respond.{FoundSession}
 use Rattle.pg_value.specs.Datum.{Datum}
 use Rattle.site_words.specs.Calls.{Acts}
@@ -14,20 +14,20 @@ use Rattle.site_words.specs.declared.words.Opening.{Opening}
 use Rattle.site_words.specs.declared.words.Reply.TheVariants as reply
 use Rattle.source_tree.specs.declared.file.File.{File}
 
--- what the pass has seen of the history, the moments that are ahead where the clock tells them, and the bytes read so far
+-- what the pass has seen of the history, what the clock tells of its moments, and the bytes read so far
 pub record Standing : Type 0 where
   pub seen : List Entry
-  pub ahead : Option (List ℕ)
+  pub moments : Moments
   pub steps : ℕ
 
 -- these three as a standing
-abbrev pub standing_of : List Entry → Option (List ℕ) → ℕ → Standing
-standing_of seen ahead steps = record { seen = seen; ahead = ahead; steps = steps }
+abbrev pub standing_of : List Entry → Moments → ℕ → Standing
+standing_of seen moments steps = record { seen = seen; moments = moments; steps = steps }
 
 -- the clock answered a moment, and what comes of it is this
 pub record AtMoment (old new : Standing) (comes : ℕ → Type 0) : Type 0 where
   pub moment : ℕ
-  pub told : Answers old.ahead new.ahead moment
+  pub told : Answers old.moments new.moments moment
   pub done : comes moment
 
 -- the request has begun at a front of the history: its number, the version that is the latest there, and the session that it found

@@ -19,7 +19,7 @@ impl<'a> WallClock<'a> {
 impl<'a> Clock for WallClock<'a> {
     ghost use Rattle.std.specs.Prelude.{None};
 
-    ghost ahead = { λ clock. None };
+    ghost moments = { λ clock. record { ahead = None; noted = None } };
 
     fn now(&mut self) -> u64 {
         if let Some(moment) = moment(self.rt) {

@@ -5,15 +5,17 @@ use Rattle.std.specs.Option.{option_and_then}
 use Rattle.std.specs.Str.{bytes_eq}
 use Rattle.conversation.specs.declared.ended.Ended.{Ended}
 use Rattle.conversation.specs.declared.ended.Ended.TheVariants.{Done, Refused}
+use Rattle.edges.specs.Clock.{Moments}
 use Rattle.http_out.specs.Sent.{Sent}
 use Rattle.load_gen.specs.Messages.{asks, generated, messages}
-use Rattle.pages_talk.specs.Play.{HasTalked, first_seed}
+use Rattle.pages_talk.specs.Play.{HasTalked, first_seed, opening_of}
 use Rattle.pg_text.specs.Numbers.{whole_number}
 use Rattle.site_words.specs.declared.words.Entry.{Entry}
 use Rattle.site_words.specs.declared.words.Op.{Op}
 use Rattle.site_words.specs.declared.words.Op.TheVariants as op
 use Rattle.site_words.specs.declared.words.Reply.{Reply}
 use Rattle.site_words.specs.declared.words.Reply.TheVariants as reply
+use Rattle.talk_words.specs.Noted.{telling}
 
 -- a number of pages, from 1 to 1,000
 abbrev pub of_pages : ℕ → Option ℕ
@@ -67,10 +69,10 @@ report number history answers =
 
 -- the messages for so many pages were sent to a new site, at the moment 0, and that ended so: these are its history and the answers
 pub record IsSpoken (number : ℕ) (steps now : ℕ) (history : List Entry) (answers : List ℕ) (ended : Ended) : Type 0 where
-  pub still : Option (List ℕ)
+  pub still : Moments
   pub later : Option (List ℕ)
   pub after : ℕ
-  pub talked : HasTalked first_seed (Some (0 ∷ [])) still steps now (Some (generated number)) later 0 after (Some []) (Some answers) ended
+  pub talked : HasTalked (opening_of first_seed) (telling (0 ∷ [])) still steps now (Some (generated number)) later 0 after (Some []) (Some answers) ended
   pub history_is : talked.history ≡ history
 
 -- a conversation that ended so is whole: memory wasn't wanting in it, and nothing outside failed

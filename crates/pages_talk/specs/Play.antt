@@ -2,6 +2,7 @@
 use Rattle.std.specs.Prelude.{ℕ, ◌&&◌, List, [], ◌∷◌, codes, replicate, Option, Some, None, if◌then◌else◌}
 use Rattle.std.specs.Result.{result_ok}
 use Rattle.std.specs.Str.{bytes_eq}
+use Rattle.edges.specs.Clock.{Moments}
 use Rattle.hex.specs.Hex.{decode_sized}
 use Rattle.conversation.specs.Conversation.{Tells}
 use Rattle.conversation.specs.declared.ended.Ended.{Ended}
@@ -37,16 +38,16 @@ seed_asked (word ∷ option ∷ digits ∷ next ∷ words) = None
 abbrev pub opening_of : (seed : List ℕ) → Opening
 opening_of seed = first_opening seed [] [] 2147483648 1 1800
 
--- the one connection to that site, an editor's too
-abbrev pub only_connection : (seed : List ℕ) → Connection
-only_connection seed = connection_of needs_at (opening_of seed) 0 Both
+-- the one connection to a site, an editor's too
+abbrev pub only_connection : Opening → Connection
+only_connection x = connection_of needs_at x 0 Both
 
--- the connection was talked on from the beginning of the site: ahead and still are what its clock had and has ahead, steps and now the counts of bytes read
-pub record HasTalked (seed : List ℕ) (ahead still : Option (List ℕ)) (steps now : ℕ) (left later : Option (List ℕ)) (before after : ℕ) (old new : Option (List ℕ)) (ended : Ended) : Type 0 where
+-- the connection was talked on from the beginning of a site with this opening: moments and still are what its clock told and tells, steps and now the counts of bytes read
+pub record HasTalked (x : Opening) (moments still : Moments) (steps now : ℕ) (left later : Option (List ℕ)) (before after : ℕ) (old new : Option (List ℕ)) (ended : Ended) : Type 0 where
   pub draft : List Edit
   pub history : List Entry
-  pub talk : Tells (IsSaid (only_connection seed)) (IsLeft (only_connection seed)) (stand_of [] (standing_of [] ahead steps)) (stand_of draft (standing_of history still now)) left later before after old new ended
-  pub grown : HasGrown needs_at (opening_of seed) 0 [] history
+  pub talk : Tells (IsSaid (only_connection x)) (IsLeft (only_connection x)) (stand_of [] (standing_of [] moments steps)) (stand_of draft (standing_of history still now)) left later before after old new ended
+  pub grown : HasGrown needs_at x 0 [] history
 
 -- the status of the program
 abbrev pub exit_status : Ended → ℕ

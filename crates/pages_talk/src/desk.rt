@@ -41,7 +41,7 @@ impl<P: Port<Made>, C: Clock, L: Ledger> Desk for PortDesk<P, C, L> {
 
     ghost world = { λ desk port clock count. (connection_of needs_at (P.opening port) (P.pass port) desk.role, P.home port) };
 
-    ghost state = { λ desk port clock count. stand_of desk.draft (standing_of (P.seen port) (C.ahead clock) count) };
+    ghost state = { λ desk port clock count. stand_of desk.draft (standing_of (P.seen port) (C.moments clock) count) };
 
     ghost ready = { λ number desk port clock count. IsIdle (P.opening port) (P.pass port) (P.seen port) };
 
@@ -55,16 +55,16 @@ impl<P: Port<Made>, C: Clock, L: Ledger> Desk for PortDesk<P, C, L> {
         port: &mut P,
         clock: &mut C,
         count: &mut Steps<L>,
-        request: &Request,
+        request: Request,
         _number: u64,
         close: bool,
         sink: &mut K,
     ) -> Outcome {
         port.law();
-        match way_for(self.role, request) {
-            Way::Edits => edit(alloc, &mut self.draft, port, request, close, sink),
-            Way::Nowhere => find_nothing(alloc, request, close, sink),
-            Way::Asks => respond(alloc, port, request, close, sink, clock, count),
+        match way_for(self.role, &request) {
+            Way::Edits => edit(alloc, &mut self.draft, port, &request, close, sink),
+            Way::Nowhere => find_nothing(alloc, &request, close, sink),
+            Way::Asks => respond(alloc, port, &request, close, sink, clock, count),
         }
     }
 }

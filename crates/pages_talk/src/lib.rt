@@ -12,4 +12,6 @@ pub use command::play;
 pub use connection::talk;
 pub use conversation::Ended;
 pub use starting::start_alone;
-pub use talk_words::{Role, each_once, exact_refusals, exact_work, one_history, versions};
+pub use talk_words::{
+    Role, each_once, exact_refusals, exact_work, one_history, told_again, versions,
+};

@@ -1,4 +1,5 @@
 pub mod GrownLemmas
+pub mod NotedLemmas
 pub mod RefusalLemmas
 pub mod ServedLemmas
 pub mod UseLemmas

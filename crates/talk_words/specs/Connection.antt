@@ -17,7 +17,7 @@ pub record Connection : Type 0 where
 abbrev pub connection_of : Needs → Opening → (pass : ℕ) → Role → Connection
 connection_of needs opening pass role = record { needs = needs; opening = opening; pass = pass; role = role }
 
--- where a connection stands: the edits of its draft, and what its pass has seen, what is ahead and what was read
+-- where a connection stands: the edits of its draft, and what its pass has seen, what its clock tells and what was read
 pub record Stand : Type 0 where
   pub draft : List Edit
   pub at : Standing

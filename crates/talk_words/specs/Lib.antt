@@ -1,5 +1,6 @@
 pub mod Connection
 pub mod Grown
+pub mod Noted
 pub mod Refusals
 pub mod Said
 pub mod Served

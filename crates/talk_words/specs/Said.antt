@@ -56,7 +56,7 @@ told_text told close shown = plain (told_status told) close (told_lines told) sh
 
 -- no moment was taken, and nothing was read
 pub record IsQuiet (old new : Stand) : Type 0 where
-  pub ahead : new.at.ahead ≡ old.at.ahead
+  pub moments : new.at.moments ≡ old.at.moments
   pub read : new.at.steps ≡ old.at.steps
 
 -- the editor took the message: a draft was changed or published, or the message has a fault; and that was told

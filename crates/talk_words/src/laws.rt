@@ -1,5 +1,6 @@
 //! The laws of connections, each a clause of a function without a body of its own.
 ghost use Rattle.talk_words.specs.Grown.{HasOneHistory};
+ghost use Rattle.talk_words.specs.Noted.{IsToldAgain};
 ghost use Rattle.talk_words.specs.Refusals.{HasExactRefusals};
 ghost use Rattle.talk_words.specs.Uses.{EachOnce};
 ghost use Rattle.talk_words.specs.Versions.{AreNeverOlder};
@@ -28,4 +29,9 @@ pub fn exact_refusals()
 /// A connection reads exactly the files on which the pages depend that it missed, each page in its request's tree.
 pub fn exact_work()
     ensures { HasExactWork }
+{}
+
+/// A connection whose clock noted its moments is the same connection over a clock that tells them.
+pub fn told_again()
+    ensures { IsToldAgain }
 {}

@@ -5,6 +5,6 @@ mod laws;
 mod role;
 mod way;
 
-pub use laws::{each_once, exact_refusals, exact_work, one_history, versions};
+pub use laws::{each_once, exact_refusals, exact_work, one_history, told_again, versions};
 pub use role::Role;
 pub use way::{Way, way_for};

@@ -16,7 +16,7 @@ use Rattle.source_tree.specs.declared.file.File.{File}
 pub returns-then-not-takes_method-clause-served : goal.returns-then-not-takes_method-clause-served
 returns-then-not-takes_method-clause-served g c =
     let port = c.args.port.now in
-    c.not_taken.ensures.served needs_at (g.Q.Port.opening port) (g.Q.Port.pass port) (standing_of (g.Q.Port.seen port) (g.C.Clock.ahead c.args.clock.now) c.args.steps.now)
+    c.not_taken.ensures.served needs_at (g.Q.Port.opening port) (g.Q.Port.pass port) (standing_of (g.Q.Port.seen port) (g.C.Clock.moments c.args.clock.now) c.args.steps.now)
 
 pub serve-requires-clause-opened : goal.serve-requires-clause-opened
 serve-requires-clause-opened g c =
@@ -42,11 +42,11 @@ returns-in-Did-clause-served g c =
     let begun = c.in-Did.begun in
     let starts = c.in-Did.ensures.start in
     let same = c.begin.ensures.same in
-    let ahead = g.C.Clock.ahead c.now-moment.new.self in
-    let old = standing_of (g.Q.Port.seen port) (g.C.Clock.ahead c.args.clock.now) c.args.steps.now in
+    let moments = g.C.Clock.moments c.now-moment.new.self in
+    let old = standing_of (g.Q.Port.seen port) (g.C.Clock.moments c.args.clock.now) c.args.steps.now in
     let p : Start = started request c.args.close (shows_body request) begun.request (arc_value begun.tree) (found request.cookie begun.session begun.attrs) (g.Q.Port.seen mid) c.args.steps.now (g.K.Sink.taken c.args.sink.now) (g.K.Sink.faults c.args.sink.now) in
-    at_same (λ (x : Opening) (pass : ℕ). HasBegun x pass old ahead p → Came x pass old ahead p (g.Q.Port.seen c.serve.new.port) c.serve.new.steps (g.K.Sink.taken c.serve.new.sink) (g.K.Sink.faults c.serve.new.sink) c.serve.result) x (g.Q.Port.opening mid) pass
-    (g.Q.Port.pass mid) same.1 same.0 (c.serve.ensures.came old ahead)
+    at_same (λ (x : Opening) (pass : ℕ). HasBegun x pass old moments p → Came x pass old moments p (g.Q.Port.seen c.serve.new.port) c.serve.new.steps (g.K.Sink.taken c.serve.new.sink) (g.K.Sink.faults c.serve.new.sink) c.serve.result) x (g.Q.Port.opening mid) pass
+    (g.Q.Port.pass mid) same.1 same.0 (c.serve.ensures.came old moments)
     (record {
       moment = c.now-moment.result;
       told = c.now-moment.ensures;
@@ -70,8 +70,8 @@ returns-in-Refused-clause-served g c =
     let port = c.args.port.now in
     let mid = c.begin.new.self in
     let call = c.in-Refused.ensures.call in
-    c.full.ensures.served needs_at (g.Q.Port.opening port) (g.Q.Port.pass port) (standing_of (g.Q.Port.seen port) (g.C.Clock.ahead c.args.clock.now) c.args.steps.now)
-    (standing_of (g.Q.Port.seen mid) (g.C.Clock.ahead c.now-moment.new.self) c.args.steps.now)
+    c.full.ensures.served needs_at (g.Q.Port.opening port) (g.Q.Port.pass port) (standing_of (g.Q.Port.seen port) (g.C.Clock.moments c.args.clock.now) c.args.steps.now)
+    (standing_of (g.Q.Port.seen mid) (g.C.Clock.moments c.now-moment.new.self) c.args.steps.now)
     (record { moment = c.now-moment.result; told = c.now-moment.ensures; stays = call.0; refused = call.1; read = refl })
 
 pub returns-in-NoMemory-clause-served : goal.returns-in-NoMemory-clause-served
@@ -81,8 +81,8 @@ returns-in-NoMemory-clause-served g c =
     let x = g.Q.Port.opening port in
     let pass = g.Q.Port.pass port in
     let request = c.args.request.now in
-    let old = standing_of (g.Q.Port.seen port) (g.C.Clock.ahead c.args.clock.now) c.args.steps.now in
-    let new = standing_of (g.Q.Port.seen mid) (g.C.Clock.ahead c.now-moment.new.self) c.args.steps.now in
+    let old = standing_of (g.Q.Port.seen port) (g.C.Clock.moments c.args.clock.now) c.args.steps.now in
+    let new = standing_of (g.Q.Port.seen mid) (g.C.Clock.moments c.now-moment.new.self) c.args.steps.now in
     starves_silently {starves = λ close old asked text new. Drops needs_at x pass asked close old text new} c.args.close request old new (g.K.Sink.faults c.args.sink.now) (g.K.Sink.faults c.args.sink.now) (g.K.Sink.taken c.args.sink.now)
     (drops_taken needs_at x pass request c.args.close old [] new (sym c.if-not-takes_method.ensures)
     (record { moment = c.now-moment.result; told = c.now-moment.ensures; done = inl (record { stays = c.in-NoMemory.ensures.call; read = refl; text_is = refl }) }))

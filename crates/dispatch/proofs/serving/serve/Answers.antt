@@ -32,7 +32,7 @@ run-requires g c =
     }
 
 pub returns-in_default-clause-came : goal.returns-in_default-clause-came
-returns-in_default-clause-came g c = λ old ahead begins.
+returns-in_default-clause-came g c = λ old moments begins.
     let port = c.args.port.now in
     let x = g.Q.Port.opening port in
     let pass = g.Q.Port.pass port in
@@ -44,11 +44,11 @@ returns-in_default-clause-came g c = λ old ahead begins.
     let taken = g.K.Sink.taken c.args.sink.now in
     let faults = g.K.Sink.faults c.args.sink.now in
     let p : Start = started request c.args.close shown begun.request tree session (g.Q.Port.seen port) c.args.steps.now taken faults in
-    let here = begun_as x pass old ahead request c.args.close shown (shows_body request) begun.request tree tree session (g.Q.Port.seen port) c.args.steps.now taken faults c.shows_body-shown.ensures refl begins in
-    c.abandon.ensures.came p old ahead c.args.steps.now (empty_head c.args.close) (beginning session []) (record { number_is = refl; close_is = refl; shown_is = refl }) here (begun_starves x pass p (empty_head c.args.close) c.law.ensures.legal) refl (none_taken taken faults)
+    let here = begun_as x pass old moments request c.args.close shown (shows_body request) begun.request tree tree session (g.Q.Port.seen port) c.args.steps.now taken faults c.shows_body-shown.ensures refl begins in
+    c.abandon.ensures.came p old moments c.args.steps.now (empty_head c.args.close) (beginning session []) (record { number_is = refl; close_is = refl; shown_is = refl }) here (begun_starves x pass p (empty_head c.args.close) c.law.ensures.legal) refl (none_taken taken faults)
 
 pub returns-in-Ok-run-clause-came : goal.returns-in-Ok-run-clause-came
-returns-in-Ok-run-clause-came g c = λ old ahead begins.
+returns-in-Ok-run-clause-came g c = λ old moments begins.
     let port = c.args.port.now in
     let x = g.Q.Port.opening port in
     let pass = g.Q.Port.pass port in
@@ -60,17 +60,17 @@ returns-in-Ok-run-clause-came g c = λ old ahead begins.
     let taken = g.K.Sink.taken c.args.sink.now in
     let faults = g.K.Sink.faults c.args.sink.now in
     let p : Start = started request c.args.close shown begun.request tree session (g.Q.Port.seen port) c.args.steps.now taken faults in
-    let here = begun_as x pass old ahead request c.args.close shown (shows_body request) begun.request (arc_value begun.tree) tree session (g.Q.Port.seen port) c.args.steps.now taken faults c.shows_body-shown.ensures c.deref.ensures begins in
+    let here = begun_as x pass old moments request c.args.close shown (shows_body request) begun.request (arc_value begun.tree) tree session (g.Q.Port.seen port) c.args.steps.now taken faults c.shows_body-shown.ensures c.deref.ensures begins in
     let replies = c.in-Ok-run.ensures.ran begun.session begun.attrs c.in-Ok.ensures in
     let mid = c.run.new.port in
     let same = c.run.ensures.same in
     at_same
-    (λ (x : Opening) (pass : ℕ). HasBegun x pass old ahead p → Replies x pass p (g.Q.Port.seen mid) c.run.new.steps c.run.new.course (g.K.Sink.taken c.run.new.sink) (g.K.Sink.faults c.run.new.sink) c.in-Ok-run.reply
-    → Came x pass old ahead p (g.Q.Port.seen c.finish.new.port) c.run.new.steps (g.K.Sink.taken c.finish.new.sink) (g.K.Sink.faults c.finish.new.sink) c.finish.result) x (g.Q.Port.opening mid) pass (g.Q.Port.pass mid) same.1 same.0
-    (c.finish.ensures.came p old ahead c.run.new.steps (record { number_is = refl; close_is = refl; shown_is = refl })) here replies
+    (λ (x : Opening) (pass : ℕ). HasBegun x pass old moments p → Replies x pass p (g.Q.Port.seen mid) c.run.new.steps c.run.new.course (g.K.Sink.taken c.run.new.sink) (g.K.Sink.faults c.run.new.sink) c.in-Ok-run.reply
+    → Came x pass old moments p (g.Q.Port.seen c.finish.new.port) c.run.new.steps (g.K.Sink.taken c.finish.new.sink) (g.K.Sink.faults c.finish.new.sink) c.finish.result) x (g.Q.Port.opening mid) pass (g.Q.Port.pass mid) same.1 same.0
+    (c.finish.ensures.came p old moments c.run.new.steps (record { number_is = refl; close_is = refl; shown_is = refl })) here replies
 
 pub returns-clause-came : goal.returns-clause-came
-returns-clause-came g c = λ old ahead begins.
+returns-clause-came g c = λ old moments begins.
     let port = c.args.port.now in
     let x = g.Q.Port.opening port in
     let pass = g.Q.Port.pass port in
@@ -82,7 +82,7 @@ returns-clause-came g c = λ old ahead begins.
     let taken = g.K.Sink.taken c.args.sink.now in
     let faults = g.K.Sink.faults c.args.sink.now in
     let p : Start = started request c.args.close shown begun.request tree session (g.Q.Port.seen port) c.args.steps.now taken faults in
-    let here = begun_as x pass old ahead request c.args.close shown (shows_body request) begun.request (arc_value begun.tree) tree session (g.Q.Port.seen port) c.args.steps.now taken faults c.shows_body-shown.ensures c.deref.ensures begins in
+    let here = begun_as x pass old moments request c.args.close shown (shows_body request) begun.request (arc_value begun.tree) tree session (g.Q.Port.seen port) c.args.steps.now taken faults c.shows_body-shown.ensures c.deref.ensures begins in
     let starves = c.in-Err.ensures.ran begun.session begun.attrs c.in-Ok.ensures in
     let mid = c.run.new.port in
     let same = c.run.ensures.same in
@@ -90,6 +90,6 @@ returns-clause-came g c = λ old ahead begins.
     let sent = g.K.Sink.taken c.run.new.sink in
     let counted = g.K.Sink.faults c.run.new.sink in
     at_same
-    (λ (x : Opening) (pass : ℕ). HasBegun x pass old ahead p → (ran : Ran x pass p (g.Q.Port.seen mid) course sent counted) × Starves x pass p (g.Q.Port.seen mid) c.run.new.steps course.writer.head ran.after
-    → Came x pass old ahead p (g.Q.Port.seen c.give_up.new.port) c.run.new.steps (g.K.Sink.taken c.give_up.new.sink) (g.K.Sink.faults c.give_up.new.sink) c.give_up.result) x (g.Q.Port.opening mid) pass (g.Q.Port.pass mid) same.1 same.0
-    (λ begins short. c.give_up.ensures.came p old ahead c.run.new.steps course short.0 (record { number_is = refl; close_is = refl; shown_is = refl }) begins c.committed.ensures short.1) here starves
+    (λ (x : Opening) (pass : ℕ). HasBegun x pass old moments p → (ran : Ran x pass p (g.Q.Port.seen mid) course sent counted) × Starves x pass p (g.Q.Port.seen mid) c.run.new.steps course.writer.head ran.after
+    → Came x pass old moments p (g.Q.Port.seen c.give_up.new.port) c.run.new.steps (g.K.Sink.taken c.give_up.new.sink) (g.K.Sink.faults c.give_up.new.sink) c.give_up.result) x (g.Q.Port.opening mid) pass (g.Q.Port.pass mid) same.1 same.0
+    (λ begins short. c.give_up.ensures.came p old moments c.run.new.steps course short.0 (record { number_is = refl; close_is = refl; shown_is = refl }) begins c.committed.ensures short.1) here starves

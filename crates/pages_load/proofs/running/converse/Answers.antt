@@ -1,10 +1,11 @@
 use Rattle.std.proofs.Common.{Some, sym, ap}
 use Rattle.site_core.specs.Lived.{Lived}
+use Rattle.talk_words.specs.Noted.{telling}
 use Rattle.pages_load.proofs.running.converse.Goals as goal
 
 pub returns-clause-spoken : goal.returns-clause-spoken
 returns-clause-spoken g c = record {
-  still = Some c.talk-ended.new.clock;
+  still = telling c.talk-ended.new.clock;
   later = Some c.talk-ended.new.source.rest;
   after = c.talk-ended.new.sink.faults;
   talked = record {
