@@ -21,7 +21,7 @@ const BROWSER: &[u8] =
 #[test]
 fn requests_of_real_clients_are_read(rt: HostRuntime) -> Result<(), Fail> {
     let id = "0000000000000000ade0b876903df1a0e56a5d4028bd8653";
-    for (bytes, fields, wanted, session) in [
+    for &(bytes, fields, wanted, session) in &[
         (CURL, 4, "/shop/list.jsp|n=Bo&q=a+b|(n,Bo)(q,a b)|", id),
         (
             CURL_FORM,
@@ -38,7 +38,7 @@ fn requests_of_real_clients_are_read(rt: HostRuntime) -> Result<(), Fail> {
         ),
     ] {
         let wanted = format!(in rt.alloc(); "{wanted}{session}|")?;
-        for piece in [1, 65_536] {
+        for &piece in &[1, 65_536] {
             let request = only_request(rt.alloc(), bytes, piece)?;
             assert_eq!(rt; parts(rt.alloc(), &request)?.as_str(), wanted.as_str());
             assert_eq!(rt; request.fields.len(), fields);

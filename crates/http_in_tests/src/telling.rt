@@ -52,7 +52,7 @@ pub fn told_with(alloc: Global, fields: &str) -> Result<String, AllocError> {
 }
 
 fn tell(told: &mut String, request: &Request) -> Result<(), AllocError> {
-    for part in [request.method.as_str(), " ", request.target.as_str(), " "] {
+    for &part in &[request.method.as_str(), " ", request.target.as_str(), " "] {
         told.push_str(part)?;
     }
     told.push_str(str::from_utf8(request.body.as_slice()).unwrap_or("?"))?;
@@ -98,7 +98,7 @@ pub fn parts(alloc: Global, request: &Request) -> Result<String, AllocError> {
     })?;
     told.push('|')?;
     for param in request.params.as_slice() {
-        for part in ["(", param.name.as_str(), ",", param.value.as_str(), ")"] {
+        for &part in &["(", param.name.as_str(), ",", param.value.as_str(), ")"] {
             told.push_str(part)?;
         }
     }
@@ -113,7 +113,7 @@ pub fn fields(alloc: Global, request: &Request) -> Result<String, AllocError> {
     let mut told = String::new(alloc);
     for field in request.fields.as_slice() {
         let value = str::from_utf8(field.value.as_slice()).unwrap_or("no text");
-        for part in [field.name.as_str(), ":", value, "|"] {
+        for &part in &[field.name.as_str(), ":", value, "|"] {
             told.push_str(part)?;
         }
     }

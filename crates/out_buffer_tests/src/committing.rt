@@ -8,7 +8,7 @@ use std::test::Fail;
 #[test]
 fn a_buffer_commits_only_what_is_over_it(rt: HostRuntime) -> Result<(), Fail> {
     let alloc = rt.alloc();
-    for (kilobytes, count, wanted, end) in [
+    for &(kilobytes, count, wanted, end) in &[
         (8, 8_191, "Content-Length: 8191\r\n\r\n", ""),
         (8, 8_192, "Content-Length: 8192\r\n\r\n", ""),
         (
@@ -32,7 +32,7 @@ fn a_buffer_commits_only_what_is_over_it(rt: HostRuntime) -> Result<(), Fail> {
         assert!(rt; ends(writer, &mut sink, false));
         let front = letters(alloc, if end.is_empty() { count } else { count - 1 })?;
         let all = format!(in alloc; "{START}{wanted}{front}{end}")?;
-        assert_eq!(rt; sink.taken(), all.as_bytes(), "{count}");
+        assert_eq!(rt; sink.taken(), all.as_bytes());
     }
     Ok(())
 }
@@ -42,7 +42,7 @@ fn without_a_buffer_each_text_is_a_piece(rt: HostRuntime) -> Result<(), Fail> {
     let alloc = rt.alloc();
     let mut sink = MemSink::new(alloc, Vec::new(alloc));
     let mut writer = page(alloc, None, true, true)?;
-    for text in ["", "ab", "", "c"] {
+    for &text in &["", "ab", "", "c"] {
         assert!(rt; puts(&mut writer, &mut sink, text));
     }
     assert!(rt; flushes(&mut writer, &mut sink));
@@ -95,7 +95,7 @@ fn a_failed_sink_is_left_alone(rt: HostRuntime) -> Result<(), Fail> {
     // The second of the three parts of the first chunk fails, behind the head.
     let mut sink = MemSink::new(alloc, vec![in alloc; 2]?);
     let mut writer = page(alloc, None, true, true)?;
-    for text in ["ab", "c"] {
+    for &text in &["ab", "c"] {
         assert!(rt; puts(&mut writer, &mut sink, text));
     }
     let ended = writer.finish(&mut sink, false);
@@ -108,7 +108,7 @@ fn a_failed_sink_is_left_alone(rt: HostRuntime) -> Result<(), Fail> {
 #[test]
 fn another_head_may_be_given_until_something_is_committed(rt: HostRuntime) -> Result<(), Fail> {
     let alloc = rt.alloc();
-    for (shown, body) in [(true, "gone"), (false, "")] {
+    for &(shown, body) in &[(true, "gone"), (false, "")] {
         let mut sink = MemSink::new(alloc, Vec::new(alloc));
         let mut writer = page(alloc, Some(1), true, shown)?;
         assert!(rt; puts(&mut writer, &mut sink, "abc"));

@@ -11,13 +11,13 @@ fn bodies_are_kept_inside_bodies(rt: HostRuntime) -> Result<(), Fail> {
     let alloc = rt.alloc();
     let mut sink = MemSink::new(alloc, Vec::new(alloc));
     let mut writer = page(alloc, None, true, true)?;
-    for text in ["a", "b", "c"] {
+    for &text in &["a", "b", "c"] {
         assert!(rt; keeps(&mut writer));
         assert!(rt; puts(&mut writer, &mut sink, text));
         assert!(rt; flushes(&mut writer, &mut sink));
     }
     writer.drop_bodies(2);
-    for (left, wanted) in [(2, "bx"), (1, "ax")] {
+    for &(left, wanted) in &[(2, "bx"), (1, "ax")] {
         assert!(rt; writer.bodies() == left && left > 0);
         assert!(rt; puts(&mut writer, &mut sink, "x"));
         assert!(rt; writer.bodies() > 0);
@@ -37,7 +37,7 @@ fn a_kept_body_is_measured(rt: HostRuntime) -> Result<(), Fail> {
     let mut sink = MemSink::new(alloc, Vec::new(alloc));
     let mut writer = page(alloc, None, true, true)?;
     let large = letters(alloc, MOST)?;
-    for (more, wanted) in [
+    for &(more, wanted) in &[
         ("", Ok(MOST)),
         ("a", Err(Failure::Fault(RunFault::ValueTooLarge))),
     ] {

@@ -5,7 +5,7 @@ use std::test::Fail;
 
 #[test]
 fn values_have_texts(rt: HostRuntime) -> Result<(), Fail> {
-    for (json, text) in [
+    for &(json, text) in &[
         ("null", ""),
         ("true", "true"),
         ("-9223372036854775808", "-9223372036854775808"),
@@ -23,7 +23,7 @@ fn values_have_texts(rt: HostRuntime) -> Result<(), Fail> {
 
 #[test]
 fn texts_are_numbers_decimals_or_neither(rt: HostRuntime) -> Result<(), Fail> {
-    for (text, number) in [
+    for &(text, number) in &[
         ("", Ok(0)),
         ("+5", Ok(5)),
         ("-9223372036854775808", Ok(i64::MIN)),
@@ -43,7 +43,7 @@ fn texts_are_numbers_decimals_or_neither(rt: HostRuntime) -> Result<(), Fail> {
         (" 1 ", Err(RunFault::NotANumber)),
     ] {
         let value = Value::Text(Text::copy_of(rt.alloc(), text)?);
-        assert_eq!(rt; to_int(&value), number, "{text}");
+        assert_eq!(rt; to_int(&value), number);
     }
     assert_eq!(rt; to_int(&Value::Null), Ok(0));
     assert_eq!(rt; to_int(&Value::Bool(true)), Err(RunFault::NotANumber));
@@ -52,9 +52,9 @@ fn texts_are_numbers_decimals_or_neither(rt: HostRuntime) -> Result<(), Fail> {
 
 #[test]
 fn texts_are_true_in_any_case(rt: HostRuntime) -> Result<(), Fail> {
-    for (text, truth) in [("TRUE", true), ("True", true), ("", false), ("yes", false)] {
+    for &(text, truth) in &[("TRUE", true), ("True", true), ("", false), ("yes", false)] {
         let value = Value::Text(Text::copy_of(rt.alloc(), text)?);
-        assert_eq!(rt; to_bool(&value), Ok(truth), "{text}");
+        assert_eq!(rt; to_bool(&value), Ok(truth));
     }
     assert_eq!(rt; to_bool(&Value::Int(1)), Err(RunFault::NotABoolean));
     Ok(())

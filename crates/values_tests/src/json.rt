@@ -29,7 +29,7 @@ fn nested(alloc: Global, lists: usize, letters: usize) -> Result<String, AllocEr
 
 #[test]
 fn whole_numbers_of_64_bits_alone_are_values(rt: HostRuntime) {
-    for (text, fault) in [
+    for &(text, fault) in &[
         ("{\"n\":1.5}", Some(JsonFault::Decimal)),
         ("-0", Some(JsonFault::Decimal)),
         ("1e2", Some(JsonFault::Decimal)),
@@ -42,13 +42,13 @@ fn whole_numbers_of_64_bits_alone_are_values(rt: HostRuntime) {
         ("[1] 2", Some(JsonFault::NotJson)),
         ("", Some(JsonFault::NotJson)),
     ] {
-        assert_eq!(rt; fault_of(rt.alloc(), text), fault, "{text}");
+        assert_eq!(rt; fault_of(rt.alloc(), text), fault);
     }
 }
 
 #[test]
 fn deep_texts_are_refused_before_large_ones(rt: HostRuntime) -> Result<(), Fail> {
-    for (lists, letters, fault) in [
+    for &(lists, letters, fault) in &[
         (32, 1, None),
         (33, 1, Some(JsonFault::TooDeep)),
         (127, 1, Some(JsonFault::TooDeep)),
@@ -58,11 +58,7 @@ fn deep_texts_are_refused_before_large_ones(rt: HostRuntime) -> Result<(), Fail>
         (33, 1_048_561, Some(JsonFault::TooDeep)),
     ] {
         let text = nested(rt.alloc(), lists, letters)?;
-        assert_eq!(rt;
-            fault_of(rt.alloc(), text.as_str()),
-            fault,
-            "{lists} {letters}"
-        );
+        assert_eq!(rt; fault_of(rt.alloc(), text.as_str()), fault);
     }
     Ok(())
 }

@@ -6,7 +6,7 @@ use std::test::Fail;
 #[test]
 fn operators_answer_the_table(rt: HostRuntime) -> Result<(), Fail> {
     let alloc = rt.alloc();
-    for (left, op, right, answer) in [
+    for &(left, op, right, answer) in &[
         ("1", BinOp::Add, "\"2\"", Ok("3")),
         (
             "9223372036854775807",
@@ -37,7 +37,7 @@ fn operators_answer_the_table(rt: HostRuntime) -> Result<(), Fail> {
         let left_value = from_json(alloc, left.as_bytes())?;
         let right_value = from_json(alloc, right.as_bytes())?;
         let found = binary(alloc, op, &left_value, &right_value);
-        assert!(rt; is_answer(alloc, found, answer)?, "{left} {op:?} {right}");
+        assert!(rt; is_answer(alloc, found, answer)?);
     }
     Ok(())
 }
@@ -45,7 +45,7 @@ fn operators_answer_the_table(rt: HostRuntime) -> Result<(), Fail> {
 #[test]
 fn operators_of_one_value_answer_the_table(rt: HostRuntime) -> Result<(), Fail> {
     let alloc = rt.alloc();
-    for (op, operand, answer) in [
+    for &(op, operand, answer) in &[
         (
             UnOp::Neg,
             "-9223372036854775808",
@@ -60,7 +60,7 @@ fn operators_of_one_value_answer_the_table(rt: HostRuntime) -> Result<(), Fail> 
         (UnOp::Empty, "0", Ok("false")),
     ] {
         let found = unary(op, &from_json(alloc, operand.as_bytes())?).map_err(Failure::Fault);
-        assert!(rt; is_answer(alloc, found, answer)?, "{op:?} {operand}");
+        assert!(rt; is_answer(alloc, found, answer)?);
     }
     Ok(())
 }
@@ -68,7 +68,7 @@ fn operators_of_one_value_answer_the_table(rt: HostRuntime) -> Result<(), Fail> 
 #[test]
 fn entries_and_items_are_found(rt: HostRuntime) -> Result<(), Fail> {
     let alloc = rt.alloc();
-    for (value, place, answer) in [
+    for &(value, place, answer) in &[
         ("{\"1\":[true]}", "1", Ok("[true]")),
         ("{\"a\":1}", "\"b\"", Ok("null")),
         ("[5,\"x\"]", "\"1\"", Ok("\"x\"")),
@@ -80,7 +80,7 @@ fn entries_and_items_are_found(rt: HostRuntime) -> Result<(), Fail> {
     ] {
         let container = from_json(alloc, value.as_bytes())?;
         let found = index(alloc, &container, &from_json(alloc, place.as_bytes())?);
-        assert!(rt; is_answer(alloc, found, answer)?, "{value}[{place}]");
+        assert!(rt; is_answer(alloc, found, answer)?);
     }
     Ok(())
 }

@@ -27,7 +27,7 @@ fn of_equal_keys_the_last_stands(rt: HostRuntime) -> Result<(), Fail> {
 
 #[test]
 fn values_are_weighed_and_measured(rt: HostRuntime) -> Result<(), Fail> {
-    for (text, heavy, deep) in [
+    for &(text, heavy, deep) in &[
         ("null", 8, 0),
         ("true", 8, 0),
         ("7", 16, 0),
@@ -38,7 +38,7 @@ fn values_are_weighed_and_measured(rt: HostRuntime) -> Result<(), Fail> {
         ("{\"items\":[{\"n\":2}]}", 102, 3),
     ] {
         let value = from_json(rt.alloc(), text.as_bytes())?;
-        assert_eq!(rt; (weight(&value), depth(&value)), (heavy, deep), "{text}");
+        assert_eq!(rt; (weight(&value), depth(&value)), (heavy, deep));
         assert!(rt; !is_too_large(&value));
     }
     Ok(())
@@ -123,7 +123,7 @@ fn many_names_are_a_record_soon(rt: HostRuntime) -> Result<(), Fail> {
 
 #[test]
 fn functions_and_faults_have_names(rt: HostRuntime) {
-    for (name, arity) in [
+    for &(name, arity) in &[
         ("containsIgnoreCase", Some(2)),
         ("trim", Some(1)),
         ("replace", Some(3)),
@@ -131,7 +131,7 @@ fn functions_and_faults_have_names(rt: HostRuntime) {
         ("", None),
     ] {
         let found = Function::of_name(name).map(|function| function.arity());
-        assert_eq!(rt; found, arity, "{name}");
+        assert_eq!(rt; found, arity);
     }
     assert_eq!(rt; RunFault::ZeroDivisor.number(), 3);
     assert_eq!(rt; RunFault::AppTooMuch.number(), 22);

@@ -35,7 +35,7 @@ fn nested(alloc: Global, lists: usize) -> Result<Value, AllocError> {
 fn names_are_looked_up_from_page_to_session(rt: HostRuntime) -> Result<(), Fail> {
     let name = Text::copy_of(rt.alloc(), "a")?;
     let mut scopes = Scopes::new(rt.alloc(), Some(Attrs::empty(rt.alloc())))?;
-    for (scope, number) in [
+    for &(scope, number) in &[
         (HeldScope::Session, 3),
         (HeldScope::Request, 2),
         (HeldScope::Page, 1),
@@ -69,18 +69,14 @@ fn a_session_keeps_so_much(rt: HostRuntime) -> Result<(), Fail> {
     );
     assert!(rt; scopes.find_in(HeldScope::Session, "a").is_none());
     scopes.start_session();
-    for (count, answer) in [
+    for &(count, answer) in &[
         (65_488, Err(Failure::Fault(RunFault::SessionTooLarge))),
         (65_487, Ok(())),
         (65_488, Err(Failure::Fault(RunFault::SessionTooLarge))),
         (65_487, Ok(())),
     ] {
         let text = letters(rt.alloc(), count)?;
-        assert_eq!(rt;
-            scopes.set(HeldScope::Session, &name, text),
-            answer,
-            "{count}"
-        );
+        assert_eq!(rt; scopes.set(HeldScope::Session, &name, text), answer);
     }
     assert_eq!(rt; scopes.into_session().weight(), 65_536);
     Ok(())
@@ -115,7 +111,7 @@ fn a_scope_is_a_record_within_the_limits(rt: HostRuntime) -> Result<(), Fail> {
 
 #[test]
 fn all_scopes_but_one_are_held(rt: HostRuntime) {
-    for (scope, held) in [
+    for &(scope, held) in &[
         (Scope::Page, Some(HeldScope::Page)),
         (Scope::Session, Some(HeldScope::Session)),
         (Scope::Application, None),
