@@ -15,17 +15,8 @@ page Tag t - source=b; End | tag t: Body; End | depth 99 => X17 /WEB-INF/tags/t.
 page Tag t - f>over; Text b; End; :over; End | tag t: Fragment f; End | depth 98 => normal [b]
 page Tag t - f>over; Text b; End; :over; End | tag t: Fragment f; End | depth 99 => X17 /WEB-INF/tags/t.tag:0 []
 
-# a million visits are allowed
-page Visit 1000000; End | visits 0 => normal []
-page Visit 1000001; End | visits 0 => X18 /p.jsp:0 []
-page Visit 1; End | visits 999999 => normal []
-page Visit 1; End | visits 1000000 => X18 /p.jsp:0 []
-page Visit 0; Text a; End | visits 1000000 => normal [a]
-page Const 1; Const 1000000; Loop numbers begin,end i -; Jump >next; :body; :next; LoopNext <body; End | visits 0 => normal []
-page Const 1; Const 1000000; Loop numbers begin,end i -; Jump >next; :body; :next; LoopNext <body; End | visits 1 => X18 /p.jsp:4 []
-page Const 1; Const 2; Loop numbers begin,end i -; Jump >next; :body; :next; LoopNext <body; End | visits 999999 => X18 /p.jsp:4 []
-
 # a value may weigh so much
+
 # A text weighs 16 and its bytes. The record of one attribute of a name of one byte weighs 33 and its value.
 page Const fill 1048559; Const fill 1; Concat 2; Pop; End => normal []
 page Const fill 1048560; Const fill 1; Concat 2; Pop; End => X20 /p.jsp:2 []
@@ -37,6 +28,7 @@ page Const fill 65487; Set session x; End | session s => normal []
 page Const fill 65488; Set session x; End | session s => X21 /p.jsp:1 []
 
 # so much may be charged
+
 # A Get of a name of one byte that tells a number weighs 64, 17 and 16; a page of a path of six bytes is charged 172.
 page Find x; Pop; Find x; Pop; Find x; Pop; End | answer value 1 | answer value 1 | answer value 1 | charge 0 => normal [] Get x Get x Get x
 page Find x; Pop; Find x; Pop; Find x; Pop; End | answer value 1 | answer value 1 | answer value 1 | charge 1048479 => X22 /p.jsp:2 [] Get x
@@ -52,6 +44,19 @@ page Const "/a.txt"; Include 0; End | file /a.txt t | charge 1048576 => normal [
 # what runs itself runs a hundred times
 page Text .; Const "/p.jsp"; Include 0; End | file /p.jsp Text .; Const "/p.jsp"; Include 0; End => X17 /p.jsp:2 [.....................................................................................................]..
 page Tag t -; End | tag t: Text .; Tag t -; End => X17 /WEB-INF/tags/t.tag:1 [....................................................................................................]..
+"#;
+
+/// Those that take long.
+pub const LONG: &str = r#"
+# a million visits are allowed
+page Visit 1000000; End | visits 0 => normal []
+page Visit 1000001; End | visits 0 => X18 /p.jsp:0 []
+page Visit 1; End | visits 999999 => normal []
+page Visit 1; End | visits 1000000 => X18 /p.jsp:0 []
+page Visit 0; Text a; End | visits 1000000 => normal [a]
+page Const 1; Const 1000000; Loop numbers begin,end i -; Jump >next; :body; :next; LoopNext <body; End | visits 0 => normal []
+page Const 1; Const 1000000; Loop numbers begin,end i -; Jump >next; :body; :next; LoopNext <body; End | visits 1 => X18 /p.jsp:4 []
+page Const 1; Const 2; Loop numbers begin,end i -; Jump >next; :body; :next; LoopNext <body; End | visits 999999 => X18 /p.jsp:4 []
 
 # so many bytes may be put
 page Fill 16777216; End => normal [..

@@ -32,6 +32,7 @@ fn each_site_is_told_as_its_row_says(rt: HostRuntime) -> Result<(), Fail> {
         calls::ROWS,
         faults::ROWS,
         flow::ROWS,
+        limits::ROWS,
         pages::ROWS,
         values::ROWS,
         variables::ROWS,
@@ -42,8 +43,8 @@ fn each_site_is_told_as_its_row_says(rt: HostRuntime) -> Result<(), Fail> {
 }
 
 #[test]
-fn each_limit_is_told_as_its_row_says(rt: HostRuntime) -> Result<(), Fail> {
-    assert_eq!(rt; told_otherwise(rt.alloc(), limits::ROWS)?.as_str(), "");
+fn each_long_run_is_told_as_its_row_says(rt: HostRuntime) -> Result<(), Fail> {
+    assert_eq!(rt; told_otherwise(rt.alloc(), limits::LONG)?.as_str(), "");
     Ok(())
 }
 

@@ -45,9 +45,13 @@ fn texts_are_numbers_decimals_or_neither(rt: HostRuntime) -> Result<(), Fail> {
         let value = Value::Text(Text::copy_of(rt.alloc(), text)?);
         assert_eq!(rt; to_int(&value), number);
     }
+    Ok(())
+}
+
+#[test]
+fn other_values_are_numbers_or_none(rt: HostRuntime) {
     assert_eq!(rt; to_int(&Value::Null), Ok(0));
     assert_eq!(rt; to_int(&Value::Bool(true)), Err(RunFault::NotANumber));
-    Ok(())
 }
 
 #[test]
@@ -56,27 +60,32 @@ fn texts_are_true_in_any_case(rt: HostRuntime) -> Result<(), Fail> {
         let value = Value::Text(Text::copy_of(rt.alloc(), text)?);
         assert_eq!(rt; to_bool(&value), Ok(truth));
     }
-    assert_eq!(rt; to_bool(&Value::Int(1)), Err(RunFault::NotABoolean));
     Ok(())
+}
+
+#[test]
+fn a_number_is_not_true(rt: HostRuntime) {
+    assert_eq!(rt; to_bool(&Value::Int(1)), Err(RunFault::NotABoolean));
 }
 
 // A list of one text of so many letters.
 fn long_list(alloc: Global, letters: usize) -> Result<Value, AllocError> {
-    let mut text = String::new(alloc);
-    for _ in 0..letters {
-        text.push('a')?;
-    }
+    let text = "a".repeat(alloc, letters)?;
     let mut items = Vec::new(alloc);
     items.push(Value::Text(Text::new(text)?))?;
     Ok(Value::List(Values::new(items)?))
 }
 
+// How many bytes the text of a list of one text of so many letters has, or its fault.
+fn made(alloc: Global, letters: usize) -> Result<usize, Failure<RunFault>> {
+    let list = long_list(alloc, letters)?;
+    let text = to_text(alloc, &list)?;
+    Ok(text.len())
+}
+
 #[test]
-fn a_made_text_is_measured(rt: HostRuntime) -> Result<(), Fail> {
-    let alloc = rt.alloc();
-    let longest = to_text(alloc, &long_list(alloc, 1_048_558)?)?;
-    assert_eq!(rt; longest.len(), 1_048_560);
-    let longer = to_text(alloc, &long_list(alloc, 1_048_559)?);
-    assert_eq!(rt; longer.err(), Some(Failure::Fault(RunFault::ValueTooLarge)));
-    Ok(())
+fn a_made_text_is_measured(rt: HostRuntime) {
+    assert_eq!(rt; made(rt.alloc(), 1_048_558), Ok(1_048_560));
+    let longer = made(rt.alloc(), 1_048_559);
+    assert_eq!(rt; longer, Err(Failure::Fault(RunFault::ValueTooLarge)));
 }

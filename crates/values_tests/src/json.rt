@@ -12,19 +12,10 @@ fn fault_of(alloc: Global, text: &str) -> Option<JsonFault> {
 
 // A text of so many letters in so many lists, as JSON.
 fn nested(alloc: Global, lists: usize, letters: usize) -> Result<String, AllocError> {
-    let mut text = String::new(alloc);
-    for _ in 0..lists {
-        text.push('[')?;
-    }
-    text.push('"')?;
-    for _ in 0..letters {
-        text.push('a')?;
-    }
-    text.push('"')?;
-    for _ in 0..lists {
-        text.push(']')?;
-    }
-    Ok(text)
+    let starts = "[".repeat(alloc, lists)?;
+    let text = "a".repeat(alloc, letters)?;
+    let ends = "]".repeat(alloc, lists)?;
+    format!(in alloc; "{starts}\"{text}\"{ends}")
 }
 
 #[test]

@@ -85,15 +85,23 @@ fn entries_and_items_are_found(rt: HostRuntime) -> Result<(), Fail> {
     Ok(())
 }
 
+// The fault of joining a text of one letter with itself so many times, where it has one.
+fn joined(alloc: Global, times: usize) -> Result<Option<RunFault>, Fail> {
+    let mut text = from_json(alloc, b"\"a\"".as_slice())?;
+    for _ in 0..times {
+        text = match binary(alloc, BinOp::Join, &text, &text) {
+            Ok(longer) => longer,
+            Err(Failure::Fault(fault)) => return Ok(Some(fault)),
+            Err(Failure::NoMemory) => return Err(Fail::new("no memory")),
+        };
+    }
+    Ok(None)
+}
+
 #[test]
 fn a_joined_text_is_measured(rt: HostRuntime) -> Result<(), Fail> {
-    let alloc = rt.alloc();
-    let mut text = from_json(alloc, b"\"a\"".as_slice())?;
-    for _ in 0..19 {
-        text = binary(alloc, BinOp::Join, &text, &text)?;
-    }
-    let longer = binary(alloc, BinOp::Join, &text, &text);
-    assert_eq!(rt; longer.err(), Some(Failure::Fault(RunFault::ValueTooLarge)));
+    assert_eq!(rt; joined(rt.alloc(), 19)?, None);
+    assert_eq!(rt; joined(rt.alloc(), 20)?, Some(RunFault::ValueTooLarge));
     Ok(())
 }
 
