@@ -3,7 +3,7 @@ use std::test::Fail;
 
 #[test]
 fn jumps_lead_to_cells_that_carry_what_is_left(rt: HostRuntime) -> Result<(), Fail> {
-    for (code, fits) in [
+    for &(code, fits) in &[
         ("0 Jump 0;0 End;0 End", true),
         ("0 Jump 1;0 End;0 End", true),
         ("0 Jump 2;0 End;0 End", false),
@@ -21,14 +21,14 @@ fn jumps_lead_to_cells_that_carry_what_is_left(rt: HostRuntime) -> Result<(), Fa
         ("0 Ensure 2;0 End;0 End", false),
         ("0 Ensure 18446744073709551615;0 End;0 End", false),
     ] {
-        assert_eq!(rt; is_accepted(rt.alloc(), code)?, fits, "{code}");
+        assert_eq!(rt; is_accepted(rt.alloc(), code)?, fits);
     }
     Ok(())
 }
 
 #[test]
 fn loops_go_back_to_their_rounds(rt: HostRuntime) -> Result<(), Fail> {
-    for (code, fits) in [
+    for &(code, fits) in &[
         (
             "0 Push;1 LoopStart 1;l Jump 1;l Visit;l LoopNext 1;0 End",
             true,
@@ -50,14 +50,14 @@ fn loops_go_back_to_their_rounds(rt: HostRuntime) -> Result<(), Fail> {
             false,
         ),
     ] {
-        assert_eq!(rt; is_accepted(rt.alloc(), code)?, fits, "{code}");
+        assert_eq!(rt; is_accepted(rt.alloc(), code)?, fits);
     }
     Ok(())
 }
 
 #[test]
 fn what_a_call_hands_down_begins_with_nothing_open(rt: HostRuntime) -> Result<(), Fail> {
-    for (call, fits) in [
+    for &(call, fits) in &[
         ("TagOfOne 1", false),
         ("TagOfOne 2", true),
         ("TagOfOne 3", false),
@@ -69,14 +69,14 @@ fn what_a_call_hands_down_begins_with_nothing_open(rt: HostRuntime) -> Result<()
         ("TagOfText 2", false),
     ] {
         let code = format!(in rt.alloc(); "0 Push;1 {call};0 End;0 Push;1 Pop;0 End")?;
-        assert_eq!(rt; is_accepted(rt.alloc(), code.as_str())?, fits, "{call}");
+        assert_eq!(rt; is_accepted(rt.alloc(), code.as_str())?, fits);
     }
     Ok(())
 }
 
 #[test]
 fn a_code_ends_with_nothing_open(rt: HostRuntime) -> Result<(), Fail> {
-    for (code, fits) in [
+    for &(code, fits) in &[
         ("0 Push;1 Redirect", true),
         ("0 Push;1 Forward 1", false),
         ("0 Push;1 Forward 0", true),
@@ -85,7 +85,7 @@ fn a_code_ends_with_nothing_open(rt: HostRuntime) -> Result<(), Fail> {
         ("1 Pop;0 End", false),
         ("", false),
     ] {
-        assert_eq!(rt; is_accepted(rt.alloc(), code)?, fits, "{code}");
+        assert_eq!(rt; is_accepted(rt.alloc(), code)?, fits);
     }
     Ok(())
 }

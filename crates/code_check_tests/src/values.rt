@@ -32,7 +32,7 @@ fn fits_exactly(alloc: Global, instruction: &str, takes: u8, leaves: u8) -> Resu
 
 #[test]
 fn operations_take_and_leave_values(rt: HostRuntime) -> Result<(), Fail> {
-    for (instruction, takes, leaves) in [
+    for &(instruction, takes, leaves) in &[
         ("Write", 0, 0),
         ("Put", 1, 0),
         ("PutEscaped", 1, 0),
@@ -53,17 +53,14 @@ fn operations_take_and_leave_values(rt: HostRuntime) -> Result<(), Fail> {
         ("Url", 3, 1),
         ("Pop", 1, 0),
     ] {
-        assert!(rt;
-            fits_exactly(rt.alloc(), instruction, takes, leaves)?,
-            "{instruction}"
-        );
+        assert!(rt; fits_exactly(rt.alloc(), instruction, takes, leaves)?);
     }
     Ok(())
 }
 
 #[test]
 fn variables_and_calls_take_and_leave_values(rt: HostRuntime) -> Result<(), Fail> {
-    for (instruction, takes, leaves) in [
+    for &(instruction, takes, leaves) in &[
         ("SetVar", 1, 0),
         ("RemoveVar", 0, 0),
         ("RemoveAll", 0, 0),
@@ -77,10 +74,7 @@ fn variables_and_calls_take_and_leave_values(rt: HostRuntime) -> Result<(), Fail
         ("Include 1", 3, 0),
         ("Import", 1, 0),
     ] {
-        assert!(rt;
-            fits_exactly(rt.alloc(), instruction, takes, leaves)?,
-            "{instruction}"
-        );
+        assert!(rt; fits_exactly(rt.alloc(), instruction, takes, leaves)?);
     }
     Ok(())
 }

@@ -20,7 +20,7 @@ fn faults(alloc: Global, text: &str) -> Result<String, Fail> {
 
 #[test]
 fn declaring_directives_have_faults(rt: HostRuntime) -> Result<(), Fail> {
-    for (text, told) in [
+    for &(text, told) in &[
         (
             "<%@ attribute name=\"a\" required=\"true\" type=\"java.util.Map\" %>",
             "@|good",

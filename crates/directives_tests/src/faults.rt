@@ -4,7 +4,7 @@ use std::test::Fail;
 
 #[test]
 fn page_directives_have_faults_by_their_values(rt: HostRuntime) -> Result<(), Fail> {
-    for (text, told) in [
+    for &(text, told) in &[
         (
             "<%@ page session=\"false\" import=\"x\" info=\"\" language=\"java\" %>",
             "@",
@@ -47,7 +47,7 @@ fn page_directives_have_faults_by_their_values(rt: HostRuntime) -> Result<(), Fa
 
 #[test]
 fn directives_have_faults_by_those_before_them(rt: HostRuntime) -> Result<(), Fail> {
-    for (text, told) in [
+    for &(text, told) in &[
         (
             "<%@ page session=\"true\" %><%@ page session=\"true\" %>",
             "@@",
@@ -98,7 +98,7 @@ fn directives_have_faults_by_those_before_them(rt: HostRuntime) -> Result<(), Fa
 
 #[test]
 fn taglib_directives_register_prefixes(rt: HostRuntime) -> Result<(), Fail> {
-    for (text, told) in [
+    for &(text, told) in &[
         ("<%@ taglib prefix=\"c\" uri=\"jakarta.tags.core\" %>", "@"),
         (
             "<%@ taglib prefix=\"f\" uri=\"http://java.sun.com/jsp/jstl/functions\" %>",
@@ -160,7 +160,7 @@ fn taglib_directives_register_prefixes(rt: HostRuntime) -> Result<(), Fail> {
 
 #[test]
 fn directives_stand_in_files_of_their_kind(rt: HostRuntime) -> Result<(), Fail> {
-    for (text, told) in [
+    for &(text, told) in &[
         (
             "<%@ tag body-content=\"empty\" dynamic-attributes=\"more\" %>",
             "@",
@@ -181,7 +181,7 @@ fn directives_stand_in_files_of_their_kind(rt: HostRuntime) -> Result<(), Fail> 
         let found = faults(rt.alloc(), Where::TagFile, text)?;
         assert_eq!(rt; found.as_str(), told);
     }
-    for (text, told) in [
+    for &(text, told) in &[
         ("<%@ tag %>", "@BadDirective"),
         ("<%@ attribute name=\"a\" %>", "@BadDirective"),
         ("<%@ taglib prefix=\"c\" uri=\"jakarta.tags.core\" %>", "@"),

@@ -104,9 +104,9 @@ fn requests_are_answered(rt: HostRuntime) -> Result<(), Fail> {
     let all = come_of::<Brand>(rt.alloc(), Blank::new(1), &FILES, AMPLE, &ASKED, &[])?;
     assert_eq!(rt; all.told.len(), ANSWERS.len());
     for (told, (outcome, read, answer)) in all.told.iter().zip(ANSWERS) {
-        assert_eq!(rt; told.outcome, outcome, "{answer}");
-        assert_eq!(rt; told.text.as_slice(), answer.as_bytes(), "{answer}");
-        assert_eq!(rt; told.read, read, "{answer}");
+        assert_eq!(rt; told.outcome, outcome);
+        assert_eq!(rt; told.text.as_slice(), answer.as_bytes());
+        assert_eq!(rt; told.read, read);
     }
     assert_eq!(rt; all.history.as_str(), HISTORY);
     Ok(())
@@ -114,7 +114,7 @@ fn requests_are_answered(rt: HostRuntime) -> Result<(), Fail> {
 
 #[test]
 fn the_clock_is_asked_where_a_request_begins(rt: HostRuntime) -> Result<(), Fail> {
-    for (asked, next) in [
+    for &(asked, next) in &[
         ([("PATCH", "/t.txt")].as_slice(), 0),
         ([("GET", "/t.txt"), ("GET", "/none")].as_slice(), 2),
     ] {

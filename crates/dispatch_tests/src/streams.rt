@@ -87,19 +87,17 @@ const PAGES: [(&str, &str, &str, &str); 3] = [
 
 #[test]
 fn what_is_committed_goes_out_at_once(rt: HostRuntime) -> Result<(), Fail> {
-    for (method, page, before, behind) in PAGES {
+    for &(method, page, before, behind) in &PAGES {
         let files = [("/a.jsp", page), ("/t.txt", "t")];
         let asked = request(rt.alloc(), method, "/a.jsp")?;
         let (first, all) = streamed::<Brand>(rt.alloc(), Blank::new(1), &files, &asked)?;
         assert_eq!(rt;
             first.as_slice(),
-            behind_head(rt.alloc(), &[before])?.as_slice(),
-            "{page}"
+            behind_head(rt.alloc(), &[before])?.as_slice()
         );
         assert_eq!(rt;
             all.as_slice(),
-            behind_head(rt.alloc(), &[before, behind])?.as_slice(),
-            "{page}"
+            behind_head(rt.alloc(), &[before, behind])?.as_slice()
         );
     }
     Ok(())

@@ -36,7 +36,7 @@ fn shown_chain(alloc: Global, text: &str) -> Result<String, Fail> {
 
 #[test]
 fn operators_bind_by_their_levels(rt: HostRuntime) -> Result<(), Fail> {
-    for (text, tree) in [
+    for &(text, tree) in &[
         ("1 + 2 += 3", "(Join (Add 1 2) 3)"),
         ("1 += 2 + 3", "(Join 1 (Add 2 3))"),
         ("-7 mod 2", "(Rem (Neg 7) 2)"),
@@ -55,14 +55,14 @@ fn operators_bind_by_their_levels(rt: HostRuntime) -> Result<(), Fail> {
         ("a || b ? c : d || e", "(if (Or a b) c (Or d e))"),
         ("(1 + 2) * 3", "(Mul (Add 1 2) 3)"),
     ] {
-        assert_eq!(rt; shown(rt.alloc(), text)?.as_str(), tree, "{text}");
+        assert_eq!(rt; shown(rt.alloc(), text)?.as_str(), tree);
     }
     Ok(())
 }
 
 #[test]
 fn values_calls_and_properties_are_read(rt: HostRuntime) -> Result<(), Fail> {
-    for (text, tree) in [
+    for &(text, tree) in &[
         (" 9223372036854775807\t", "9223372036854775807"),
         ("007", "7"),
         ("true", "true"),
@@ -87,21 +87,21 @@ fn values_calls_and_properties_are_read(rt: HostRuntime) -> Result<(), Fail> {
         ),
         ("$_1.code", "(at $_1 'code')"),
     ] {
-        assert_eq!(rt; shown(rt.alloc(), text)?.as_str(), tree, "{text}");
+        assert_eq!(rt; shown(rt.alloc(), text)?.as_str(), tree);
     }
     Ok(())
 }
 
 #[test]
 fn chains_go_along_the_left_side(rt: HostRuntime) -> Result<(), Fail> {
-    for (text, parts) in [
+    for &(text, parts) in &[
         ("1", "1"),
         ("a.b[c] - d", "a, at 'b', at c, Sub d"),
         ("a + b*c += d", "a, Add (Mul b c), Join d"),
         ("-a[b]", "(Neg (at a b))"),
         ("(a ? b : c) == [d][0]", "(if a b c), Eq (at [ d ] 0)"),
     ] {
-        assert_eq!(rt; shown_chain(rt.alloc(), text)?.as_str(), parts, "{text}");
+        assert_eq!(rt; shown_chain(rt.alloc(), text)?.as_str(), parts);
     }
     Ok(())
 }

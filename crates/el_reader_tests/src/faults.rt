@@ -28,7 +28,7 @@ fn fault_of(alloc: Global, text: &str) -> Option<Failure<ElFault>> {
 
 #[test]
 fn faults_have_the_numbers_of_a_page(rt: HostRuntime) {
-    for (fault, number) in [
+    for &(fault, number) in &[
         (ElFault::Syntax, 15),
         (ElFault::Decimal, 18),
         (ElFault::LeftOut, 19),
@@ -40,7 +40,7 @@ fn faults_have_the_numbers_of_a_page(rt: HostRuntime) {
 
 #[test]
 fn texts_that_are_no_expressions_are_refused(rt: HostRuntime) {
-    for text in [
+    for &text in &[
         "",
         " ",
         "a b",
@@ -80,15 +80,14 @@ fn texts_that_are_no_expressions_are_refused(rt: HostRuntime) {
     ] {
         assert_eq!(rt;
             fault_of(rt.alloc(), text),
-            Some(Failure::Fault(ElFault::Syntax)),
-            "{text}"
+            Some(Failure::Fault(ElFault::Syntax))
         );
     }
 }
 
 #[test]
 fn what_the_language_leaves_out_is_refused(rt: HostRuntime) {
-    for (text, fault) in [
+    for &(text, fault) in &[
         ("1.5", ElFault::Decimal),
         (".5", ElFault::Decimal),
         ("1e3", ElFault::Decimal),
@@ -111,18 +110,14 @@ fn what_the_language_leaves_out_is_refused(rt: HostRuntime) {
         ("a = (", ElFault::LeftOut),
         ("f(", ElFault::LeftOut),
     ] {
-        assert_eq!(rt;
-            fault_of(rt.alloc(), text),
-            Some(Failure::Fault(fault)),
-            "{text}"
-        );
+        assert_eq!(rt; fault_of(rt.alloc(), text), Some(Failure::Fault(fault)));
     }
 }
 
 #[test]
 fn parts_are_nested_64_deep_at_most(rt: HostRuntime) -> Result<(), Fail> {
     let large = Some(ElFault::TooLarge);
-    for (times, before, text, behind, fault) in [
+    for &(times, before, text, behind, fault) in &[
         (64, "(", "a", ")", None),
         (65, "(", "a", ")", large),
         (64, "-", "a", "", None),
@@ -150,8 +145,7 @@ fn parts_are_nested_64_deep_at_most(rt: HostRuntime) -> Result<(), Fail> {
         let expression = nested(rt.alloc(), times, before, text, behind)?;
         assert_eq!(rt;
             fault_of(rt.alloc(), expression.as_str()),
-            fault.map(Failure::Fault),
-            "{times} {before}{text}{behind}"
+            fault.map(Failure::Fault)
         );
     }
     one_expression();
@@ -167,7 +161,7 @@ fn grouped(alloc: Global, times: usize, before: &str, behind: &str) -> Result<St
 #[test]
 fn only_the_sides_of_a_choice_are_nested_in_it(rt: HostRuntime) -> Result<(), Fail> {
     let large = Some(ElFault::TooLarge);
-    for (times, before, behind, fault) in [
+    for &(times, before, behind, fault) in &[
         (64, "", " ? b : c", None),
         (65, "", " ? b : c", large),
         (63, "a ? ", " : c", None),
@@ -178,8 +172,7 @@ fn only_the_sides_of_a_choice_are_nested_in_it(rt: HostRuntime) -> Result<(), Fa
         let expression = grouped(rt.alloc(), times, before, behind)?;
         assert_eq!(rt;
             fault_of(rt.alloc(), expression.as_str()),
-            fault.map(Failure::Fault),
-            "{times} {before}{behind}"
+            fault.map(Failure::Fault)
         );
     }
     Ok(())

@@ -23,7 +23,7 @@ fn code_of(alloc: Global, text: &str) -> Result<Code, Fail> {
 
 #[test]
 fn parts_stand_in_the_order_of_their_evaluation(rt: HostRuntime) -> Result<(), Fail> {
-    for (text, code) in [
+    for &(text, code) in &[
         ("a", "0 Visit 1; 0 Find a"),
         (
             "a + b * 2",
@@ -44,14 +44,14 @@ fn parts_stand_in_the_order_of_their_evaluation(rt: HostRuntime) -> Result<(), F
         ),
     ] {
         let cells = code_of(rt.alloc(), text)?;
-        assert_eq!(rt; show(rt.alloc(), &cells)?.as_str(), code, "{text}");
+        assert_eq!(rt; show(rt.alloc(), &cells)?.as_str(), code);
     }
     Ok(())
 }
 
 #[test]
 fn one_of_two_parts_is_evaluated(rt: HostRuntime) -> Result<(), Fail> {
-    for (text, code) in [
+    for &(text, code) in &[
         (
             "a && b",
             "0 Visit 1; 0 Visit 1; 0 Find a; 1 ToTruth; 1 JumpIf false 4; 0 Visit 1; 0 Find b; 1 ToTruth; 1 Jump 1; 0 false",
@@ -66,14 +66,14 @@ fn one_of_two_parts_is_evaluated(rt: HostRuntime) -> Result<(), Fail> {
         ),
     ] {
         let cells = code_of(rt.alloc(), text)?;
-        assert_eq!(rt; show(rt.alloc(), &cells)?.as_str(), code, "{text}");
+        assert_eq!(rt; show(rt.alloc(), &cells)?.as_str(), code);
     }
     Ok(())
 }
 
 #[test]
 fn objects_are_known_by_their_names(rt: HostRuntime) -> Result<(), Fail> {
-    for (text, code) in [
+    for &(text, code) in &[
         ("param", "0 Visit 1; 0 Object param"),
         ("pageScope", "0 Visit 1; 0 Object Page"),
         (
@@ -91,14 +91,14 @@ fn objects_are_known_by_their_names(rt: HostRuntime) -> Result<(), Fail> {
         ),
     ] {
         let cells = code_of(rt.alloc(), text)?;
-        assert_eq!(rt; show(rt.alloc(), &cells)?.as_str(), code, "{text}");
+        assert_eq!(rt; show(rt.alloc(), &cells)?.as_str(), code);
     }
     Ok(())
 }
 
 #[test]
 fn a_function_has_as_many_arguments_as_it_takes(rt: HostRuntime) -> Result<(), Fail> {
-    for (text, code) in [
+    for &(text, code) in &[
         ("fn:trim(a)", "0 Visit 1; 0 Visit 1; 0 Find a; 1 Call Trim"),
         (
             "fn:trim(1, 2, 3)",
@@ -111,7 +111,7 @@ fn a_function_has_as_many_arguments_as_it_takes(rt: HostRuntime) -> Result<(), F
         ("fn:none(a)", "0 Visit 1; 0 null"),
     ] {
         let cells = code_of(rt.alloc(), text)?;
-        assert_eq!(rt; show(rt.alloc(), &cells)?.as_str(), code, "{text}");
+        assert_eq!(rt; show(rt.alloc(), &cells)?.as_str(), code);
     }
     Ok(())
 }

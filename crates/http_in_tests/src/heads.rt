@@ -1,10 +1,10 @@
-use crate::telling::{told, told_both_ways, told_with};
+use crate::telling::{told_both_ways, told_of, told_repeated, told_with};
 use http_in::one_cut;
 use std::test::Fail;
 
 #[test]
 fn requests_stand_one_after_the_other(rt: HostRuntime) -> Result<(), Fail> {
-    for (bytes, wanted) in [
+    for &(bytes, wanted) in &[
         (b"".as_slice(), "end"),
         (b"\r\n\r\n", "end"),
         (b"\r", "CutOff"),
@@ -49,10 +49,8 @@ fn requests_stand_one_after_the_other(rt: HostRuntime) -> Result<(), Fail> {
         ),
         (b"G\xc3\xa4T / HTTP/1.1\r\nHost: h\r\n\r\n", "BadHead"),
     ] {
-        for piece in [1, 65_536] {
-            let told = told(rt.alloc(), bytes, piece, Vec::new(rt.alloc()))?;
-            assert_eq!(rt; told.as_str(), wanted, "{bytes:?}");
-        }
+        let told = told_both_ways(rt.alloc(), bytes)?;
+        assert_eq!(rt; told.as_str(), wanted);
     }
     one_cut();
     Ok(())
@@ -60,7 +58,7 @@ fn requests_stand_one_after_the_other(rt: HostRuntime) -> Result<(), Fail> {
 
 #[test]
 fn a_head_has_its_first_fault(rt: HostRuntime) -> Result<(), Fail> {
-    for (line, fields, wanted) in [
+    for &(line, fields, wanted) in &[
         ("/ HTTP/1.1", "hOST:\t h ", "GET / \nend"),
         ("/ HTTP/1.1", "X: y", "BadHead"),
         ("/ HTTP/1.1", "Host: h\r\nhost: h", "BadHead"),
@@ -87,16 +85,15 @@ fn a_head_has_its_first_fault(rt: HostRuntime) -> Result<(), Fail> {
             "ChunkedRequest",
         ),
     ] {
-        let text = format!(in rt.alloc(); "GET {line}\r\n{fields}\r\n\r\n")?;
-        let told = told_both_ways(rt.alloc(), text.as_bytes())?;
-        assert_eq!(rt; told.as_str(), wanted, "{line} {fields}");
+        let told = told_of(rt.alloc(), line, fields)?;
+        assert_eq!(rt; told.as_str(), wanted);
     }
     Ok(())
 }
 
 #[test]
 fn a_body_has_one_length(rt: HostRuntime) -> Result<(), Fail> {
-    for (lengths, wanted) in [
+    for &(lengths, wanted) in &[
         ("Content-Length: 0", "GET / \nend"),
         ("Content-Length: 1", "CutOff"),
         ("Content-Length: 000000000000000000", "GET / \nend"),
@@ -112,58 +109,81 @@ fn a_body_has_one_length(rt: HostRuntime) -> Result<(), Fail> {
         ("Content-Length: 2097153", "BodyTooLarge"),
     ] {
         let told = told_with(rt.alloc(), lengths)?;
-        assert_eq!(rt; told.as_str(), wanted, "{lengths}");
+        assert_eq!(rt; told.as_str(), wanted);
     }
     Ok(())
 }
 
 #[test]
 fn a_request_asks_to_close(rt: HostRuntime) -> Result<(), Fail> {
-    for (fields, wanted) in [
+    for &(fields, wanted) in &[
         ("connection: keep-alive ,\tCLOSE\t,", "GET /  close\nend"),
         ("Connection: x\r\nConnection: Close", "GET /  close\nend"),
         ("Connection: closed, clos e", "GET / \nend"),
         ("X: close", "GET / \nend"),
     ] {
         let told = told_with(rt.alloc(), fields)?;
-        assert_eq!(rt; told.as_str(), wanted, "{fields}");
+        assert_eq!(rt; told.as_str(), wanted);
     }
     Ok(())
 }
 
+// Texts in which one part is repeated: what stands before it, the part, how often it stands there, what stands behind it, and what is told.
+const REPEATED: [(&str, &str, usize, &str, &str); 8] = [
+    // Fields beside Host.
+    (
+        "GET / HTTP/1.1\r\nHost: h\r\n",
+        "X: y\r\n",
+        63,
+        "\r\n",
+        "GET / \nend",
+    ),
+    (
+        "GET / HTTP/1.1\r\nHost: h\r\n",
+        "X: y\r\n",
+        64,
+        "\r\n",
+        "BadHead",
+    ),
+    // The lines around the value of X take 32 bytes.
+    (
+        "GET / HTTP/1.1\r\nHost: h\r\nX: ",
+        "y",
+        16_352,
+        "\r\n\r\n",
+        "GET / \nend",
+    ),
+    (
+        "GET / HTTP/1.1\r\nHost: h\r\nX: ",
+        "y",
+        16_353,
+        "\r\n\r\n",
+        "HeadTooLarge",
+    ),
+    (
+        "\r\nGET / HTTP/1.1\r\nHost: h\r\nX: ",
+        "y",
+        16_350,
+        "\r\n\r\n",
+        "GET / \nend",
+    ),
+    (
+        "\r\nGET / HTTP/1.1\r\nHost: h\r\nX: ",
+        "y",
+        16_351,
+        "\r\n\r\n",
+        "HeadTooLarge",
+    ),
+    // Empty lines alone.
+    ("", "\r\n", 8_191, "", "end"),
+    ("", "\r\n", 8_192, "", "HeadTooLarge"),
+];
+
 #[test]
 fn a_head_has_its_limits(rt: HostRuntime) -> Result<(), Fail> {
-    for (fields, wanted) in [(63, "GET / \nend"), (64, "BadHead")] {
-        let further = "X: y\r\n".repeat(rt.alloc(), fields)?;
-        let text = format!(in rt.alloc(); "GET / HTTP/1.1\r\nHost: h\r\n{further}\r\n")?;
-        for piece in [1, 65_536] {
-            let told = told(rt.alloc(), text.as_bytes(), piece, Vec::new(rt.alloc()))?;
-            assert_eq!(rt; told.as_str(), wanted, "{fields} fields beside Host");
-        }
-    }
-    // The lines around the value of X take 32 bytes.
-    for (pairs, value, wanted) in [
-        (0, 16_352, "GET / \nend"),
-        (0, 16_353, "HeadTooLarge"),
-        (1, 16_350, "GET / \nend"),
-        (1, 16_351, "HeadTooLarge"),
-    ] {
-        let before = "\r\n".repeat(rt.alloc(), pairs)?;
-        let long = "y".repeat(rt.alloc(), value)?;
-        let text = format!(in rt.alloc();
-            "{before}GET / HTTP/1.1\r\nHost: h\r\nX: {long}\r\n\r\n"
-        )?;
-        for piece in [1, 65_536] {
-            let told = told(rt.alloc(), text.as_bytes(), piece, Vec::new(rt.alloc()))?;
-            assert_eq!(rt; told.as_str(), wanted, "{pairs} pairs, {value} bytes");
-        }
-    }
-    for (pairs, wanted) in [(8_191, "end"), (8_192, "HeadTooLarge")] {
-        let text = "\r\n".repeat(rt.alloc(), pairs)?;
-        for piece in [1, 65_536] {
-            let told = told(rt.alloc(), text.as_bytes(), piece, Vec::new(rt.alloc()))?;
-            assert_eq!(rt; told.as_str(), wanted, "{pairs} pairs");
-        }
+    for &(before, part, times, behind, wanted) in &REPEATED {
+        let told = told_repeated(rt.alloc(), before, part, times, behind)?;
+        assert_eq!(rt; told.as_str(), wanted);
     }
     Ok(())
 }

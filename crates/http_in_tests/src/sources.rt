@@ -13,7 +13,7 @@ fn a_read_fails_in_mid_stream(rt: HostRuntime) -> Result<(), Fail> {
     let text =
         b"PUT /a HTTP/1.1\r\nHost: h\r\nContent-Length: 2\r\n\r\nhiGET /b HTTP/1.1\r\nHost: h\r\n\r\n";
     // In pieces of 7 bytes the first request ends with the seventh read, and the second with the eleventh.
-    for (call, wanted) in [
+    for &(call, wanted) in &[
         (0, "ReadFault"),
         (6, "ReadFault"),
         (7, "PUT /a hi\nReadFault"),
@@ -22,7 +22,7 @@ fn a_read_fails_in_mid_stream(rt: HostRuntime) -> Result<(), Fail> {
     ] {
         let fails = vec![in rt.alloc(); call]?;
         let told = told(rt.alloc(), text.as_slice(), 7, fails)?;
-        assert_eq!(rt; told.as_str(), wanted, "read {call}");
+        assert_eq!(rt; told.as_str(), wanted);
     }
     Ok(())
 }
@@ -69,19 +69,19 @@ fn first_request_by_bytes(
 #[test]
 fn a_body_has_its_limit(rt: HostRuntime) -> Result<(), Fail> {
     let body = "y".repeat(rt.alloc(), 2_097_152)?;
-    for size in [2_097_151, 2_097_152] {
+    for &size in &[2_097_151, 2_097_152] {
         let text = format!(in rt.alloc();
             "PUT /a HTTP/1.1\r\nHost: h\r\nContent-Length: {size}\r\n\r\n{body}"
         )?;
         let bytes = Vec::from_slice(rt.alloc(), text.as_bytes())?;
         match first_request(rt.alloc(), bytes) {
             Ok(Some(request)) => assert_eq!(rt; request.body.len(), size),
-            _ => assert!(rt; false, "{size}"),
+            _ => assert!(rt; false),
         }
         let bytes = Vec::from_slice(rt.alloc(), text.as_bytes())?;
         match first_request_by_bytes(rt.alloc(), bytes) {
             Ok(Some(request)) => assert_eq!(rt; request.body.len(), size),
-            _ => assert!(rt; false, "{size} by bytes"),
+            _ => assert!(rt; false),
         }
     }
     Ok(())

@@ -47,7 +47,7 @@ fn fields_stand_in_their_order(rt: HostRuntime) -> Result<(), Fail> {
 #[test]
 fn a_body_comes_in_chunks(rt: HostRuntime) -> Result<(), Fail> {
     let head = Head::plain(rt.alloc(), Status::Ok, false)?;
-    for (count, begin) in [
+    for &(count, begin) in &[
         (0, "1\r\nb"),
         (15, "10\r\na"),
         (1_023, "400\r\na"),
@@ -64,15 +64,15 @@ fn a_body_comes_in_chunks(rt: HostRuntime) -> Result<(), Fail> {
             "HTTP/1.1 200 OK\r\nContent-Type: text/plain;charset=UTF-8\r\nTransfer-Encoding: chunked\r\n\r\n{begin}"
         )?;
         assert!(rt; !failed);
-        assert!(rt; sink.taken().starts_with(begin.as_bytes()), "{count}");
-        assert!(rt; sink.taken().ends_with(b"b\r\n0\r\n\r\n"), "{count}");
+        assert!(rt; sink.taken().starts_with(begin.as_bytes()));
+        assert!(rt; sink.taken().ends_with(b"b\r\n0\r\n\r\n"));
     }
     Ok(())
 }
 
 #[test]
 fn want_of_memory_is_told_and_a_failed_sink_is_left_alone(rt: HostRuntime) -> Result<(), Fail> {
-    for (close, shown, size) in [
+    for &(close, shown, size) in &[
         (false, true, 104),
         (true, true, 123),
         (false, false, 95),

@@ -23,7 +23,7 @@ fn answer_text(alloc: Global, function: Function, args: &str) -> Result<Text, Fa
 
 #[test]
 fn texts_are_searched(rt: HostRuntime) -> Result<(), Fail> {
-    for (function, args, text) in [
+    for &(function, args, text) in &[
         (Function::Contains, r#"["abc", "bc"]"#, "true"),
         (Function::Contains, r#"["abc", "B"]"#, "false"),
         (Function::ContainsIgnoreCase, r#"["aBc", "Bc"]"#, "true"),
@@ -40,18 +40,14 @@ fn texts_are_searched(rt: HostRuntime) -> Result<(), Fail> {
         (Function::Length, r#"[1234]"#, "4"),
         (Function::Length, r#"[null]"#, "0"),
     ] {
-        assert_eq!(rt;
-            answer_text(rt.alloc(), function, args)?.as_str(),
-            text,
-            "{args}"
-        );
+        assert_eq!(rt; answer_text(rt.alloc(), function, args)?.as_str(), text);
     }
     Ok(())
 }
 
 #[test]
 fn texts_are_cut(rt: HostRuntime) -> Result<(), Fail> {
-    for (function, args, text) in [
+    for &(function, args, text) in &[
         (Function::Substring, r#"["abc", -1, 2]"#, "ab"),
         (Function::Substring, r#"["äöü", 1, 2]"#, "ö"),
         (Function::Substring, r#"["abc", 2, -1]"#, "c"),
@@ -71,18 +67,14 @@ fn texts_are_cut(rt: HostRuntime) -> Result<(), Fail> {
         (Function::Split, r#"["aäb", "ä"]"#, "[a, b]"),
         (Function::Split, r#"["a b", ""]"#, "[a b]"),
     ] {
-        assert_eq!(rt;
-            answer_text(rt.alloc(), function, args)?.as_str(),
-            text,
-            "{args}"
-        );
+        assert_eq!(rt; answer_text(rt.alloc(), function, args)?.as_str(), text);
     }
     Ok(())
 }
 
 #[test]
 fn texts_are_made_of_texts(rt: HostRuntime) -> Result<(), Fail> {
-    for (function, args, text) in [
+    for &(function, args, text) in &[
         (
             Function::EscapeXml,
             r#"["<a & 'b'>"]"#,
@@ -98,11 +90,7 @@ fn texts_are_made_of_texts(rt: HostRuntime) -> Result<(), Fail> {
         (Function::ToUpperCase, r#"["ä1a"]"#, "ä1A"),
         (Function::ToUpperCase, r#"[null]"#, ""),
     ] {
-        assert_eq!(rt;
-            answer_text(rt.alloc(), function, args)?.as_str(),
-            text,
-            "{args}"
-        );
+        assert_eq!(rt; answer_text(rt.alloc(), function, args)?.as_str(), text);
     }
     Ok(())
 }
@@ -123,19 +111,19 @@ fn answers_are_joined_and_measured(rt: HostRuntime) -> Result<(), Fail> {
     let between = Value::Text(Text::copy_of(alloc, "-")?);
     let joined = call(alloc, Function::Join, &[parts, between])?;
     assert_eq!(rt; to_text(alloc, &joined)?.as_str(), "a-b");
-    for (count, fits) in [(1_048_560, true), (1_048_561, false)] {
+    for &(count, fits) in &[(1_048_560, true), (1_048_561, false)] {
         let made = call(alloc, Function::ToUpperCase, &[letters(alloc, count)?]);
-        assert_eq!(rt; made.is_ok(), fits, "{count}");
+        assert_eq!(rt; made.is_ok(), fits);
     }
     Ok(())
 }
 
 #[test]
 fn empty_texts_are_split(rt: HostRuntime) -> Result<(), Fail> {
-    for (args, count) in [(r#"["", ";"]"#, 1), (r#"[";;", ";"]"#, 0)] {
+    for &(args, count) in &[(r#"["", ";"]"#, 1), (r#"[";;", ";"]"#, 0)] {
         let split = answer(rt.alloc(), Function::Split, args)?;
         let length = call(rt.alloc(), Function::Length, &[split])?;
-        assert!(rt; length == Value::Int(count), "{args}");
+        assert!(rt; length == Value::Int(count));
     }
     assert_eq!(rt; tokens(rt.alloc(), "", ";")?.len(), 0);
     Ok(())
@@ -143,7 +131,7 @@ fn empty_texts_are_split(rt: HostRuntime) -> Result<(), Fail> {
 
 #[test]
 fn places_are_numbers(rt: HostRuntime) -> Result<(), Fail> {
-    for (place, fault) in [
+    for &(place, fault) in &[
         ("x", RunFault::NotANumber),
         ("1.5", RunFault::Decimal),
         ("1e", RunFault::NotANumber),
@@ -154,7 +142,7 @@ fn places_are_numbers(rt: HostRuntime) -> Result<(), Fail> {
             Value::Int(2),
         ];
         let answer = call(rt.alloc(), Function::Substring, &args);
-        assert!(rt; answer.err() == Some(Failure::Fault(fault)), "{place}");
+        assert!(rt; answer.err() == Some(Failure::Fault(fault)));
     }
     Ok(())
 }

@@ -3,7 +3,7 @@ use std::test::Fail;
 
 #[test]
 fn bodies_hold_what_they_may(rt: HostRuntime) -> Result<(), Fail> {
-    for (text, faults) in [
+    for &(text, faults) in &[
         ("<c:remove var=\"x\"></c:remove>", ""),
         ("<c:remove var=\"x\"> </c:remove>", "BadBody"),
         ("<c:remove var=\"x\"><%-- x --%></c:remove>", ""),

@@ -3,7 +3,7 @@ use std::test::Fail;
 
 #[test]
 fn tags_have_their_attributes(rt: HostRuntime) -> Result<(), Fail> {
-    for (text, faults) in [
+    for &(text, faults) in &[
         ("<c:ouch/>", "NoTag"),
         ("<c:out value=\"x\"/>", ""),
         ("<c:out/>", "BadAttribute"),

@@ -18,7 +18,7 @@ fn tags_stand_in_their_places(rt: HostRuntime) -> Result<(), Fail> {
     };
     let body = Host::Standard("body");
     let text = Host::Standard("text");
-    for (innermost, next, tag, faults) in [
+    for &(innermost, next, tag, faults) in &[
         (Host::Call, url, "<c:out value=\"x\"/>", ""),
         (choose, url, "<c:when test=\"x\"/>", ""),
         (body, choose, "<c:when test=\"x\"/>", ""),

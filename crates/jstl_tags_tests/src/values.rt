@@ -3,7 +3,7 @@ use std::test::Fail;
 
 #[test]
 fn attributes_take_their_values(rt: HostRuntime) -> Result<(), Fail> {
-    for (text, faults) in [
+    for &(text, faults) in &[
         ("<c:if test=\"${x}\" var=\"y\" scope=\"session\"/>", ""),
         ("<c:if test=\"x\" var=\"${y}\"/>", " var BadAttribute"),
         ("<c:remove var=\"x\" scope=\"all\"/>", " scope BadAttribute"),

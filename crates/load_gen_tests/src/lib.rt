@@ -3,6 +3,5 @@
 
 #[cfg(test)]
 mod cases;
+#[cfg(test)]
 mod lines;
-
-pub use lines::made;

@@ -1,75 +1,85 @@
-use crate::pages::{CHUNKED, START, flushes, keeps, letters, page, puts};
-use edges::MemSink;
-use out_buffer::{Failure, MAX_OUTPUT_BYTES, RunFault};
-use std::test::Fail;
+// Bodies that are kept, and how much may be put.
+use crate::acts::{Act, Row};
 
-/// The most bytes of a text.
-const MOST: usize = 1_048_560;
-
-#[test]
-fn bodies_are_kept_inside_bodies(rt: HostRuntime) -> Result<(), Fail> {
-    let alloc = rt.alloc();
-    let mut sink = MemSink::new(alloc, Vec::new(alloc));
-    let mut writer = page(alloc, None, true, true)?;
-    for text in ["a", "b", "c"] {
-        assert!(rt; keeps(&mut writer));
-        assert!(rt; puts(&mut writer, &mut sink, text));
-        assert!(rt; flushes(&mut writer, &mut sink));
-    }
-    writer.drop_bodies(2);
-    for (left, wanted) in [(2, "bx"), (1, "ax")] {
-        assert!(rt; writer.bodies() == left && left > 0);
-        assert!(rt; puts(&mut writer, &mut sink, "x"));
-        assert!(rt; writer.bodies() > 0);
-        let body = writer.take_body().ok().ok_or("taken")?;
-        assert_eq!(rt; body.as_str(), wanted);
-    }
-    assert!(rt; sink.taken().is_empty());
-    assert!(rt; puts(&mut writer, &mut sink, "y"));
-    let gone = format!(in alloc; "{START}{CHUNKED}1\r\ny\r\n")?;
-    assert_eq!(rt; sink.taken(), gone.as_bytes());
-    Ok(())
-}
-
-#[test]
-fn a_kept_body_is_measured(rt: HostRuntime) -> Result<(), Fail> {
-    let alloc = rt.alloc();
-    let mut sink = MemSink::new(alloc, Vec::new(alloc));
-    let mut writer = page(alloc, None, true, true)?;
-    let large = letters(alloc, MOST)?;
-    for (more, wanted) in [
-        ("", Ok(MOST)),
-        ("a", Err(Failure::Fault(RunFault::ValueTooLarge))),
-    ] {
-        assert!(rt; keeps(&mut writer));
-        assert!(rt; puts(&mut writer, &mut sink, large.as_str()));
-        assert!(rt; puts(&mut writer, &mut sink, more));
-        assert!(rt; writer.bodies() > 0);
-        let taken = writer.take_body();
-        assert_eq!(rt; taken.map(|body| body.len()), wanted);
-        assert_eq!(rt; writer.bodies(), 0);
-    }
-    Ok(())
-}
-
-#[test]
-fn all_that_is_put_has_its_limit(rt: HostRuntime) -> Result<(), Fail> {
-    let alloc = rt.alloc();
-    // A sink that fails at once takes nothing, and the page runs on.
-    let mut sink = MemSink::new(alloc, vec![in alloc; 0]?);
-    let mut writer = page(alloc, None, true, true)?;
-    let large = letters(alloc, MOST)?;
-    assert!(rt; keeps(&mut writer));
-    assert!(rt; puts(&mut writer, &mut sink, large.as_str()));
-    writer.drop_bodies(0);
-    for _ in 0..15 {
-        assert!(rt; puts(&mut writer, &mut sink, large.as_str()));
-    }
-    let rest = letters(alloc, MAX_OUTPUT_BYTES - 16 * MOST)?;
-    assert!(rt; puts(&mut writer, &mut sink, rest.as_str()));
-    assert!(rt; puts(&mut writer, &mut sink, ""));
-    let over = writer.put(&mut sink, "a");
-    assert_eq!(rt; over, Err(Failure::Fault(RunFault::OutputTooLong)));
-    assert!(rt; sink.taken().is_empty());
-    Ok(())
-}
+pub const ROWS: [Row<'static>; 3] = [
+    // Bodies are kept inside bodies.
+    Row {
+        kilobytes: 0,
+        autoflush: true,
+        shown: true,
+        fails: None,
+        acts: &[
+            Act::Keep,
+            Act::Put("a"),
+            Act::Flush,
+            Act::Keep,
+            Act::Put("b"),
+            Act::Flush,
+            Act::Keep,
+            Act::Put("c"),
+            Act::Flush,
+            Act::Leave(2),
+            Act::Put("x"),
+            Act::Take,
+            Act::Put("x"),
+            Act::Take,
+            Act::Sink,
+            Act::Put("y"),
+        ],
+        end: None,
+        told: "2 bx|1 ax||HTTP/1.1 200 OK\r\nContent-Type: text/html;charset=UTF-8\r\nTransfer-Encoding: chunked\r\n\r\n1\r\ny\r\n",
+    },
+    // A kept body is measured: a text has at most 1,048,560 bytes.
+    Row {
+        kilobytes: 0,
+        autoflush: true,
+        shown: true,
+        fails: None,
+        acts: &[
+            Act::Keep,
+            Act::Put("«1048560 a»"),
+            Act::Put(""),
+            Act::Take,
+            Act::State,
+            Act::Keep,
+            Act::Put("«1048560 a»"),
+            Act::Put("a"),
+            Act::Take,
+            Act::State,
+        ],
+        end: None,
+        told: "1 «1048560 a»|0 open|1 ValueTooLarge|0 open|",
+    },
+    // All that is put has its limit, 16,777,216 bytes, and the page runs on where its sink takes nothing.
+    Row {
+        kilobytes: 0,
+        autoflush: true,
+        shown: true,
+        fails: Some(0),
+        acts: &[
+            Act::Keep,
+            Act::Put("«1048560 a»"),
+            Act::Leave(0),
+            Act::Put("«1048560 a»"),
+            Act::Put("«1048560 a»"),
+            Act::Put("«1048560 a»"),
+            Act::Put("«1048560 a»"),
+            Act::Put("«1048560 a»"),
+            Act::Put("«1048560 a»"),
+            Act::Put("«1048560 a»"),
+            Act::Put("«1048560 a»"),
+            Act::Put("«1048560 a»"),
+            Act::Put("«1048560 a»"),
+            Act::Put("«1048560 a»"),
+            Act::Put("«1048560 a»"),
+            Act::Put("«1048560 a»"),
+            Act::Put("«1048560 a»"),
+            Act::Put("«1048560 a»"),
+            Act::Put("«256 a»"),
+            Act::Put(""),
+            Act::Put("a"),
+        ],
+        end: None,
+        told: "OutputTooLong|",
+    },
+];

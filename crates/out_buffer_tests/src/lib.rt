@@ -2,8 +2,12 @@
 #![tactic(auto)]
 
 #[cfg(test)]
+mod acts;
+#[cfg(test)]
 mod committing;
 #[cfg(test)]
 mod keeping;
 #[cfg(test)]
-mod pages;
+mod tests;
+#[cfg(test)]
+mod texts;

@@ -17,11 +17,14 @@ mod limits;
 mod operations;
 #[cfg(test)]
 mod pages;
+#[cfg(test)]
 mod ran;
 #[cfg(test)]
 mod sites;
 #[cfg(test)]
 mod tags;
+#[cfg(test)]
+mod tests;
 #[cfg(test)]
 mod told;
 #[cfg(test)]
@@ -30,5 +33,3 @@ mod values;
 mod variables;
 #[cfg(test)]
 mod words;
-
-pub use ran::{Ran, Surroundings, run_page};

@@ -29,11 +29,6 @@ pub fn told_run(alloc: Global, ran: &Ran) -> Result<String, Fail> {
     Ok(told)
 }
 
-/// How the page's run ended.
-pub fn ended(alloc: Global, ran: &Ran) -> Result<String, AllocError> {
-    end_told(alloc, &ran.end)
-}
-
 fn end_told(alloc: Global, end: &RunEnd) -> Result<String, AllocError> {
     match end {
         RunEnd::Normal => format!(in alloc; "normal"),

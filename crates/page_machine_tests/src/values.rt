@@ -1,215 +1,85 @@
-// Each operation on values.
-use crate::told::told;
-use std::alloc::{AllocError, Global};
-use std::test::Fail;
+// Each operation on values. Each row is a site in writing and what is told of it, or, where that ends in two dots, how that begins.
 
-#[test]
-fn texts_are_written(rt: HostRuntime) -> Result<(), Fail> {
-    for (site, wanted) in [
-        ("page Text Hi; End", "normal [Hi]"),
-        (r#"page Const "a"; Put; End"#, "normal [a]"),
-        (
-            r#"page Const "<&>'\""; PutEscaped; End"#,
-            "normal [&lt;&amp;&gt;&#039;&#034;]",
-        ),
-        ("page Visit 7; Text a; End", "normal [a]"),
-        ("page Const 1; Pop; Text a; End", "normal [a]"),
-    ] {
-        assert_eq!(rt; told(rt.alloc(), site)?.as_str(), wanted, "{site}");
-    }
-    Ok(())
-}
+pub const ROWS: &str = r#"
+# texts are written
+page Text Hi; End => normal [Hi]
+page Const "a"; Put; End => normal [a]
+page Const "<&>'\""; PutEscaped; End => normal [&lt;&amp;&gt;&#039;&#034;]
+page Visit 7; Text a; End => normal [a]
+page Const 1; Pop; Text a; End => normal [a]
 
-#[test]
-fn values_are_computed(rt: HostRuntime) -> Result<(), Fail> {
-    for (code, wanted) in [
-        (r#"Const {"a":1}; Const "a"; Index"#, "1"),
-        ("Const [5,6]; Const 1; Index", "6"),
-        ("Const [5,6]; Const 2; Index", ""),
-        ("Const null; Const 2; Index", ""),
-        ("Const 5; Unary -", "-5"),
-        (r#"Const "TRUE"; Unary not"#, "false"),
-        ("Const []; Unary empty", "true"),
-        ("Const 1; Const 2; Binary +", "3"),
-        ("Const 1; Const 2; Binary -", "-1"),
-        (r#"Const "3"; Const 2; Binary *"#, "6"),
-        ("Const -7; Const 3; Binary %", "-1"),
-        (r#"Const "a"; Const 1; Binary +="#, "a1"),
-        (r#"Const 2; Const "10"; Binary <"#, "true"),
-        (r#"Const "2"; Const "10"; Binary >="#, "true"),
-        ("Const 2; Const 10; Binary greater", "false"),
-        ("Const 2; Const 2; Binary <=", "true"),
-        (r#"Const 1; Const "1"; Binary =="#, "true"),
-        (r#"Const true; Const "x"; Binary and"#, "false"),
-        ("Const false; Const true; Binary or", "true"),
-        ("Const null; Const null; Binary !=", "false"),
-        (r#"Const 1; Const "b"; MakeList 2"#, "[1, b]"),
-        (
-            r#"Const 1; Const 2; Const "1"; Const 3; MakeMap 2"#,
-            "{1=3}",
-        ),
-        (r#"Const "a"; Const "b"; Const "c"; Concat 3"#, "abc"),
-        ("Const 1; Const 2; Take 1; Binary -", "1"),
-    ] {
-        let site = format!(in rt.alloc(); "page {code}; Coerce text; Put; End")?;
-        let wanted = format!(in rt.alloc(); "normal [{wanted}]")?;
-        assert_eq!(rt;
-            told(rt.alloc(), &site)?.as_str(),
-            wanted.as_str(),
-            "{code}"
-        );
-    }
-    Ok(())
-}
+# values are computed
+page Const {"a":1}; Const "a"; Index; Coerce text; Put; End => normal [1]
+page Const [5,6]; Const 1; Index; Coerce text; Put; End => normal [6]
+page Const [5,6]; Const 2; Index; Coerce text; Put; End => normal []
+page Const null; Const 2; Index; Coerce text; Put; End => normal []
+page Const 5; Unary -; Coerce text; Put; End => normal [-5]
+page Const "TRUE"; Unary not; Coerce text; Put; End => normal [false]
+page Const []; Unary empty; Coerce text; Put; End => normal [true]
+page Const 1; Const 2; Binary +; Coerce text; Put; End => normal [3]
+page Const 1; Const 2; Binary -; Coerce text; Put; End => normal [-1]
+page Const "3"; Const 2; Binary *; Coerce text; Put; End => normal [6]
+page Const -7; Const 3; Binary %; Coerce text; Put; End => normal [-1]
+page Const "a"; Const 1; Binary +=; Coerce text; Put; End => normal [a1]
+page Const 2; Const "10"; Binary <; Coerce text; Put; End => normal [true]
+page Const "2"; Const "10"; Binary >=; Coerce text; Put; End => normal [true]
+page Const 2; Const 10; Binary greater; Coerce text; Put; End => normal [false]
+page Const 2; Const 2; Binary <=; Coerce text; Put; End => normal [true]
+page Const 1; Const "1"; Binary ==; Coerce text; Put; End => normal [true]
+page Const true; Const "x"; Binary and; Coerce text; Put; End => normal [false]
+page Const false; Const true; Binary or; Coerce text; Put; End => normal [true]
+page Const null; Const null; Binary !=; Coerce text; Put; End => normal [false]
+page Const 1; Const "b"; MakeList 2; Coerce text; Put; End => normal [[1, b]]
+page Const 1; Const 2; Const "1"; Const 3; MakeMap 2; Coerce text; Put; End => normal [{1=3}]
+page Const "a"; Const "b"; Const "c"; Concat 3; Coerce text; Put; End => normal [abc]
+page Const 1; Const 2; Take 1; Binary -; Coerce text; Put; End => normal [1]
 
-#[test]
-fn functions_and_addresses_are_computed(rt: HostRuntime) -> Result<(), Fail> {
-    for (code, wanted) in [
-        (r#"Const "abc"; Const "b"; Call contains"#, "true"),
-        (
-            r#"Const "aXbX"; Const "X"; Const "-"; Call replace"#,
-            "a-b-",
-        ),
-        (r#"Const "abcd"; Const 1; Const 3; Call substring"#, "bc"),
-        (r#"Const ["a","b"]; Const "+"; Call join"#, "a+b"),
-        (r#"Const "abc"; Call length"#, "3"),
-        (r#"Const "/a"; Const "n"; Const "v w"; Url 1"#, "/a?n=v+w"),
-        (r#"Const "/a?b"; Const "n"; Const "1"; Url 1"#, "/a?b&n=1"),
-        (r#"Const "/a"; Const ""; Const "v"; Url 1"#, "/a"),
-    ] {
-        let site = format!(in rt.alloc(); "page {code}; Coerce text; Put; End")?;
-        let wanted = format!(in rt.alloc(); "normal [{wanted}]")?;
-        assert_eq!(rt;
-            told(rt.alloc(), &site)?.as_str(),
-            wanted.as_str(),
-            "{code}"
-        );
-    }
-    Ok(())
-}
+# functions and addresses are computed
+page Const "abc"; Const "b"; Call contains; Coerce text; Put; End => normal [true]
+page Const "aXbX"; Const "X"; Const "-"; Call replace; Coerce text; Put; End => normal [a-b-]
+page Const "abcd"; Const 1; Const 3; Call substring; Coerce text; Put; End => normal [bc]
+page Const ["a","b"]; Const "+"; Call join; Coerce text; Put; End => normal [a+b]
+page Const "abc"; Call length; Coerce text; Put; End => normal [3]
+page Const "/a"; Const "n"; Const "v w"; Url 1; Coerce text; Put; End => normal [/a?n=v+w]
+page Const "/a?b"; Const "n"; Const "1"; Url 1; Coerce text; Put; End => normal [/a?b&n=1]
+page Const "/a"; Const ""; Const "v"; Url 1; Coerce text; Put; End => normal [/a]
 
-// A page that coerces a value, and writes it: null, `text` where that is wanted, or the value as a text.
-fn coercing_page(
-    alloc: Global,
-    coercion: &str,
-    value: &str,
-    wanted: &str,
-) -> Result<String, AllocError> {
-    let kind = if wanted == "text" {
-        r#"Pop; Const "text"; "#
-    } else {
-        ""
-    };
-    let put = format!(in alloc; "{kind}Coerce text; Put; Jump >over")?;
-    let none = "; :none; Text null; :over; End";
-    format!(in alloc; "page Const {value}; Coerce {coercion}; JumpNull >none; {put}{none}")
-}
+# values are coerced
+page Const null; Coerce text; JumpNull >none; Pop; Const "text"; Coerce text; Put; Jump >over; :none; Text null; :over; End => normal [text]
+page Const null; Coerce text or null; JumpNull >none; Coerce text; Put; Jump >over; :none; Text null; :over; End => normal [null]
+page Const 5; Coerce text or null; JumpNull >none; Pop; Const "text"; Coerce text; Put; Jump >over; :none; Text null; :over; End => normal [text]
+page Const null; Coerce number; JumpNull >none; Coerce text; Put; Jump >over; :none; Text null; :over; End => normal [0]
+page Const "12"; Coerce number; JumpNull >none; Coerce text; Put; Jump >over; :none; Text null; :over; End => normal [12]
+page Const null; Coerce number or null; JumpNull >none; Coerce text; Put; Jump >over; :none; Text null; :over; End => normal [null]
+page Const "-3"; Coerce number or null; JumpNull >none; Coerce text; Put; Jump >over; :none; Text null; :over; End => normal [-3]
+page Const null; Coerce truth; JumpNull >none; Coerce text; Put; Jump >over; :none; Text null; :over; End => normal [false]
+page Const "True"; Coerce truth; JumpNull >none; Coerce text; Put; Jump >over; :none; Text null; :over; End => normal [true]
+page Const null; Coerce truth or null; JumpNull >none; Coerce text; Put; Jump >over; :none; Text null; :over; End => normal [null]
+page Const "no"; Coerce truth or null; JumpNull >none; Coerce text; Put; Jump >over; :none; Text null; :over; End => normal [false]
 
-#[test]
-fn values_are_coerced(rt: HostRuntime) -> Result<(), Fail> {
-    for (coercion, value, wanted) in [
-        ("text", "null", "text"),
-        ("text or null", "null", "null"),
-        ("text or null", "5", "text"),
-        ("number", "null", "0"),
-        ("number", r#""12""#, "12"),
-        ("number or null", "null", "null"),
-        ("number or null", r#""-3""#, "-3"),
-        ("truth", "null", "false"),
-        ("truth", r#""True""#, "true"),
-        ("truth or null", "null", "null"),
-        ("truth or null", r#""no""#, "false"),
-    ] {
-        let site = coercing_page(rt.alloc(), coercion, value, wanted)?;
-        let wanted = format!(in rt.alloc(); "normal [{wanted}]")?;
-        assert_eq!(rt;
-            told(rt.alloc(), &site)?.as_str(),
-            wanted.as_str(),
-            "{site}"
-        );
-    }
-    Ok(())
-}
+# objects tell of the request
+page Implicit pageContext; Const "request"; Index; Const "method"; Index; Coerce text; Put; End => normal [GET]
+page Implicit pageContext; Const "request"; Index; Const "requestURI"; Index; Coerce text; Put; End => normal [/p.jsp]
+page Implicit pageContext; Const "request"; Index; Const "contextPath"; Index; Coerce text; Put; End => normal []
+page Implicit pageContext; Const "request"; Index; Const "queryString"; Index; Coerce text; Put; End => normal []
+page Implicit pageContext; Const "request"; Index; Const "queryString"; Index; Coerce text; Put; End | query a=b => normal [a=b]
 
-#[test]
-fn objects_tell_of_the_request(rt: HostRuntime) -> Result<(), Fail> {
-    let request = "Implicit pageContext; Const \"request\"; Index; Const";
-    for (code, around, wanted) in [
-        (r#""method"; Index"#, "", "GET"),
-        (r#""requestURI"; Index"#, "", "/p.jsp"),
-        (r#""contextPath"; Index"#, "", ""),
-        (r#""queryString"; Index"#, "", ""),
-        (r#""queryString"; Index"#, " | query a=b", "a=b"),
-    ] {
-        let site = format!(in rt.alloc(); "page {request} {code}; Coerce text; Put; End{around}")?;
-        let wanted = format!(in rt.alloc(); "normal [{wanted}]")?;
-        assert_eq!(rt;
-            told(rt.alloc(), &site)?.as_str(),
-            wanted.as_str(),
-            "{site}"
-        );
-    }
-    Ok(())
-}
-
-#[test]
-fn objects_tell_of_all_around(rt: HostRuntime) -> Result<(), Fail> {
-    let exception = r#"Implicit pageContext; Const "exception"; Index"#;
-    let session = r#"Implicit pageContext; Const "session"; Index"#;
-    for (code, around, wanted) in [
-        (exception, "", ""),
-        (
-            exception,
-            " | exception",
-            "{code=X3, message=X3 ZeroDivisor /a.jsp:1:7}",
-        ),
-        (session, "", ""),
-        (session, " | session abc", "{id=abc}"),
-        ("Implicit param", " | given n 1 | given n 2", "{n=1}"),
-        (
-            "Implicit paramValues",
-            " | given n 1 | given n 2",
-            "{n=[1, 2]}",
-        ),
-        ("Implicit header", " | field host x", "{host=x}"),
-        (
-            "Implicit headerValues",
-            " | field a 1 | field a 2",
-            "{a=[1, 2]}",
-        ),
-        (
-            r#"Const "HOST"; HeaderIndex header"#,
-            " | field host x",
-            "x",
-        ),
-        (
-            r#"Const "a"; HeaderIndex headerValues"#,
-            " | field a 1",
-            "[1]",
-        ),
-        (r#"Const null; HeaderIndex header"#, "", ""),
-        (
-            "Implicit cookie",
-            " | field cookie a=1",
-            "{a={name=a, value=1}}",
-        ),
-        ("Implicit initParam", "", "{}"),
-        ("Const 1; Set page x; Implicit page", "", "{x=1}"),
-        ("Const 1; Set request x; Implicit request", "", "{x=1}"),
-        ("Implicit session", "", "{}"),
-        (
-            "Const 1; Set session x; Implicit session",
-            " | session abc",
-            "{x=1}",
-        ),
-    ] {
-        let site = format!(in rt.alloc(); "page {code}; Coerce text; Put; End{around}")?;
-        let wanted = format!(in rt.alloc(); "normal [{wanted}]")?;
-        assert_eq!(rt;
-            told(rt.alloc(), &site)?.as_str(),
-            wanted.as_str(),
-            "{site}"
-        );
-    }
-    Ok(())
-}
+# objects tell of all around
+page Implicit pageContext; Const "exception"; Index; Coerce text; Put; End => normal []
+page Implicit pageContext; Const "exception"; Index; Coerce text; Put; End | exception => normal [{code=X3, message=X3 ZeroDivisor /a.jsp:1:7}]
+page Implicit pageContext; Const "session"; Index; Coerce text; Put; End => normal []
+page Implicit pageContext; Const "session"; Index; Coerce text; Put; End | session abc => normal [{id=abc}]
+page Implicit param; Coerce text; Put; End | given n 1 | given n 2 => normal [{n=1}]
+page Implicit paramValues; Coerce text; Put; End | given n 1 | given n 2 => normal [{n=[1, 2]}]
+page Implicit header; Coerce text; Put; End | field host x => normal [{host=x}]
+page Implicit headerValues; Coerce text; Put; End | field a 1 | field a 2 => normal [{a=[1, 2]}]
+page Const "HOST"; HeaderIndex header; Coerce text; Put; End | field host x => normal [x]
+page Const "a"; HeaderIndex headerValues; Coerce text; Put; End | field a 1 => normal [[1]]
+page Const null; HeaderIndex header; Coerce text; Put; End => normal []
+page Implicit cookie; Coerce text; Put; End | field cookie a=1 => normal [{a={name=a, value=1}}]
+page Implicit initParam; Coerce text; Put; End => normal [{}]
+page Const 1; Set page x; Implicit page; Coerce text; Put; End => normal [{x=1}]
+page Const 1; Set request x; Implicit request; Coerce text; Put; End => normal [{x=1}]
+page Implicit session; Coerce text; Put; End => normal [{}]
+page Const 1; Set session x; Implicit session; Coerce text; Put; End | session abc => normal [{x=1}]
+"#;

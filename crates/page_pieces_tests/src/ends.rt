@@ -5,7 +5,7 @@ use std::test::Fail;
 #[test]
 fn an_end_is_whole_or_bad(rt: HostRuntime) -> Result<(), Fail> {
     let setting = setting(rt.alloc(), true, false)?;
-    for (text, piece) in [
+    for &(text, piece) in &[
         ("</c:a>b", "</c:a>|b"),
         ("</jsp:a \n>", "</jsp:a>|"),
         ("</c:a", "bad end 1:1"),
@@ -21,7 +21,7 @@ fn an_end_is_whole_or_bad(rt: HostRuntime) -> Result<(), Fail> {
 
 #[test]
 fn what_the_files_end_cuts_off_could_end(rt: HostRuntime) -> Result<(), Fail> {
-    for (text, could) in [
+    for &(text, could) in &[
         ("</c:if", true),
         ("</c:i", true),
         ("</c:if \n", true),

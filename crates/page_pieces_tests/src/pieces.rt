@@ -4,7 +4,7 @@ use std::test::Fail;
 #[test]
 fn the_first_mark_is_a_piece(rt: HostRuntime) -> Result<(), Fail> {
     let setting = setting(rt.alloc(), true, false)?;
-    for (text, piece) in [
+    for &(text, piece) in &[
         ("a<b>c${x}", "'a<b>c'|${x}"),
         ("é\n${x}", "'é\n'|${x}"),
         ("<%----%>a", "--|a"),
@@ -35,7 +35,7 @@ fn the_first_mark_is_a_piece(rt: HostRuntime) -> Result<(), Fail> {
 #[test]
 fn without_expressions_marks_are_text(rt: HostRuntime) -> Result<(), Fail> {
     let off = setting(rt.alloc(), false, false)?;
-    for (text, piece) in [
+    for &(text, piece) in &[
         ("${x}#{x}\\#{x}\\${x}", "'${x}#{x}\\#{x}\\${x}'|"),
         ("<c:a b=\"#{x}\\${y}\"/>", "<c:a b=1:9'#{x}\\${y}'/>|"),
     ] {
@@ -51,7 +51,7 @@ fn without_expressions_marks_are_text(rt: HostRuntime) -> Result<(), Fail> {
 #[test]
 fn heads_are_read_with_their_values(rt: HostRuntime) -> Result<(), Fail> {
     let setting = setting(rt.alloc(), true, false)?;
-    for (text, piece) in [
+    for &(text, piece) in &[
         ("<c:a b=\"a\\\\\"/>c", "<c:a b=1:9'a\\'/>|c"),
         ("<c:a b = 'c\"d' >", "<c:a b=1:11'c\"d'>|"),
         ("<c:a x:b=\"\"/>", "<c:a x:b=1:11/>|"),
@@ -74,7 +74,7 @@ fn heads_are_read_with_their_values(rt: HostRuntime) -> Result<(), Fail> {
 #[test]
 fn a_head_breaks_at_its_value_or_where_it_begins(rt: HostRuntime) -> Result<(), Fail> {
     let setting = setting(rt.alloc(), true, false)?;
-    for (text, fault) in [
+    for &(text, fault) in &[
         ("<c:a b=\"<%= x %>\"/>", "E4 1:9"),
         ("<c:a b=\"${x\"/>", "E2 1:9"),
         ("<c:a b=\"1\" c=\"<%=\"", "E4 1:15"),

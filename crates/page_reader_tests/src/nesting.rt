@@ -33,7 +33,7 @@ fn first_stop(alloc: Global, text: &str) -> Result<Option<(u8, u32)>, Fail> {
 #[test]
 fn nesting_breaks_no_reading(rt: HostRuntime) -> Result<(), Fail> {
     let alloc = rt.alloc();
-    for (ends, stop) in [
+    for &(ends, stop) in &[
         (0, Some((2, 1201))),
         (64, Some((2, 49))),
         (65, None),

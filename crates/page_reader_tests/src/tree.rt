@@ -5,7 +5,7 @@ use std::test::Fail;
 #[test]
 fn ends_match_the_innermost_element(rt: HostRuntime) -> Result<(), Fail> {
     let setting = setting(rt.alloc(), true, false)?;
-    for (text, page) in [
+    for &(text, page) in &[
         ("", ""),
         ("<c:a>b</c:a >d", " 1:1<c:a>[ 1:6'b']b 1:14'd'"),
         ("<c:a><c:b/></c:a>", " 1:1<c:a>[ 1:6<c:b/>]<c:b/>"),
@@ -37,7 +37,7 @@ fn ends_match_the_innermost_element(rt: HostRuntime) -> Result<(), Fail> {
 #[test]
 fn texts_that_meet_are_one(rt: HostRuntime) -> Result<(), Fail> {
     let setting = setting(rt.alloc(), true, false)?;
-    for (text, page) in [
+    for &(text, page) in &[
         ("a\\$b", " 1:1'a$b'"),
         ("\\${x}\\#{y}", " 1:1'${x}#{y}'"),
         ("a\n<\\% y", " 1:1'a\n<% y'"),
@@ -70,7 +70,7 @@ fn texts_that_meet_are_one(rt: HostRuntime) -> Result<(), Fail> {
 #[test]
 fn prefixes_are_registered_from_their_directive_on(rt: HostRuntime) -> Result<(), Fail> {
     let alloc = rt.alloc();
-    for (text, page) in [
+    for &(text, page) in &[
         (
             "<%@ include file=\"i.jspf\" %>",
             " 1:1@include file=1:19'i.jspf'",

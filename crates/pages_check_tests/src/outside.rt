@@ -10,7 +10,7 @@ fn other_words_are_refused(rt: HostRuntime) -> Result<(), Fail> {
         read_fails: &[],
         write_fails: &[],
     };
-    for words in [
+    for &words in &[
         [].as_slice(),
         &["check"],
         &["check", "/a.jsp", "/b.jsp"],
@@ -31,7 +31,7 @@ fn other_words_are_refused(rt: HostRuntime) -> Result<(), Fail> {
 
 #[test]
 fn faults_of_the_outside_are_told(rt: HostRuntime) -> Result<(), Fail> {
-    for (read_fails, write_fails, status, written) in [
+    for &(read_fails, write_fails, status, written) in &[
         ([0].as_slice(), [].as_slice(), 3, ""),
         // The read behind the last byte may fail, too.
         (&[5], &[], 3, ""),

@@ -40,8 +40,8 @@ const PAGES: [(&str, &[u8], u8, &str); 11] = [
 
 #[test]
 fn each_page_has_its_line(rt: HostRuntime) -> Result<(), Fail> {
-    for (path, text, status, told) in PAGES {
-        for piece in [1, 65_536] {
+    for &(path, text, status, told) in &PAGES {
+        for &piece in &[1, 65_536] {
             let outside = Outside {
                 piece,
                 read_fails: &[],
@@ -55,8 +55,8 @@ fn each_page_has_its_line(rt: HostRuntime) -> Result<(), Fail> {
                 text,
                 &outside,
             )?;
-            assert_eq!(rt; answer, status, "{path}");
-            assert_eq!(rt; written.as_slice(), told.as_bytes(), "{path}");
+            assert_eq!(rt; answer, status);
+            assert_eq!(rt; written.as_slice(), told.as_bytes());
         }
     }
     Ok(())
@@ -69,7 +69,7 @@ fn a_page_has_its_limit(rt: HostRuntime) -> Result<(), Fail> {
         read_fails: &[],
         write_fails: &[],
     };
-    for (size, byte, status, told) in [
+    for &(size, byte, status, told) in &[
         (1_048_576, b'x', 0, b"ok\n".as_slice()),
         (1_048_577, b'x', 6, b"E20 TooLarge /a.jsp:1:1\n"),
         // Its size is looked at before its bytes.
@@ -84,8 +84,8 @@ fn a_page_has_its_limit(rt: HostRuntime) -> Result<(), Fail> {
             &text,
             &outside,
         )?;
-        assert_eq!(rt; answer, status, "{size}");
-        assert_eq!(rt; written.as_slice(), told, "{size}");
+        assert_eq!(rt; answer, status);
+        assert_eq!(rt; written.as_slice(), told);
     }
     Ok(())
 }
@@ -97,7 +97,7 @@ fn elements_stand_64_deep(rt: HostRuntime) -> Result<(), Fail> {
         read_fails: &[],
         write_fails: &[],
     };
-    for (levels, status, told) in [
+    for &(levels, status, told) in &[
         (64, 0, b"ok\n".as_slice()),
         (65, 6, b"E20 TooLarge /n.jsp:1:1201\n"),
     ] {
@@ -114,8 +114,8 @@ fn elements_stand_64_deep(rt: HostRuntime) -> Result<(), Fail> {
             text.as_bytes(),
             &outside,
         )?;
-        assert_eq!(rt; answer, status, "{levels}");
-        assert_eq!(rt; written.as_slice(), told, "{levels}");
+        assert_eq!(rt; answer, status);
+        assert_eq!(rt; written.as_slice(), told);
     }
     Ok(())
 }

@@ -33,10 +33,10 @@ fn sites() -> [(&'static str, Site); 18] {
 fn what_is_said_is_answered(rt: HostRuntime) -> Result<(), Fail> {
     for (name, site) in sites() {
         let script = script_of(rt.alloc(), &site)?;
-        for piece in [1, 4_096] {
+        for &piece in &[1, 4_096] {
             let (status, text) = told(rt.alloc(), &script.input, piece)?;
-            assert_eq!(rt; status, 0, "{name}");
-            assert_eq!(rt; text.as_slice(), script.wanted.as_slice(), "{name}");
+            assert_eq!(rt; status, 0);
+            assert_eq!(rt; text.as_slice(), script.wanted.as_slice());
         }
     }
     Ok(())

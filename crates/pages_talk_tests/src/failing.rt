@@ -24,8 +24,8 @@ fn a_page_is_cut_at_each_byte(rt: HostRuntime) -> Result<(), Fail> {
     for size in 0..=script.input.len() {
         let (between, answered) = cut(&script, size);
         let (status, text) = told(rt.alloc(), &script.input[..size], 80)?;
-        assert_eq!(rt; status, if between { 0 } else { 2 }, "{size}");
-        assert_eq!(rt; text.len(), answered, "{size}");
+        assert_eq!(rt; status, if between { 0 } else { 2 });
+        assert_eq!(rt; text.len(), answered);
         assert!(rt; script.wanted.as_slice().starts_with(&text));
     }
     Ok(())
@@ -85,9 +85,9 @@ fn each_read_and_each_write_may_fail(rt: HostRuntime) -> Result<(), Fail> {
     for number in 0..4 {
         let script = row(rt.alloc(), number)?;
         let (count, right) = failures(rt.alloc(), &script, 3)?;
-        assert_eq!(rt; (count, right), (reads(&script) as u64, true), "{number}");
+        assert_eq!(rt; (count, right), (reads(&script) as u64, true));
         let (count, right) = failures(rt.alloc(), &script, 4)?;
-        assert!(rt; count > 2 && right, "{number}");
+        assert!(rt; count > 2 && right);
     }
     Ok(())
 }

@@ -34,7 +34,7 @@ const TWO: &str = "pages 2\nversion 3\nrequests 8\nok 8\nhits 5\n";
 
 #[test]
 fn a_generated_site_is_told_in_numbers(rt: HostRuntime) -> Result<(), Fail> {
-    for (words, fails, status, read, text) in [
+    for &(words, fails, status, read, text) in &[
         (["load", "1"].as_slice(), [].as_slice(), 0, 76, ONE),
         (["load", "2"].as_slice(), [].as_slice(), 0, 228, TWO),
         (["load", "1"].as_slice(), [0].as_slice(), 4, 76, ""),

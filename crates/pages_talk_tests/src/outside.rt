@@ -5,7 +5,7 @@ const SEED: &str = "000000000000000000000000000000000000000000000000000000000000
 
 #[test]
 fn the_words_are_play_and_a_seed(rt: HostRuntime) -> Result<(), Fail> {
-    for (words, status) in [
+    for &(words, status) in &[
         (["play"].as_slice(), 0),
         (["play", "--seed", SEED].as_slice(), 0),
         (["play", "--seed", "00"].as_slice(), 1),
@@ -38,7 +38,7 @@ const LAST: [(&str, u8, &str); 3] = [
 
 #[test]
 fn nothing_is_answered_behind_the_last(rt: HostRuntime) -> Result<(), Fail> {
-    for (input, status, answer) in LAST {
+    for &(input, status, answer) in &LAST {
         let (found, text) = told(rt.alloc(), input.as_bytes(), 80)?;
         assert_eq!(rt; found, status);
         assert_eq!(rt; text.as_slice(), answer.as_bytes());

@@ -22,7 +22,7 @@ fn name_of(reason: BadPath) -> &'static str {
 
 #[test]
 fn a_text_stands_for_a_path_or_none(rt: HostRuntime) -> Result<(), Fail> {
-    for (text, meant) in [
+    for &(text, meant) in &[
         ("/a.jsp", "/a.jsp"),
         ("a.jsp", "/a.jsp"),
         ("/a/./b/../c.jsp", "/a/c.jsp"),
@@ -43,7 +43,7 @@ fn a_text_stands_for_a_path_or_none(rt: HostRuntime) -> Result<(), Fail> {
         ("/ä b", "/ä b"),
     ] {
         let found = resolved(rt.alloc(), None, text)?;
-        assert_eq!(rt; found.as_str(), meant, "{text}");
+        assert_eq!(rt; found.as_str(), meant);
     }
     Ok(())
 }
@@ -52,7 +52,7 @@ fn a_text_stands_for_a_path_or_none(rt: HostRuntime) -> Result<(), Fail> {
 fn a_text_stands_in_the_folder_of_its_base(rt: HostRuntime) -> Result<(), Fail> {
     let base = resolve(rt.alloc(), None, "/shop/list.jsp")?;
     let base = base.copy()?;
-    for (text, meant) in [
+    for &(text, meant) in &[
         ("item.jspf", "/shop/item.jspf"),
         ("../top.jsp", "/top.jsp"),
         ("../..", "AboveRoot"),
@@ -60,20 +60,20 @@ fn a_text_stands_in_the_folder_of_its_base(rt: HostRuntime) -> Result<(), Fail> 
         ("", "Empty"),
     ] {
         let found = resolved(rt.alloc(), Some(&base), text)?;
-        assert_eq!(rt; found.as_str(), meant, "{text}");
+        assert_eq!(rt; found.as_str(), meant);
     }
     Ok(())
 }
 
 #[test]
 fn a_path_has_at_most_1024_bytes(rt: HostRuntime) -> Result<(), Fail> {
-    for (count, fits) in [(1_023, true), (1_024, false)] {
+    for &(count, fits) in &[(1_023, true), (1_024, false)] {
         let mut text = String::from_str(rt.alloc(), "/")?;
         for _ in 0..count {
             text.push('a')?;
         }
         let path = resolve(rt.alloc(), None, text.as_str());
-        assert_eq!(rt; path.is_ok(), fits, "{count}");
+        assert_eq!(rt; path.is_ok(), fits);
     }
     Ok(())
 }
@@ -81,7 +81,7 @@ fn a_path_has_at_most_1024_bytes(rt: HostRuntime) -> Result<(), Fail> {
 #[test]
 fn names_are_distinct_and_in_order(rt: HostRuntime) -> Result<(), Fail> {
     let mut names = Names::empty(rt.alloc());
-    for path in ["/b", "/a/c", "/b", "/a"] {
+    for &path in &["/b", "/a/c", "/b", "/a"] {
         names.insert(resolve(rt.alloc(), None, path)?)?;
     }
     let other = resolve(rt.alloc(), None, "/c")?;

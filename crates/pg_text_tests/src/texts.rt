@@ -8,7 +8,7 @@ use std::test::Fail;
 fn numbers_are_written_and_read(rt: HostRuntime) -> Result<(), Fail> {
     let least = decimal(rt.alloc(), i64::MIN)?;
     assert_eq!(rt; least.as_str(), "-9223372036854775808");
-    for (text, number) in [
+    for &(text, number) in &[
         ("0", Some(0)),
         ("01", Some(1)),
         ("999999999999999999", Some(999_999_999_999_999_999)),
@@ -17,7 +17,7 @@ fn numbers_are_written_and_read(rt: HostRuntime) -> Result<(), Fail> {
         ("+5", None),
         ("1 ", None),
     ] {
-        assert_eq!(rt; whole_number(text.as_bytes()), number, "{text}");
+        assert_eq!(rt; whole_number(text.as_bytes()), number);
     }
     Ok(())
 }
@@ -58,7 +58,7 @@ fn a_shared_text_is_changed_alone(rt: HostRuntime) -> Result<(), Fail> {
 
 #[test]
 fn five_characters_are_escaped(rt: HostRuntime) -> Result<(), Fail> {
-    for (text, written) in [
+    for &(text, written) in &[
         ("<'\"&>", "&lt;&#039;&#034;&amp;&gt;"),
         ("J\u{e4}m 2 \u{20ac}", "J\u{e4}m 2 \u{20ac}"),
     ] {
@@ -71,7 +71,7 @@ fn five_characters_are_escaped(rt: HostRuntime) -> Result<(), Fail> {
 #[test]
 fn a_list_is_its_items(rt: HostRuntime) -> Result<(), Fail> {
     let mut texts = Listed::empty(rt.alloc());
-    for text in ["b", "a"] {
+    for &text in &["b", "a"] {
         texts.push(Text::copy_of(rt.alloc(), text)?)?;
     }
     let copy = texts.copy()?;

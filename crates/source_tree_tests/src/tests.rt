@@ -49,7 +49,7 @@ fn edits_make_a_tree_of_another(rt: HostRuntime) -> Result<(), Fail> {
 
     edits.clear();
     put(alloc, &mut edits, "/c.jsp", "c")?;
-    for path in ["/a.jsp", "/aa.jsp"] {
+    for &path in &["/a.jsp", "/aa.jsp"] {
         edits.push(Edit::Delete(resolve(alloc, None, path)?))?;
     }
     let next = tree.apply(&edits, 2)?;
@@ -62,11 +62,11 @@ fn edits_make_a_tree_of_another(rt: HostRuntime) -> Result<(), Fail> {
 fn a_file_is_found_by_its_path(rt: HostRuntime) -> Result<(), Fail> {
     let alloc = rt.alloc();
     let mut edits = Edits::new(alloc);
-    for path in ["/b", "/a/b", "/a-b", "/ab"] {
+    for &path in &["/b", "/a/b", "/a-b", "/ab"] {
         put(alloc, &mut edits, path, path)?;
     }
     let tree = Tree::new(alloc).apply(&edits, 0)?;
-    for (path, there) in [
+    for &(path, there) in &[
         ("/b", true),
         ("/a/b", true),
         ("/a-b", true),
@@ -76,7 +76,7 @@ fn a_file_is_found_by_its_path(rt: HostRuntime) -> Result<(), Fail> {
     ] {
         match tree.get(&resolve(alloc, None, path)?) {
             Some(file) => assert_eq!(rt; file.text.as_str(), path),
-            None => assert!(rt; !there, "{path}"),
+            None => assert!(rt; !there),
         }
     }
     Ok(())
@@ -141,10 +141,10 @@ fn changed_names_are_those_put_and_those_deleted_that_were_there(
     put(alloc, &mut edits, "/d", "d")?;
     let tree = Tree::new(alloc).apply(&edits, 0)?;
     edits.clear();
-    for path in ["/d", "/none"] {
+    for &path in &["/d", "/none"] {
         edits.push(Edit::Delete(resolve(alloc, None, path)?))?;
     }
-    for path in ["/c", "/b", "/c"] {
+    for &path in &["/c", "/b", "/c"] {
         put(alloc, &mut edits, path, "same")?;
     }
     let names = tree.changed(&edits.copy()?)?;

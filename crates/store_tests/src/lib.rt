@@ -3,13 +3,15 @@
 
 #[cfg(test)]
 mod deps_cases;
+#[cfg(test)]
 mod keeping;
+#[cfg(test)]
 mod listed;
 #[cfg(test)]
 mod store_cases;
+#[cfg(test)]
 mod versions;
+#[cfg(test)]
 mod wants;
+#[cfg(test)]
 mod word;
-
-pub use keeping::{Ask, asked};
-pub use wants::{Want, told};

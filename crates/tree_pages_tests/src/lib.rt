@@ -1,12 +1,10 @@
 //! Tests of the pages of a tree: read, translated and run in a site of its files.
 #![tactic(auto)]
 
-mod ran;
-
-pub use ran::{Ran, Surroundings, run_page};
-
 #[cfg(test)]
 mod counts;
+#[cfg(test)]
+mod ran;
 #[cfg(test)]
 mod several;
 #[cfg(test)]

@@ -43,7 +43,7 @@ fn included(alloc: Global, count: usize) -> Result<String, Fail> {
 
 #[test]
 fn a_unit_has_256_files(rt: HostRuntime) -> Result<(), Fail> {
-    for (count, wanted) in [
+    for &(count, wanted) in &[
         (20, "ok /a.jsp /i"),
         (255, "ok /a.jsp /i"),
         (256, "E20 TooLarge /a.jsp:256:1 /a.jsp /i"),

@@ -46,12 +46,9 @@ fn tells(alloc: Global, second: &str, third: &str, fault: &str, line: u8) -> Res
 
 #[test]
 fn the_earlier_of_two_faults_is_told(rt: HostRuntime) -> Result<(), Fail> {
-    for (second, fault) in FAULTS {
-        for (third, later) in FAULTS {
-            assert!(rt;
-                tells(rt.alloc(), second, third, fault, 2)?,
-                "{fault}, {later}"
-            );
+    for &(second, fault) in &FAULTS {
+        for &(third, later) in &FAULTS {
+            assert!(rt; tells(rt.alloc(), second, third, fault, 2)?);
         }
     }
     Ok(())
@@ -59,16 +56,10 @@ fn the_earlier_of_two_faults_is_told(rt: HostRuntime) -> Result<(), Fail> {
 
 #[test]
 fn a_fault_is_told_before_a_break_and_a_break_before_a_fault(rt: HostRuntime) -> Result<(), Fail> {
-    for (fault, told) in FAULTS {
-        for (broken, told_then) in BREAKS {
-            assert!(rt;
-                tells(rt.alloc(), fault, broken, told, 2)?,
-                "{told}, {told_then}"
-            );
-            assert!(rt;
-                tells(rt.alloc(), broken, fault, told_then, 2)?,
-                "{told_then}, {told}"
-            );
+    for &(fault, told) in &FAULTS {
+        for &(broken, told_then) in &BREAKS {
+            assert!(rt; tells(rt.alloc(), fault, broken, told, 2)?);
+            assert!(rt; tells(rt.alloc(), broken, fault, told_then, 2)?);
         }
     }
     Ok(())
@@ -77,14 +68,11 @@ fn a_fault_is_told_before_a_break_and_a_break_before_a_fault(rt: HostRuntime) ->
 #[test]
 fn an_element_without_an_end_is_told_before_the_faults_in_it(rt: HostRuntime) -> Result<(), Fail> {
     let start = "<c:if test=\"true\">";
-    for (fault, told) in FAULTS {
-        assert!(rt;
-            tells(rt.alloc(), start, fault, "E2 Unclosed", 2)?,
-            "{told}"
-        );
+    for &(fault, told) in &FAULTS {
+        assert!(rt; tells(rt.alloc(), start, fault, "E2 Unclosed", 2)?);
     }
-    for (broken, told) in BREAKS {
-        assert!(rt; tells(rt.alloc(), start, broken, told, 3)?, "{told}");
+    for &(broken, told) in &BREAKS {
+        assert!(rt; tells(rt.alloc(), start, broken, told, 3)?);
     }
     Ok(())
 }

@@ -76,28 +76,28 @@ fn begins(
 
 #[test]
 fn faults_stand_in_a_page(rt: HostRuntime) -> Result<(), Fail> {
-    for (text, fault, place) in FAULTS {
+    for &(text, fault, place) in &FAULTS {
         let files = [("/a.jsp", text)];
-        assert!(rt; begins(&rt, &files, fault, "/a.jsp", place)?, "{fault}");
+        assert!(rt; begins(&rt, &files, fault, "/a.jsp", place)?);
     }
     Ok(())
 }
 
 #[test]
 fn faults_stand_in_an_included_file(rt: HostRuntime) -> Result<(), Fail> {
-    for (text, fault, place) in FAULTS {
+    for &(text, fault, place) in &FAULTS {
         let files = [
             ("/a.jsp", "text<%@ include file=\"/d/i\" %>${1 +}"),
             ("/d/i", text),
         ];
-        assert!(rt; begins(&rt, &files, fault, "/d/i", place)?, "{fault}");
+        assert!(rt; begins(&rt, &files, fault, "/d/i", place)?);
     }
     Ok(())
 }
 
 #[test]
 fn faults_stand_in_a_tag_file(rt: HostRuntime) -> Result<(), Fail> {
-    for (text, fault, place) in FAULTS {
+    for &(text, fault, place) in &FAULTS {
         let files = [
             (
                 "/a.jsp",
@@ -105,10 +105,7 @@ fn faults_stand_in_a_tag_file(rt: HostRuntime) -> Result<(), Fail> {
             ),
             ("/WEB-INF/tags/x.tag", text),
         ];
-        assert!(rt;
-            begins(&rt, &files, fault, "/WEB-INF/tags/x.tag", place)?,
-            "{fault}"
-        );
+        assert!(rt; begins(&rt, &files, fault, "/WEB-INF/tags/x.tag", place)?);
     }
     Ok(())
 }
@@ -122,10 +119,7 @@ fn a_cycle_stands_in_a_tag_file(rt: HostRuntime) -> Result<(), Fail> {
         ),
         ("/WEB-INF/tags/x.tag", "\n<%@ include file=\"x.tag\" %>"),
     ];
-    assert!(rt;
-        begins(&rt, &files, "E9 IncludeCycle", "/WEB-INF/tags/x.tag", "2:1")?,
-        "in a tag file"
-    );
+    assert!(rt; begins(&rt, &files, "E9 IncludeCycle", "/WEB-INF/tags/x.tag", "2:1")?);
     Ok(())
 }
 
@@ -137,9 +131,6 @@ fn a_page_without_buffer_and_flushing_is_told_in_an_included_file(
         ("/a.jsp", "text<%@ include file=\"/d/i\" %>${1 +}"),
         ("/d/i", "x<%@ page autoFlush=\"false\" buffer=\"none\" %>"),
     ];
-    assert!(rt;
-        begins(&rt, &files, "E21 UnbufferedNoFlush", "/d/i", "1:2")?,
-        "in an included file"
-    );
+    assert!(rt; begins(&rt, &files, "E21 UnbufferedNoFlush", "/d/i", "1:2")?);
     Ok(())
 }

@@ -5,7 +5,7 @@ use std::test::Fail;
 
 #[test]
 fn pages_have_the_units_that_are_worked_out(rt: HostRuntime) -> Result<(), Fail> {
-    for (files, wanted) in PAGES {
+    for &(files, wanted) in &PAGES {
         let told = told(rt.alloc(), files)?;
         assert_eq!(rt; told.as_str(), wanted);
     }
@@ -14,7 +14,7 @@ fn pages_have_the_units_that_are_worked_out(rt: HostRuntime) -> Result<(), Fail>
 
 #[test]
 fn faults_are_told_where_they_are_worked_out(rt: HostRuntime) -> Result<(), Fail> {
-    for (files, wanted) in FAULTS {
+    for &(files, wanted) in &FAULTS {
         let told = told(rt.alloc(), files)?;
         assert_eq!(rt; told.as_str(), wanted);
     }

@@ -5,7 +5,7 @@ use std::test::Fail;
 
 #[test]
 fn values_have_texts(rt: HostRuntime) -> Result<(), Fail> {
-    for (json, text) in [
+    for &(json, text) in &[
         ("null", ""),
         ("true", "true"),
         ("-9223372036854775808", "-9223372036854775808"),
@@ -23,7 +23,7 @@ fn values_have_texts(rt: HostRuntime) -> Result<(), Fail> {
 
 #[test]
 fn texts_are_numbers_decimals_or_neither(rt: HostRuntime) -> Result<(), Fail> {
-    for (text, number) in [
+    for &(text, number) in &[
         ("", Ok(0)),
         ("+5", Ok(5)),
         ("-9223372036854775808", Ok(i64::MIN)),
@@ -43,40 +43,49 @@ fn texts_are_numbers_decimals_or_neither(rt: HostRuntime) -> Result<(), Fail> {
         (" 1 ", Err(RunFault::NotANumber)),
     ] {
         let value = Value::Text(Text::copy_of(rt.alloc(), text)?);
-        assert_eq!(rt; to_int(&value), number, "{text}");
+        assert_eq!(rt; to_int(&value), number);
     }
-    assert_eq!(rt; to_int(&Value::Null), Ok(0));
-    assert_eq!(rt; to_int(&Value::Bool(true)), Err(RunFault::NotANumber));
     Ok(())
 }
 
 #[test]
+fn other_values_are_numbers_or_none(rt: HostRuntime) {
+    assert_eq!(rt; to_int(&Value::Null), Ok(0));
+    assert_eq!(rt; to_int(&Value::Bool(true)), Err(RunFault::NotANumber));
+}
+
+#[test]
 fn texts_are_true_in_any_case(rt: HostRuntime) -> Result<(), Fail> {
-    for (text, truth) in [("TRUE", true), ("True", true), ("", false), ("yes", false)] {
+    for &(text, truth) in &[("TRUE", true), ("True", true), ("", false), ("yes", false)] {
         let value = Value::Text(Text::copy_of(rt.alloc(), text)?);
-        assert_eq!(rt; to_bool(&value), Ok(truth), "{text}");
+        assert_eq!(rt; to_bool(&value), Ok(truth));
     }
-    assert_eq!(rt; to_bool(&Value::Int(1)), Err(RunFault::NotABoolean));
     Ok(())
+}
+
+#[test]
+fn a_number_is_not_true(rt: HostRuntime) {
+    assert_eq!(rt; to_bool(&Value::Int(1)), Err(RunFault::NotABoolean));
 }
 
 // A list of one text of so many letters.
 fn long_list(alloc: Global, letters: usize) -> Result<Value, AllocError> {
-    let mut text = String::new(alloc);
-    for _ in 0..letters {
-        text.push('a')?;
-    }
+    let text = "a".repeat(alloc, letters)?;
     let mut items = Vec::new(alloc);
     items.push(Value::Text(Text::new(text)?))?;
     Ok(Value::List(Values::new(items)?))
 }
 
+// How many bytes the text of a list of one text of so many letters has, or its fault.
+fn made(alloc: Global, letters: usize) -> Result<usize, Failure<RunFault>> {
+    let list = long_list(alloc, letters)?;
+    let text = to_text(alloc, &list)?;
+    Ok(text.len())
+}
+
 #[test]
-fn a_made_text_is_measured(rt: HostRuntime) -> Result<(), Fail> {
-    let alloc = rt.alloc();
-    let longest = to_text(alloc, &long_list(alloc, 1_048_558)?)?;
-    assert_eq!(rt; longest.len(), 1_048_560);
-    let longer = to_text(alloc, &long_list(alloc, 1_048_559)?);
-    assert_eq!(rt; longer.err(), Some(Failure::Fault(RunFault::ValueTooLarge)));
-    Ok(())
+fn a_made_text_is_measured(rt: HostRuntime) {
+    assert_eq!(rt; made(rt.alloc(), 1_048_558), Ok(1_048_560));
+    let longer = made(rt.alloc(), 1_048_559);
+    assert_eq!(rt; longer, Err(Failure::Fault(RunFault::ValueTooLarge)));
 }

@@ -12,24 +12,15 @@ fn fault_of(alloc: Global, text: &str) -> Option<JsonFault> {
 
 // A text of so many letters in so many lists, as JSON.
 fn nested(alloc: Global, lists: usize, letters: usize) -> Result<String, AllocError> {
-    let mut text = String::new(alloc);
-    for _ in 0..lists {
-        text.push('[')?;
-    }
-    text.push('"')?;
-    for _ in 0..letters {
-        text.push('a')?;
-    }
-    text.push('"')?;
-    for _ in 0..lists {
-        text.push(']')?;
-    }
-    Ok(text)
+    let starts = "[".repeat(alloc, lists)?;
+    let text = "a".repeat(alloc, letters)?;
+    let ends = "]".repeat(alloc, lists)?;
+    format!(in alloc; "{starts}\"{text}\"{ends}")
 }
 
 #[test]
 fn whole_numbers_of_64_bits_alone_are_values(rt: HostRuntime) {
-    for (text, fault) in [
+    for &(text, fault) in &[
         ("{\"n\":1.5}", Some(JsonFault::Decimal)),
         ("-0", Some(JsonFault::Decimal)),
         ("1e2", Some(JsonFault::Decimal)),
@@ -42,13 +33,13 @@ fn whole_numbers_of_64_bits_alone_are_values(rt: HostRuntime) {
         ("[1] 2", Some(JsonFault::NotJson)),
         ("", Some(JsonFault::NotJson)),
     ] {
-        assert_eq!(rt; fault_of(rt.alloc(), text), fault, "{text}");
+        assert_eq!(rt; fault_of(rt.alloc(), text), fault);
     }
 }
 
 #[test]
 fn deep_texts_are_refused_before_large_ones(rt: HostRuntime) -> Result<(), Fail> {
-    for (lists, letters, fault) in [
+    for &(lists, letters, fault) in &[
         (32, 1, None),
         (33, 1, Some(JsonFault::TooDeep)),
         (127, 1, Some(JsonFault::TooDeep)),
@@ -58,11 +49,7 @@ fn deep_texts_are_refused_before_large_ones(rt: HostRuntime) -> Result<(), Fail>
         (33, 1_048_561, Some(JsonFault::TooDeep)),
     ] {
         let text = nested(rt.alloc(), lists, letters)?;
-        assert_eq!(rt;
-            fault_of(rt.alloc(), text.as_str()),
-            fault,
-            "{lists} {letters}"
-        );
+        assert_eq!(rt; fault_of(rt.alloc(), text.as_str()), fault);
     }
     Ok(())
 }

@@ -1,0 +1,30 @@
+// Each page is told as its row says.
+use crate::acts::{Row, told_of};
+use crate::texts::whole;
+use crate::{committing, keeping};
+use std::alloc::{AllocError, Global};
+use std::test::Fail;
+
+// What is told of the first page of which something else is told; nothing where there is none.
+fn told_otherwise(alloc: Global, rows: &[Row]) -> Result<String, AllocError> {
+    for row in rows {
+        let told = told_of(alloc, row)?;
+        let wanted = whole(alloc, row.told)?;
+        if told.as_str() != wanted.as_str() {
+            return Ok(told);
+        }
+    }
+    Ok(String::new(alloc))
+}
+
+#[test]
+fn only_what_is_over_the_buffer_is_committed(rt: HostRuntime) -> Result<(), Fail> {
+    assert_eq!(rt; told_otherwise(rt.alloc(), &committing::ROWS)?.as_str(), "");
+    Ok(())
+}
+
+#[test]
+fn bodies_are_kept_and_measured(rt: HostRuntime) -> Result<(), Fail> {
+    assert_eq!(rt; told_otherwise(rt.alloc(), &keeping::ROWS)?.as_str(), "");
+    Ok(())
+}
