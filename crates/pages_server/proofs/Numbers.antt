@@ -1,0 +1,13 @@
+-- What is the same of each item of two lists.
+use Rattle.std.proofs.Common.{◌≡◌, ℕ, suc, ◌<◌, List, [], ◌∷◌, length, map, refl, arith}
+use Rattle.std.specs.Prelude.{slice_index_or}
+
+-- two lists of one length have the same numbers where the items at each place do
+pub map_same : {A : Type 0} (f : A → ℕ) (xs ys : List A) → length xs ≡ length ys → ((k : ℕ) (d : A) → k < length xs → f (slice_index_or ys k d) ≡ f (slice_index_or xs k d)) → map f ys ≡ map f xs
+map_same f [] [] len each = refl
+map_same f [] (y ∷ ys) len each = absurd (omega arith)
+map_same f (x ∷ xs) [] len each = absurd (omega arith)
+map_same f (x ∷ xs) (y ∷ ys) len each =
+    let first : f y ≡ f x = each 0 x (omega arith) in
+    let rest : map f ys ≡ map f xs = map_same f xs ys (omega arith) (λ k d low. each (suc k) d (omega arith)) in
+    rw (first, rest) refl

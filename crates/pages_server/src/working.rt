@@ -1,0 +1,116 @@
+ghost use Rattle.std.specs.Prelude.{◌≡◌, ◌<◌, All, None, length, map, is_some, true, slice_index_or};
+
+use crate::Handler;
+use edges::{Accept, Accepted};
+use std::sync::Wait;
+use std::thread;
+use std::thread::{Threads, join};
+
+/// A token of a worker, and the mark that it got when the listener's round was over.
+#[derive(Drop)]
+pub struct Served<T, E> {
+    pub token: T,
+    pub closing: Option<E>,
+}
+
+/// Starts a thread for each token, which takes connections and hands each to the handler with its token, until the round of the
+/// listener is over. Then each token has the mark.
+pub fn workers<R: Threads + Wait + Sync, A: Accept + Sync, H: Handler + Sync>(
+    rt: &R,
+    listener: &A,
+    handler: &H,
+    tokens: &mut [Served<H::Token, A::Closing>],
+)
+    requires fits { All (λ served. H.fits handler.now served.token) tokens.old }
+    requires open { All (λ served. served.closing ≡ None) tokens.old }
+    ensures fits { All (λ served. H.fits handler.now served.token) tokens.new }
+    ensures closed { All (λ served. is_some served.closing ≡ true) tokens.new }
+    ensures numbers { map (λ served. H.number served.token) tokens.new ≡ map (λ served. H.number served.token) tokens.old }
+{
+    let count = tokens.len();
+    if count == 0 {
+        return;
+    }
+    let serve = |_place: usize, served: &mut Served<H::Token, A::Closing>|
+        requires { H.fits handler.now served.old.token }
+        ensures { H.fits handler.entry.now served.new.token × (is_some served.new.closing ≡ true) × (H.number served.new.token ≡ H.number served.old.token) }
+    { work(rt, listener, handler, served) };
+    thread::for_each_mut(rt, tokens, count, &serve);
+}
+
+// Hands connections to the handler until the round of the listener is over. A listener that failed is asked again.
+fn work<R: Wait, A: Accept, H: Handler>(
+    rt: &R,
+    listener: &A,
+    handler: &H,
+    served: &mut Served<H::Token, A::Closing>,
+)
+    requires { H.fits handler.now served.old.token }
+    ensures fits { H.fits handler.now served.new.token }
+    ensures closed { is_some served.new.closing ≡ true }
+    ensures number { H.number served.new.token ≡ H.number served.old.token }
+{
+    let mut faults = 0;
+    for _ in rt.forever() {
+        match listener.accept(&mut faults) {
+            Ok(Accepted::Pair(mut source, mut sink)) => {
+                handler.handle(&mut served.token, &mut source, &mut sink);
+            }
+            Ok(Accepted::Closed(mark)) => {
+                served.closing = Some(mark);
+                return;
+            }
+            Err(_) => {}
+        }
+    }
+    unreachable!()
+}
+
+/// Workers of two listeners at the same time. They come back once the rounds of both are over.
+pub fn both<R: Threads + Wait + Sync, A: Accept + Sync, H: Handler + Sync>(
+    rt: &R,
+    front: (&A, &H, Vec<Served<H::Token, A::Closing>>),
+    back: (&A, &H, Vec<Served<H::Token, A::Closing>>),
+) -> (
+    Vec<Served<H::Token, A::Closing>>,
+    Vec<Served<H::Token, A::Closing>>,
+)
+    requires front_fits { All (λ served. H.fits front.1.now served.token) front.2.items }
+    requires front_open { All (λ served. served.closing ≡ None) front.2.items }
+    requires back_fits { All (λ served. H.fits back.1.now served.token) back.2.items }
+    requires back_open { All (λ served. served.closing ≡ None) back.2.items }
+    ensures front_fits { All (λ served. H.fits front.entry.1.now served.token) result.0.items }
+    ensures front_numbers { map (λ served. H.number served.token) result.0.items ≡ map (λ served. H.number served.token) front.entry.2.items }
+    ensures back_fits { All (λ served. H.fits back.entry.1.now served.token) result.1.items }
+    ensures back_numbers { map (λ served. H.number served.token) result.1.items ≡ map (λ served. H.number served.token) back.entry.2.items }
+{
+    let (front_listener, front_handler, front_tokens) = front;
+    let (back_listener, back_handler, back_tokens) = back;
+    join(
+        rt,
+        move || -> Vec<Served<H::Token, A::Closing>>
+            requires { All (λ served. H.fits front_handler.now served.token) front_tokens.items × All (λ served. served.closing ≡ None) front_tokens.items }
+            ensures { All (λ served. H.fits front_handler.entry.now served.token) result.items × (map (λ served. H.number served.token) result.items ≡ map (λ served. H.number served.token) front_tokens.items) }
+        { at_work(rt, front_listener, front_handler, front_tokens) },
+        move || -> Vec<Served<H::Token, A::Closing>>
+            requires { All (λ served. H.fits back_handler.now served.token) back_tokens.items × All (λ served. served.closing ≡ None) back_tokens.items }
+            ensures { All (λ served. H.fits back_handler.entry.now served.token) result.items × (map (λ served. H.number served.token) result.items ≡ map (λ served. H.number served.token) back_tokens.items) }
+        { at_work(rt, back_listener, back_handler, back_tokens) },
+    )
+}
+
+// The workers once the round of their listener is over.
+fn at_work<R: Threads + Wait + Sync, A: Accept + Sync, H: Handler + Sync>(
+    rt: &R,
+    listener: &A,
+    handler: &H,
+    mut tokens: Vec<Served<H::Token, A::Closing>>,
+) -> Vec<Served<H::Token, A::Closing>>
+    requires fits { All (λ served. H.fits handler.now served.token) tokens.items }
+    requires open { All (λ served. served.closing ≡ None) tokens.items }
+    ensures fits { All (λ served. H.fits handler.now served.token) result.items }
+    ensures numbers { map (λ served. H.number served.token) result.items ≡ map (λ served. H.number served.token) tokens.items }
+{
+    workers(rt, listener, handler, tokens.as_mut_slice());
+    tokens
+}

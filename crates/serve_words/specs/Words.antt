@@ -1,0 +1,83 @@
+-- The words of the command `serve`, and what they say.
+use Rattle.std.specs.Prelude.{ℕ, ◌≤◌, ◌==◌, ◌&&◌, List, [], ◌∷◌, codes, nat_le, replicate, Option, Some, None, IfSome, if◌then◌else◌}
+use Rattle.std.specs.Option.{option_and_then}
+use Rattle.std.specs.Result.{result_ok}
+use Rattle.std.specs.Str.{bytes_eq}
+use Rattle.hex.specs.Hex.{decode_sized}
+use Rattle.pg_text.specs.Numbers.{whole_number}
+use Rattle.serve_words.specs.declared.given.Given.{Given}
+use Rattle.serve_words.specs.declared.setting.Settings.{Settings}
+
+-- no option was read yet
+abbrev pub nothing_given : Given
+nothing_given = record { port = None; editor_port = None; workers = None; seed = None; idle = None }
+
+-- the number that a text writes, where it is from one to the most
+abbrev pub number_up_to : (most : ℕ) → List ℕ → Option ℕ
+number_up_to most text = option_and_then (λ number. if nat_le 1 number && nat_le number most then Some number else None) (whole_number text)
+
+-- the seed that a text writes in 64 hexadecimal digits of either case
+abbrev pub seed_in : List ℕ → Option (List ℕ)
+seed_in text = result_ok (decode_sized text 32)
+
+-- there are 1 to 63 workers, where the words said how many
+abbrev pub FewWorkers : Given → Type 0
+FewWorkers g = IfSome g.workers (λ number. (1 ≤ number) × (number ≤ 63))
+
+-- an option stands only once
+abbrev pub once : {A : Type 0} → Option A → Option A → Option A
+once None value = value
+once (Some before) value = None
+
+-- the option of this name says this, too
+abbrev pub with_option : (name value : List ℕ) → Given → Option Given
+with_option name value g =
+    if bytes_eq name (codes "--port") then option_and_then (λ n. Some (record g { port = Some n })) (once g.port (number_up_to 65535 value))
+    else if bytes_eq name (codes "--editor-port") then option_and_then (λ n. Some (record g { editor_port = Some n })) (once g.editor_port (number_up_to 65535 value))
+    else if bytes_eq name (codes "--workers") then option_and_then (λ n. Some (record g { workers = Some n })) (once g.workers (number_up_to 63 value))
+    else if bytes_eq name (codes "--seed") then option_and_then (λ s. Some (record g { seed = Some s })) (once g.seed (seed_in value))
+    else if bytes_eq name (codes "--idle") then option_and_then (λ n. Some (record g { idle = Some n })) (once g.idle (number_up_to 1000000000 value))
+    else None
+
+-- one byte more before a name
+abbrev pub longer_name : ℕ → Option (List ℕ × List ℕ) → Option (List ℕ × List ℕ)
+longer_name b None = None
+longer_name b (Some split) = Some (b ∷ split.0, split.1)
+
+-- the name and the value that stand before and behind the first `=` of a word
+abbrev pub split_at_equals : List ℕ → Option (List ℕ × List ℕ)
+split_at_equals [] = None
+split_at_equals (b ∷ bytes) = if b == 61 then Some ([], bytes) else longer_name b (split_at_equals bytes)
+
+-- what one word says that is an option with its value
+abbrev pub alone : Option (List ℕ × List ℕ) → Given → Option Given
+alone None g = None
+alone (Some split) g = with_option split.0 split.1 g
+
+-- what a word and the next one say, and then the words behind the one or both
+abbrev pub onward : Option (List ℕ × List ℕ) → (word value : List ℕ) → Given → (one two : Given → Option Given) → Option Given
+onward None word value g one two = option_and_then two (with_option word value g)
+onward (Some split) word value g one two = option_and_then one (with_option split.0 split.1 g)
+
+-- what the words say: each option is one word `--name=value`, or two
+abbrev pub read : List (List ℕ) → Given → Option Given
+read [] g = Some g
+read (word ∷ []) g = alone (split_at_equals word) g
+read (word ∷ value ∷ words) g = onward (split_at_equals word) word value g (λ later. read (value ∷ words) later) (λ later. read words later)
+
+-- what was said, or else this
+abbrev pub or_else : {A : Type 0} → A → Option A → A
+or_else other None = other
+or_else other (Some value) = value
+
+-- three options have to stand there
+abbrev pub settings_of : Given → Option Settings
+settings_of g =
+    option_and_then (λ port. option_and_then (λ editor_port. option_and_then (λ workers.
+    Some (record { port = port; editor_port = editor_port; workers = workers; seed = or_else (replicate 32 0) g.seed; idle = or_else 1800 g.idle }))
+    g.workers) g.editor_port) g.port
+
+-- how the words ask to serve: they are `serve` and options
+abbrev pub settings_asked : List (List ℕ) → Option Settings
+settings_asked [] = None
+settings_asked (word ∷ words) = if bytes_eq word (codes "serve") then option_and_then settings_of (read words nothing_given) else None

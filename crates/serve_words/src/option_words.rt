@@ -1,0 +1,157 @@
+ghost use Rattle.std.specs.Prelude.{◌≡◌, ◌≤◌, ◌<◌, map, string_bytes, IfSome, length, option_map};
+ghost use Rattle.serve_words.specs.Words.{FewWorkers, nothing_given, number_up_to, once, read, seed_in, settings_asked, settings_of, split_at_equals, with_option};
+
+use crate::given::Given;
+use crate::setting::Settings;
+use hex::decode_to_slice;
+use pg_text::whole_number;
+
+const MOST_PORT: u64 = 65_535;
+
+const MOST_WORKERS: u64 = 63;
+
+const MOST_IDLE: u64 = 1_000_000_000;
+
+/// How many seconds a session lasts that isn't used, where the words don't say.
+const IDLE_SECONDS: u64 = 1_800;
+
+/// How the words ask to serve, where they are those of this command.
+pub fn settings_asked(words: &[String]) -> Option<Settings>
+    ensures value { result ≡ settings_asked (map string_bytes words.now) }
+    ensures workers { IfSome result (λ settings. (1 ≤ settings.workers) × (settings.workers ≤ 63)) }
+{
+    match words {
+        [word, options @ ..] if word.as_str() == "serve" => {
+            settings_of(&read(options, nothing_given())?)
+        }
+        _ => None,
+    }
+}
+
+// No option was read yet.
+fn nothing_given() -> Given
+    ensures value { result ≡ nothing_given }
+    ensures few { FewWorkers result }
+{
+    Given {
+        port: None,
+        editor_port: None,
+        workers: None,
+        seed: None,
+        idle: None,
+    }
+}
+
+// What the words say beside what was given before.
+fn read(words: &[String], given: Given) -> Option<Given>
+    requires few { FewWorkers given }
+    ensures value { result ≡ read (map string_bytes words.now) given }
+    ensures few { IfSome result FewWorkers }
+{
+    match words {
+        [] => Some(given),
+        [word, rest @ ..] => match split_at_equals(word.as_str().as_bytes()) {
+            Some((name, value)) => read(rest, with_option(name, value, given)?),
+            None => match rest {
+                [] => None,
+                [value, rest @ ..] => read(
+                    rest,
+                    with_option(word.as_str().as_bytes(), value.as_str().as_bytes(), given)?,
+                ),
+            },
+        },
+    }
+}
+
+// The name and the value that stand before and behind the first `=` of a word.
+fn split_at_equals(word: &[u8]) -> Option<(&[u8], &[u8])>
+    ensures { option_map (λ split. (split.0.now, split.1.now)) result ≡ split_at_equals word.now }
+{
+    let at = word.iter().position(|byte| *byte == b'=')?;
+    Some((&word[..at], &word[at + 1..]))
+}
+
+// The option of this name says this, too.
+fn with_option(name: &[u8], value: &[u8], mut given: Given) -> Option<Given>
+    requires few { FewWorkers given }
+    ensures value { result ≡ with_option name.now value.now given }
+    ensures few { IfSome result FewWorkers }
+{
+    if name == b"--port".as_slice() {
+        given.port = Some(once(given.port, port_in(value))?);
+    } else if name == b"--editor-port".as_slice() {
+        given.editor_port = Some(once(given.editor_port, port_in(value))?);
+    } else if name == b"--workers".as_slice() {
+        given.workers = Some(once(given.workers, workers_in(value))?);
+    } else if name == b"--seed".as_slice() {
+        given.seed = Some(once(given.seed, seed_in(value))?);
+    } else if name == b"--idle".as_slice() {
+        given.idle = Some(once(given.idle, number_up_to(MOST_IDLE, value))?);
+    } else {
+        return None;
+    }
+    Some(given)
+}
+
+// An option stands only once.
+fn once<T: Copy>(before: Option<T>, value: Option<T>) -> Option<T>
+    ensures { result ≡ once before value }
+{
+    match before {
+        Some(_) => None,
+        None => value,
+    }
+}
+
+fn port_in(text: &[u8]) -> Option<u16>
+    ensures { result ≡ number_up_to 65535 text.now }
+{
+    let number = number_up_to(MOST_PORT, text)?;
+    Some(number as u16)
+}
+
+fn workers_in(text: &[u8]) -> Option<u8>
+    ensures value { result ≡ number_up_to 63 text.now }
+    ensures few { IfSome result (λ number. (1 ≤ number) × (number ≤ 63)) }
+{
+    let number = number_up_to(MOST_WORKERS, text)?;
+    Some(number as u8)
+}
+
+// The number that a text writes, where it is from one to the most.
+fn number_up_to(most: u64, text: &[u8]) -> Option<u64>
+    ensures value { result ≡ number_up_to most text.now }
+    ensures few { IfSome result (λ number. (1 ≤ number) × (number ≤ most)) }
+{
+    let number = whole_number(text)?;
+    if number < 1 || number > most {
+        return None;
+    }
+    Some(number)
+}
+
+// The seed that a text writes.
+fn seed_in(text: &[u8]) -> Option<[u8; 32]>
+    ensures { result ≡ seed_in text.now }
+{
+    let mut seed = [0; 32];
+    match decode_to_slice(text, &mut seed) {
+        Ok(()) => Some(seed),
+        Err(_) => None,
+    }
+}
+
+// How options ask to serve: three have to stand there.
+fn settings_of(given: &Given) -> Option<Settings>
+    requires { FewWorkers given.now }
+    ensures value { result ≡ settings_of given.now }
+    ensures workers { IfSome result (λ settings. (1 ≤ settings.workers) × (settings.workers ≤ 63)) }
+{
+    Some(Settings {
+        port: given.port?,
+        editor_port: given.editor_port?,
+        workers: given.workers?,
+        seed: given.seed.unwrap_or([0; 32]),
+        idle: given.idle.unwrap_or(IDLE_SECONDS),
+    })
+}
