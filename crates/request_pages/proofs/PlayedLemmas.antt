@@ -9,9 +9,9 @@ use Rattle.page_machine.specs.Run.{StandsFor}
 use Rattle.page_made.specs.Made.{IsPageAt, IsProgramOf}
 use Rattle.page_answers.proofs.HeadLemmas.{no_head}
 use Rattle.page_answers.specs.Dropped.{HeadsSo}
-use Rattle.page_meaning.proofs.Growing.{uncommitted}
+use Rattle.page_meaning.proofs.Growing.{uncommitted, ordered_on}
 use Rattle.page_meaning.specs.Context.{Served}
-use Rattle.page_meaning.specs.Growth.{state_of}
+use Rattle.page_meaning.specs.Growth.{state_of, IsOrdered}
 use Rattle.page_meaning.specs.Laws.{ForwardsLeaveFewer, StepsAndPiecesGrow}
 use Rattle.page_meaning.specs.Page.{Page}
 use Rattle.page_meaning.specs.Respond.{at_start, first_run, run_answer}
@@ -67,6 +67,12 @@ after_type head false id fresh = naming_type head id fresh
 pub none_committed : (origin : Origin) (scopes : ScopeState) (held : Held) (taken : Option (List ℕ)) (faults : ℕ) (around : Around) (asking : Asking) (s : State) → held.committed ≡ false → StandsFor origin scopes held taken faults around asking s
     → s.writer.pieces ≡ []
 none_committed origin scopes held taken faults around asking s none stands = uncommitted s.writer.pieces (sym stands.writer.committed ∙ none)
+
+-- so that the order of its steps stands at a page's beginning too
+pub started_ordered : (origin : Origin) (scopes : ScopeState) (held : Held) (taken : Option (List ℕ)) (faults : ℕ) (around : Around) (asking : Asking) (s : State) (page : Page) → held.committed ≡ false
+    → StandsFor origin scopes held taken faults around asking s → IsOrdered (at_start page s)
+started_ordered origin scopes held taken faults around asking s page none stands =
+    ordered_on s (at_start page s) refl ([], sym (append-nil s.writer.pieces ∙ none_committed origin scopes held taken faults around asking s none stands)) stands.ordered
 
 -- memory was wanting before the run began
 pub played_short : {E : Type 0} → ForwardsLeaveFewer → StepsAndPiecesGrow → (served : Served) (status : Status) (page : Page) (params : List Param) (left : ℕ) (stands : State → Type 0) (s : State) (answers : List Answer) (depth : ℕ) (held : Held) (e : E)

@@ -75,7 +75,7 @@ look_goes serving place path s n st allowed charge e =
     ∙ ap (λ x. fetched_or_fault place path (paged_of x) s) e
 
 -- with these steps asked more
-asked_all : List Step → State → List Step × List ℕ
+abbrev asked_all : List Step → State → List Step × List ℕ
 asked_all steps s = (s.asked ++ steps, s.order ++ map (λ step. length s.writer.pieces) steps)
 
 asked_none : (s : State) → asked_all [] s ≡ trace_of s

@@ -1,8 +1,8 @@
 -- What the calls of the lent writer, variables and counts do of the state for which a stage stands.
-use Rattle.std.proofs.Common.{◌≡◌, ℕ, List, [], Option, Result, Ok, Err, refl, sym, ap, ◌∙◌, subst, append-nil}
+use Rattle.std.proofs.Common.{◌≡◌, ℕ, List, [], Option, Result, Ok, Err, refl, sym, ap, ◌∙◌, subst, append-nil, ◌∷◌}
 use Rattle.std.specs.Prelude.{⊤, OnErr, OnOk}
 use Rattle.out_buffer.specs.Held.{Comes, Held, Stands}
-use Rattle.out_buffer.specs.Writer.{Writer, body_answer, innermost, put, without_body}
+use Rattle.out_buffer.specs.Writer.{Writer, body_answer, innermost, put, without_body, flushed, piece_of}
 use Rattle.run_world.specs.Origin.{Origin}
 use Rattle.run_world.specs.Part.{given, WentSo, Doing, Changes}
 use Rattle.run_stage.specs.Stage.{Reached}
@@ -12,9 +12,8 @@ use Rattle.run_world.proofs.Parts.{adds_given}
 use Rattle.edges.proofs.Own.{front_same}
 use Rattle.edges.specs.History.{IsFront}
 use Rattle.page_meaning.proofs.Growing.{ordered_on}
-use Rattle.page_meaning.proofs.Words.{AddsPieces, put_adds}
 use Rattle.page_meaning.specs.Bodies.{put_text, taken as body_taken}
-use Rattle.page_meaning.specs.Growth.{state_of}
+use Rattle.page_meaning.specs.Growth.{state_of, Grows}
 use Rattle.page_meaning.specs.State.{State, in_scopes, in_writer}
 use Rattle.page_meaning.specs.Went.{Did, Well, then_do, result_of}
 use Rattle.pg_text.specs.Failure.{Answers}
@@ -26,6 +25,20 @@ use Rattle.scopes.specs.Scopes.{ScopeState}
 use Rattle.site_words.specs.Law.{Answer}
 use Rattle.site_words.specs.Running.{Asking}
 use Rattle.source_tree.specs.declared.file.File.{File}
+
+-- what is put or flushed only adds pieces
+
+no_place : Place
+no_place = record { file = []; byte = 0; line = 0; column = 0 }
+
+put_front : (bytes : List ℕ) (s : State) (w : Writer) → put bytes s.writer ≡ Ok w → IsFront s.writer.pieces w.pieces
+put_front bytes s w is =
+    let grows = subst (λ r. Grows s (state_of (then_do (result_of no_place r s) (λ v s1. let d : Did = Well tt (in_writer v s1) in d)))) is (put_text_adds no_place bytes s) in
+    grows.pieces
+
+pub flush_front : (kept : List (List ℕ)) (w : Writer) → IsFront w.pieces (flushed kept w).pieces
+flush_front [] w = (piece_of w.buffer, refl)
+flush_front (body ∷ outer) w = ([], sym (append-nil w.pieces))
 
 module _ {P K : Type 0} where
   -- with another writer and sink
@@ -108,7 +121,7 @@ module _ {P K : Type 0} {taken : K → Option (List ℕ)} {faults : K → ℕ} {
           got = [];
           replies = same ∙ sym (append-nil (replies w));
           after = in_writer h.0 s;
-          stood = stage_written first w origin s held sink h.0 r h.2 head shown (subst (AddsPieces s.writer.pieces) h.1 (put_adds text s.writer));
+          stood = stage_written first w origin s held sink h.0 r h.2 head shown (put_front text s h.0 h.1);
           went = λ place future. ap (λ x. then_do (result_of place x (given future s)) (λ v s1. let d : Did = Well tt (in_writer v s1) in d)) h.1;
         };
   }
