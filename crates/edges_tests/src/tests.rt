@@ -109,11 +109,11 @@ fn a_clock_in_memory_keeps_its_last_moment(rt: HostRuntime) -> Result<(), Fail> 
 fn a_clock_notes_what_another_answers(rt: HostRuntime) -> Result<(), Fail> {
     let moments = Vec::from_array(rt.alloc(), [5, 3])?;
     let mut clock = NotedClock::new(rt.alloc(), MemClock::new(moments));
-    assert_eq!(rt; clock.noted(), Some([].as_slice()));
+    assert!(rt; matches!(clock.noted(), Some([])));
     for wanted in [5, 3, 3] {
         assert_eq!(rt; clock.now(), wanted);
     }
-    assert_eq!(rt; clock.noted(), Some([5, 3, 3].as_slice()));
+    assert!(rt; matches!(clock.noted(), Some([5, 3, 3])));
     Ok(())
 }
 
