@@ -123,3 +123,16 @@ fn a_fault_is_answered_and_ends_the_conversation(rt: HostRuntime) -> Result<(), 
     );
     Ok(())
 }
+
+// One request more stands behind the last that is answered.
+#[test]
+fn the_last_request_closes_the_connection(rt: HostRuntime) -> Result<(), Fail> {
+    let input = "GET / HTTP/1.1\r\nHost: h\r\n\r\n".repeat(rt.alloc(), 65_537)?;
+    let (ended, text) = walked(rt.alloc(), input.as_bytes(), &[], &[])?;
+    assert_eq!(rt; ended, Ended::Done);
+    assert_eq!(rt;
+        text.as_slice(),
+        "</>".repeat(rt.alloc(), 65_536)?.as_bytes()
+    );
+    Ok(())
+}
