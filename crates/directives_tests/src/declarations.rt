@@ -1,7 +1,9 @@
 use crate::reading::{directives, show_faults, tree};
-use std::alloc::Global;
+use std::alloc::{AllocError, Global};
 use std::test::Fail;
-use tag_decl::{AttrKind, BodyKind, VarScope, declare, declared, declaring_faults, is_good};
+use tag_decl::{
+    AttrDecl, AttrKind, BodyKind, VarDecl, VarScope, declare, declared, declaring_faults, is_good,
+};
 
 // The faults of what a tag file declares, and behind a bar whether calls are checked.
 fn faults(alloc: Global, text: &str) -> Result<String, Fail> {
@@ -94,36 +96,75 @@ fn declaring_directives_have_faults(rt: HostRuntime) -> Result<(), Fail> {
     Ok(())
 }
 
+fn push_attribute(out: &mut String, attribute: &AttrDecl) -> Result<(), AllocError> {
+    write!(out, "; {}", attribute.name.as_str())?;
+    out.push_str(if attribute.required { " required" } else { "" })?;
+    out.push_str(if attribute.fragment { " fragment" } else { "" })?;
+    out.push_str(if attribute.expression {
+        " expression"
+    } else {
+        ""
+    })?;
+    out.push_str(match attribute.kind {
+        AttrKind::Text => " text",
+        AttrKind::Number => " number",
+        _ => " other",
+    })
+}
+
+fn push_variable(out: &mut String, variable: &VarDecl) -> Result<(), AllocError> {
+    write!(out, "; {}", variable.name.as_str())?;
+    out.push_str(match variable.scope {
+        VarScope::AtEnd => " at end",
+        VarScope::Nested => " nested",
+        VarScope::AtBegin => " at begin",
+    })?;
+    out.push_str(if variable.from.is_some() {
+        " named"
+    } else {
+        ""
+    })
+}
+
+// What the directives of a tag file declare: its body, its dynamic attributes, its attributes and its variables.
+fn declared_told(alloc: Global, text: &str) -> Result<String, Fail> {
+    let tree = tree(alloc, text, true)?;
+    let made = declare(alloc, &directives(alloc, &tree.nodes)?)?;
+    let mut out = String::new(alloc);
+    out.push_str(match made.body {
+        BodyKind::TagDependent => "tagdependent",
+        _ => "another body",
+    })?;
+    if let Some(name) = &made.dynamic {
+        write!(out, " {}", name.as_str())?;
+    }
+    for attribute in made.attributes.as_slice() {
+        push_attribute(&mut out, attribute)?;
+    }
+    for variable in made.variables.as_slice() {
+        push_variable(&mut out, variable)?;
+    }
+    Ok(out)
+}
+
+const DECLARING: &str = "<%@ tag body-content=\"tagdependent\" dynamic-attributes=\"more\" %>\
+     <%@ attribute name=\"a\" required=\"true\" rtexprvalue=\"false\" %><%@ attribute name=\"b\" type=\"java.lang.Long\" %>\
+     <%@ variable name-given=\"v\" scope=\"AT_END\" %><%@ variable name-from-attribute=\"a\" alias=\"w\" %>";
+
 #[test]
 fn a_tag_file_declares_what_it_takes(rt: HostRuntime) -> Result<(), Fail> {
-    let text = "<%@ tag body-content=\"tagdependent\" dynamic-attributes=\"more\" %>\
-         <%@ attribute name=\"a\" required=\"true\" rtexprvalue=\"false\" %><%@ attribute name=\"b\" type=\"java.lang.Long\" %>\
-         <%@ variable name-given=\"v\" scope=\"AT_END\" %><%@ variable name-from-attribute=\"a\" alias=\"w\" %>";
-    let tree = tree(rt.alloc(), text, true)?;
-    let declared_there = declare(rt.alloc(), &directives(rt.alloc(), &tree.nodes)?)?;
-    assert!(rt; declared_there.body == BodyKind::TagDependent);
-    assert!(rt;
-        declared_there
-            .dynamic
-            .is_some_and(|name| name.as_str() == "more")
-    );
-    assert!(rt; declared(&declared_there.attributes, "b").is_some_and(|b| !b.required));
-    let [a, b] = declared_there.attributes.as_slice() else {
-        return Err(Fail::new("two attributes are declared"));
-    };
+    let told = declared_told(rt.alloc(), DECLARING)?;
     assert_eq!(rt;
-        (a.name.as_str(), a.required, a.fragment, a.expression),
-        ("a", true, false, false)
+        told.as_str(),
+        "tagdependent more; a required text; b expression number; v at end; w nested named"
     );
-    assert!(rt; a.kind == AttrKind::Text && b.kind == AttrKind::Number);
-    assert_eq!(rt;
-        (b.name.as_str(), b.required, b.fragment, b.expression),
-        ("b", false, false, true)
-    );
-    let [v, w] = declared_there.variables.as_slice() else {
-        return Err(Fail::new("two variables are declared"));
-    };
-    assert_eq!(rt; (v.name.as_str(), w.name.as_str()), ("v", "w"));
-    assert!(rt; v.scope == VarScope::AtEnd && w.scope == VarScope::Nested && v.from.is_none());
+    Ok(())
+}
+
+#[test]
+fn an_attribute_is_found_by_its_name(rt: HostRuntime) -> Result<(), Fail> {
+    let tree = tree(rt.alloc(), DECLARING, true)?;
+    let made = declare(rt.alloc(), &directives(rt.alloc(), &tree.nodes)?)?;
+    assert!(rt; declared(&made.attributes, "b").is_some_and(|b| !b.required));
     Ok(())
 }

@@ -145,16 +145,18 @@ fn taglib_directives_register_prefixes(rt: HostRuntime) -> Result<(), Fail> {
             "a<c: if b<%@ taglib prefix=\"c\" uri=\"jakarta.tags.core\" %>",
             "@",
         ),
+        (
+            "<%@ taglib prefix=\"c\" uri=\"jakarta.tags.core\" %><%@ taglib prefix=\"c\" uri=\"http://java.sun.com/jsp/jstl/core\" %>",
+            "@@",
+        ),
+        (
+            "<%@ taglib prefix=\"c\" uri=\"jakarta.tags.core\" %><%@ taglib prefix=\"c\" tagdir=\"/WEB-INF/tags\" %>",
+            "@@Clash",
+        ),
     ] {
         let found = faults(rt.alloc(), Where::Page, text)?;
         assert_eq!(rt; found.as_str(), told);
     }
-    let again =
-        "<%@ taglib prefix=\"c\" uri=\"jakarta.tags.core\" %><%@ taglib prefix=\"c\" uri=\"http://java.sun.com/jsp/jstl/core\" %>";
-    assert_eq!(rt; faults(rt.alloc(), Where::Page, again)?.as_str(), "@@");
-    let other =
-        "<%@ taglib prefix=\"c\" uri=\"jakarta.tags.core\" %><%@ taglib prefix=\"c\" tagdir=\"/WEB-INF/tags\" %>";
-    assert_eq!(rt; faults(rt.alloc(), Where::Page, other)?.as_str(), "@@Clash");
     Ok(())
 }
 
@@ -181,6 +183,11 @@ fn directives_stand_in_files_of_their_kind(rt: HostRuntime) -> Result<(), Fail> 
         let found = faults(rt.alloc(), Where::TagFile, text)?;
         assert_eq!(rt; found.as_str(), told);
     }
+    Ok(())
+}
+
+#[test]
+fn directives_stand_in_parts_of_tag_files(rt: HostRuntime) -> Result<(), Fail> {
     for &(text, told) in &[
         ("<%@ tag %>", "@BadDirective"),
         ("<%@ attribute name=\"a\" %>", "@BadDirective"),

@@ -10,35 +10,46 @@ fn page_settings(alloc: Global, text: &str) -> Result<PageSettings, Fail> {
     Ok(settings(alloc, &directives(alloc, &tree.nodes)?, false)?)
 }
 
-#[test]
-fn a_page_has_settings_by_itself(rt: HostRuntime) -> Result<(), Fail> {
-    let found = page_settings(
-        rt.alloc(),
-        "<%@ taglib prefix=\"c\" uri=\"jakarta.tags.core\" %>",
-    )?;
-    assert!(rt; found.session && found.auto_flush && found.el);
-    assert!(rt; !found.hash_is_text && !found.trim && !found.not_found_is_fault);
-    assert_eq!(rt; found.buffer, Some(8192));
-    assert!(rt; found.error_page.is_none());
-    assert_eq!(rt; found.content_type.as_str(), "text/html;charset=UTF-8");
-    Ok(())
+// The settings of a page with this text: words for those that are on, then the buffer, the error page and the content type.
+fn settings_told(alloc: Global, text: &str) -> Result<String, Fail> {
+    let found = page_settings(alloc, text)?;
+    let mut out = String::new(alloc);
+    for &(is_on, word) in &[
+        (found.session, "session "),
+        (found.auto_flush, "autoflush "),
+        (found.el, "el "),
+        (found.hash_is_text, "hash "),
+        (found.trim, "trim "),
+        (found.not_found_is_fault, "fault "),
+    ] {
+        out.push_str(if is_on { word } else { "" })?;
+    }
+    let buffer = found.buffer.unwrap_or(0);
+    let page = match &found.error_page {
+        Some(page) => page.as_str(),
+        None => "none",
+    };
+    write!(out, "{buffer} {page} {}", found.content_type.as_str())?;
+    Ok(out)
 }
 
 #[test]
-fn the_first_good_value_decides(rt: HostRuntime) -> Result<(), Fail> {
-    let found = page_settings(
-        rt.alloc(),
-        "<%@ page session=\"no\" buffer=\"2kb\" %><%@ page session=\"false\" contentType=\"a/b ;charset=utf-8\" %>\
-         <%@ page isELIgnored=\"true\" errorPage=\"e.jsp\" contentType=\"a/b\" trimDirectiveWhitespaces=\"true\" %>",
-    )?;
-    assert!(rt; !found.session && found.auto_flush && !found.el && found.trim);
-    assert_eq!(rt; found.buffer, Some(2048));
-    assert_eq!(rt; found.content_type.as_str(), "a/b;charset=UTF-8");
-    assert!(rt;
-        found
-            .error_page
-            .is_some_and(|page| page.as_str() == "e.jsp")
-    );
+fn a_page_has_settings(rt: HostRuntime) -> Result<(), Fail> {
+    for &(text, wanted) in &[
+        // By itself.
+        (
+            "<%@ taglib prefix=\"c\" uri=\"jakarta.tags.core\" %>",
+            "session autoflush el 8192 none text/html;charset=UTF-8",
+        ),
+        // The first good value decides.
+        (
+            "<%@ page session=\"no\" buffer=\"2kb\" %><%@ page session=\"false\" contentType=\"a/b ;charset=utf-8\" %>\
+             <%@ page isELIgnored=\"true\" errorPage=\"e.jsp\" contentType=\"a/b\" trimDirectiveWhitespaces=\"true\" %>",
+            "autoflush trim 2048 e.jsp a/b;charset=UTF-8",
+        ),
+    ] {
+        assert_eq!(rt; settings_told(rt.alloc(), text)?.as_str(), wanted);
+    }
     Ok(())
 }
 

@@ -4,16 +4,14 @@
 #[cfg(test)]
 mod connection;
 #[cfg(test)]
-mod draft_cases;
-#[cfg(test)]
-mod limit_cases;
-#[cfg(test)]
 mod message;
 #[cfg(test)]
 mod opening;
 #[cfg(test)]
-mod publish_cases;
+mod talks;
 #[cfg(test)]
 mod telling_cases;
+#[cfg(test)]
+mod tests;
 #[cfg(test)]
 mod word;

@@ -25,23 +25,25 @@ fn dirty_paths_stand_on_lines_of_their_own(rt: HostRuntime) -> Result<(), Fail> 
 
 #[test]
 fn faults_are_told_with_their_numbers(rt: HostRuntime) -> Result<(), Fail> {
-    let full = Err(Failure::Fault(EditorFault::JournalFull {
-        weight: 80,
-        promised: 4_325_296,
-    }));
-    assert_eq!(rt;
-        status_line(rt.alloc(), &full)?.as_str(),
-        "503 Service Unavailable: JournalFull 80 4325296\n"
-    );
-    let files = Err(Failure::Fault(EditorFault::TreeTooLarge(TreeFault::TooManyFiles)));
-    assert_eq!(rt;
-        status_line(rt.alloc(), &files)?.as_str(),
-        "413 Content Too Large: TreeTooLarge TooManyFiles\n"
-    );
-    let bytes = Err(Failure::Fault(EditorFault::TreeTooLarge(TreeFault::TreeTooLarge)));
-    assert_eq!(rt;
-        status_line(rt.alloc(), &bytes)?.as_str(),
-        "413 Content Too Large: TreeTooLarge TreeTooLarge\n"
-    );
+    for &(fault, told) in &[
+        (
+            EditorFault::JournalFull {
+                weight: 80,
+                promised: 4_325_296,
+            },
+            "503 Service Unavailable: JournalFull 80 4325296\n",
+        ),
+        (
+            EditorFault::TreeTooLarge(TreeFault::TooManyFiles),
+            "413 Content Too Large: TreeTooLarge TooManyFiles\n",
+        ),
+        (
+            EditorFault::TreeTooLarge(TreeFault::TreeTooLarge),
+            "413 Content Too Large: TreeTooLarge TreeTooLarge\n",
+        ),
+    ] {
+        let answer = Err(Failure::Fault(fault));
+        assert_eq!(rt; status_line(rt.alloc(), &answer)?.as_str(), told);
+    }
     Ok(())
 }

@@ -1,4 +1,4 @@
-// Calls of tag files, and the bodies and fragments that they are given. Each row is a site in writing and what is told of it, or, where that ends in two dots, how that begins.
+// Calls of tag files, and the bodies and fragments that they are given.
 
 pub const ROWS: &str = r#"
 # tag files run with their attributes

@@ -1,4 +1,4 @@
-// Each fault at its place, and the faults that a catch takes. Each row is a site in writing and what is told of it, or, where that ends in two dots, how that begins.
+// Each fault at its place, and the faults that a catch takes.
 
 pub const ROWS: &str = r#"
 # each fault stands at its place

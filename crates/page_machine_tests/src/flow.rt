@@ -1,4 +1,4 @@
-// Each instruction that jumps, keeps, catches or goes round. Each row is a site in writing and what is told of it, or, where that ends in two dots, how that begins.
+// Each instruction that jumps, keeps, catches or goes round.
 
 pub const ROWS: &str = r#"
 # jumps pass over cells

@@ -1,4 +1,4 @@
-// Each limit: what is still allowed, and one more. Each row is a site in writing and what is told of it, or, where that ends in two dots, how that begins.
+// Each limit: what is still allowed, and one more.
 
 pub const ROWS: &str = r#"
 # a hundred levels are allowed

@@ -1,4 +1,4 @@
-// Includes, imports, forwards and redirects, and the session of a page. Each row is a site in writing and what is told of it, or, where that ends in two dots, how that begins.
+// Includes, imports, forwards and redirects, and the session of a page.
 
 pub const ROWS: &str = r#"
 # pages are included

@@ -1,4 +1,5 @@
-// Each site in writing is told as its row says, and what the telling leaves out.
+// Each site in writing is told as its row says, and what the telling leaves out. A row is a site and what is told of it, or, where that ends in
+// two dots, how that begins.
 use crate::sites::run_site;
 use crate::told::{told, told_run};
 use crate::{calls, faults, flow, limits, pages, values, variables};

@@ -1,4 +1,4 @@
-// Each operation on values. Each row is a site in writing and what is told of it, or, where that ends in two dots, how that begins.
+// Each operation on values.
 
 pub const ROWS: &str = r#"
 # texts are written

@@ -1,4 +1,4 @@
-// Each operation on variables, beans and properties. Each row is a site in writing and what is told of it, or, where that ends in two dots, how that begins.
+// Each operation on variables, beans and properties.
 
 pub const ROWS: &str = r#"
 # variables are set and removed

@@ -1,10 +1,10 @@
 use crate::wants::{Want, told};
 use std::test::Fail;
 
-#[test]
-fn users_of_a_shared_part(rt: HostRuntime) -> Result<(), Fail> {
-    let lines = told(
-        rt.alloc(),
+// What is wanted of dependencies one after the other, and a line for each answer.
+const ROWS: [(&[Want<'static>], &str); 3] = [
+    // Users of a shared part.
+    (
         &[
             Want::Add("/p2.jsp", &["/p2.jsp", "/i.jspf"]),
             Want::Add("/p1.jsp", &["/i.jspf", "/p1.jsp"]),
@@ -14,18 +14,10 @@ fn users_of_a_shared_part(rt: HostRuntime) -> Result<(), Fail> {
             Want::Users("/p1.jsp"),
             Want::Users("/q"),
         ],
-    )?;
-    assert_eq!(rt;
-        lines.as_str(),
-        "added\nadded\n/p1.jsp /p2.jsp \nremoved\n/p2.jsp \nnone\nnone\n"
-    );
-    Ok(())
-}
-
-#[test]
-fn a_changed_tag_file_makes_its_pages_dirty(rt: HostRuntime) -> Result<(), Fail> {
-    let lines = told(
-        rt.alloc(),
+        "added\nadded\n/p1.jsp /p2.jsp \nremoved\n/p2.jsp \nnone\nnone\n",
+    ),
+    // A changed tag file makes its pages dirty.
+    (
         &[
             Want::Add("/p2.jsp", &["/WEB-INF/tags/t.tag", "/p2.jsp"]),
             Want::Add("/p1.jsp", &["/WEB-INF/tags/t.tag", "/p1.jsp"]),
@@ -35,18 +27,10 @@ fn a_changed_tag_file_makes_its_pages_dirty(rt: HostRuntime) -> Result<(), Fail>
             Want::Add("/p1.jsp", &["/p1.jsp"]),
             Want::Dirty(&["/WEB-INF/tags/t.tag", "/p3.jsp"]),
         ],
-    )?;
-    assert_eq!(rt;
-        lines.as_str(),
-        "added\nadded\nadded\n/p1.jsp /p2.jsp \n\nadded\n/p2.jsp /p3.jsp \n"
-    );
-    Ok(())
-}
-
-#[test]
-fn a_path_that_needs_other_names_is_with_the_users_of_these(rt: HostRuntime) -> Result<(), Fail> {
-    let lines = told(
-        rt.alloc(),
+        "added\nadded\nadded\n/p1.jsp /p2.jsp \n\nadded\n/p2.jsp /p3.jsp \n",
+    ),
+    // A path that needs other names is with the users of these.
+    (
         &[
             Want::Add("/p.jsp", &["/a", "/b", "/c"]),
             Want::Add("/q.jsp", &["/b"]),
@@ -62,10 +46,14 @@ fn a_path_that_needs_other_names_is_with_the_users_of_these(rt: HostRuntime) -> 
             Want::Users("/b"),
             Want::Dirty(&["/b", "/d"]),
         ],
-    )?;
-    assert_eq!(rt;
-        lines.as_str(),
-        "added\nadded\nadded\nnone\n/p.jsp /q.jsp \nnone\n/p.jsp \n/p.jsp /q.jsp \nremoved\nremoved\nremoved\nnone\n\n"
-    );
+        "added\nadded\nadded\nnone\n/p.jsp /q.jsp \nnone\n/p.jsp \n/p.jsp /q.jsp \nremoved\nremoved\nremoved\nnone\n\n",
+    ),
+];
+
+#[test]
+fn dependencies_are_told(rt: HostRuntime) -> Result<(), Fail> {
+    for &(wants, wanted) in &ROWS {
+        assert_eq!(rt; told(rt.alloc(), wants)?.as_str(), wanted);
+    }
     Ok(())
 }

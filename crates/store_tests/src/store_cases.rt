@@ -1,16 +1,16 @@
 use crate::keeping::{Ask, asked};
 use crate::versions::of_changes;
+use pg_text::{BadPath, Failure};
+use std::alloc::Global;
 use std::test::Fail;
 
 const TAG: &str = "/WEB-INF/tags/t.tag";
 
-#[test]
-fn a_publishing_drops_the_pages_that_need_what_it_changes(rt: HostRuntime) -> Result<(), Fail> {
-    let alloc = rt.alloc();
-    let trees = of_changes(alloc, &[&[TAG, "/p1.jsp", "/p2.jsp", "/p3.jsp"], &[TAG]])?;
-    let lines = asked(
-        alloc,
-        &trees,
+// What each version of a tree changes, what is asked of a store one after the other, and a line for each answer.
+const ROWS: [(&[&[&str]], &[Ask<'static>], &str); 3] = [
+    // A publishing drops the pages that need what it changes.
+    (
+        &[&[TAG, "/p1.jsp", "/p2.jsp", "/p3.jsp"], &[TAG]],
         &[
             Ask::Keep("/p2.jsp", 0, &[(TAG, Some(1)), ("/p2.jsp", Some(1))]),
             Ask::Keep("/p1.jsp", 0, &[(TAG, Some(1)), ("/p1.jsp", Some(1))]),
@@ -24,21 +24,11 @@ fn a_publishing_drops_the_pages_that_need_what_it_changes(rt: HostRuntime) -> Re
             Ask::Keep("/p1.jsp", 1, &[(TAG, Some(2)), ("/p1.jsp", Some(1))]),
             Ask::Hit("/p1.jsp", 1),
         ],
-    )?;
-    assert_eq!(rt;
-        lines.as_str(),
-        "kept true\nkept true\nkept true\n/p1.jsp /p2.jsp \nhit true\n/p1.jsp /p2.jsp \nhit true\nhit false\nhit false\nkept true\nhit true\n"
-    );
-    Ok(())
-}
-
-#[test]
-fn a_value_is_found_where_its_needs_stand_so(rt: HostRuntime) -> Result<(), Fail> {
-    let alloc = rt.alloc();
-    let trees = of_changes(alloc, &[&["/i.jspf", "/p.jsp"], &["/q.jsp"], &["/i.jspf"]])?;
-    let lines = asked(
-        alloc,
-        &trees,
+        "kept true\nkept true\nkept true\n/p1.jsp /p2.jsp \nhit true\n/p1.jsp /p2.jsp \nhit true\nhit false\nhit false\nkept true\nhit true\n",
+    ),
+    // A value is found where its needs stand so.
+    (
+        &[&["/i.jspf", "/p.jsp"], &["/q.jsp"], &["/i.jspf"]],
         &[
             Ask::Keep("/p.jsp", 1, &[("/i.jspf", Some(1)), ("/none", None)]),
             Ask::Hit("/p.jsp", 0),
@@ -50,21 +40,11 @@ fn a_value_is_found_where_its_needs_stand_so(rt: HostRuntime) -> Result<(), Fail
             Ask::Drop(&["/none", "/q.jsp"]),
             Ask::Hit("/p.jsp", 0),
         ],
-    )?;
-    assert_eq!(rt;
-        lines.as_str(),
-        "kept true\nhit true\nhit false\nhit false\nkept false\nkept false\nhit false\n/p.jsp \nhit false\n"
-    );
-    Ok(())
-}
-
-#[test]
-fn a_value_that_is_replaced_needs_what_the_new_one_needs(rt: HostRuntime) -> Result<(), Fail> {
-    let alloc = rt.alloc();
-    let trees = of_changes(alloc, &[&[TAG, "/i.jspf", "/p.jsp", "/q.jsp"]])?;
-    let lines = asked(
-        alloc,
-        &trees,
+        "kept true\nhit true\nhit false\nhit false\nkept false\nkept false\nhit false\n/p.jsp \nhit false\n",
+    ),
+    // A value that is replaced needs what the new one needs.
+    (
+        &[&[TAG, "/i.jspf", "/p.jsp", "/q.jsp"]],
         &[
             Ask::Keep("/p.jsp", 0, &[(TAG, Some(1)), ("/p.jsp", Some(1))]),
             Ask::Keep(
@@ -82,10 +62,19 @@ fn a_value_that_is_replaced_needs_what_the_new_one_needs(rt: HostRuntime) -> Res
             Ask::Drop(&["/i.jspf"]),
             Ask::Hit("/p.jsp", 0),
         ],
-    )?;
-    assert_eq!(rt;
-        lines.as_str(),
-        "kept true\nkept true\nkept true\n/q.jsp \n/p.jsp /q.jsp \n/q.jsp \n/p.jsp \nhit true\n\n/p.jsp \nhit false\n"
-    );
+        "kept true\nkept true\nkept true\n/q.jsp \n/p.jsp /q.jsp \n/q.jsp \n/p.jsp \nhit true\n\n/p.jsp \nhit false\n",
+    ),
+];
+
+fn told(alloc: Global, changes: &[&[&str]], asks: &[Ask]) -> Result<String, Failure<BadPath>> {
+    let trees = of_changes(alloc, changes)?;
+    asked(alloc, &trees, asks)
+}
+
+#[test]
+fn what_is_kept_is_told(rt: HostRuntime) -> Result<(), Fail> {
+    for &(changes, asks, wanted) in &ROWS {
+        assert_eq!(rt; told(rt.alloc(), changes, asks)?.as_str(), wanted);
+    }
     Ok(())
 }
