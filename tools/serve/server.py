@@ -1,0 +1,123 @@
+"""A program `pages serve` on two free ports of this machine, which is killed in any case, and what a try tells of it."""
+
+import ctypes
+import os
+import resource
+import signal
+import socket
+import subprocess
+import time
+
+HOST = "127.0.0.1"
+DIES_WITH_ITS_PARENT = 1
+
+
+def free_ports(count):
+    """Ports that nobody has now."""
+    taken = [socket.create_server((HOST, 0)) for _ in range(count)]
+    ports = [it.getsockname()[1] for it in taken]
+    for it in taken:
+        it.close()
+    return ports
+
+
+class Server:
+    """The program while it serves: `with Server(program, workers=16) as server`."""
+
+    def __init__(self, program, workers=16, ports=None, files=None):
+        self.program = program
+        self.workers = workers
+        self.port, self.editor_port = ports or free_ports(2)
+        self.files = files
+
+    def __enter__(self):
+        self.start()
+        return self
+
+    def __exit__(self, *_):
+        self.kill()
+
+    def words(self):
+        return [
+            "serve",
+            f"--port={self.port}",
+            "--editor-port",
+            str(self.editor_port),
+            f"--workers={self.workers}",
+        ]
+
+    def start(self):
+        """Starts it, and waits for its line."""
+
+        def before():
+            ctypes.CDLL(None).prctl(DIES_WITH_ITS_PARENT, signal.SIGKILL)
+            if self.files:
+                resource.setrlimit(resource.RLIMIT_NOFILE, (self.files, self.files))
+
+        begun = time.perf_counter()
+        self.process = subprocess.Popen(
+            [self.program, *self.words()],
+            stdin=subprocess.DEVNULL,
+            stdout=subprocess.DEVNULL,
+            stderr=subprocess.PIPE,
+            preexec_fn=before,
+        )
+        self.line = self.process.stderr.readline().decode()
+        self.seconds_to_start = time.perf_counter() - begun
+        if not self.line.startswith("pages: readers at "):
+            self.kill()
+            raise RuntimeError(f"it doesn't serve: {self.line}")
+
+    def kill(self):
+        """Ends it at once."""
+        self.process.kill()
+        self.process.wait()
+        self.process.stderr.close()
+
+    def send_signal(self, number):
+        self.process.send_signal(number)
+
+    def is_running(self):
+        return self.process.poll() is None
+
+    def descriptors(self):
+        """How many files it has open."""
+        return len(os.listdir(f"/proc/{self.process.pid}/fd"))
+
+    def memory(self):
+        """How many KiB of memory it has."""
+        with open(f"/proc/{self.process.pid}/status") as status:
+            for line in status:
+                if line.startswith("VmRSS:"):
+                    return int(line.split()[1])
+        return 0
+
+    def processor_seconds(self):
+        """How long it has run, in user and in system mode."""
+        with open(f"/proc/{self.process.pid}/stat") as stat:
+            fields = stat.read().rsplit(")", 1)[1].split()
+        tick = os.sysconf("SC_CLK_TCK")
+        return int(fields[11]) / tick, int(fields[12]) / tick
+
+
+class Tally:
+    """What held and what didn't, a line each."""
+
+    def __init__(self):
+        self.held = 0
+        self.failed = 0
+
+    def check(self, name, holds, seen=""):
+        if holds:
+            self.held += 1
+            print(f"  ok  {name}", flush=True)
+        else:
+            self.failed += 1
+            print(f"  NO  {name}: {seen!r}"[:600], flush=True)
+        return holds
+
+    def same(self, name, seen, wanted):
+        return self.check(name, seen == wanted, seen)
+
+    def note(self, text):
+        print(f"      {text}", flush=True)
