@@ -68,23 +68,23 @@ module _ (all : List ℕ) (behind : ℕ) (more : List ℕ) where
     done_so : (old new : Standing) (text : List ℕ) (broken : Bool) (further earlier : List ℕ) (moment : ℕ)
         → IsAnswered needs x pass request close old text broken new moment ⊎ IsRefused needs x pass request close old text broken new moment
         → IsAnswered needs x pass request close (at_again old earlier) text broken (at_again new further) moment ⊎ IsRefused needs x pass request close (at_again old earlier) text broken (at_again new further) moment
-    done_so old new text broken further earlier moment (inl is) = inl (
-      record {
-        begun = is.begun;
-        begins = is.begins;
-        turns = is.turns;
-        whole = is.whole;
-        response = is.response;
-        end = is.end;
-        means = is.means;
-        asked = is.asked;
-        used = is.used;
-        did = is.did;
-        read = is.read;
-        text_is = is.text_is;
-        broken_is = is.broken_is;
-      },
-    )
+    done_so old new text broken further earlier moment (inl is) =
+        let again : IsAnswered needs x pass request close (at_again old earlier) text broken (at_again new further) moment = record {
+          begun = is.begun;
+          begins = is.begins;
+          turns = is.turns;
+          whole = is.whole;
+          response = is.response;
+          end = is.end;
+          means = is.means;
+          asked = is.asked;
+          used = is.used;
+          did = is.did;
+          read = is.read;
+          text_is = is.text_is;
+          broken_is = is.broken_is;
+        } in
+        inl again
     done_so old new text broken further earlier moment (inr is) =
         inr (record { stays = is.stays; weight = is.weight; promised = is.promised; refused = is.refused; read = is.read; text_is = is.text_is; broken_is = is.broken_is })
 
@@ -103,23 +103,23 @@ module _ (all : List ℕ) (behind : ℕ) (more : List ℕ) where
     dropped_so : (old new : Standing) (text : List ℕ) (further earlier : List ℕ) (moment : ℕ) → IsUnbegun needs x pass old text new ⊎ IsDropped needs x pass request close old text new moment
         → IsUnbegun needs x pass (at_again old earlier) text (at_again new further) ⊎ IsDropped needs x pass request close (at_again old earlier) text (at_again new further) moment
     dropped_so old new text further earlier moment (inl is) = inl (record { stays = is.stays; read = is.read; text_is = is.text_is })
-    dropped_so old new text further earlier moment (inr is) = inr (
-      record {
-        begun = is.begun;
-        begins = is.begins;
-        turns = is.turns;
-        whole = is.whole;
-        reached = is.reached;
-        asked = is.asked;
-        ordered = is.ordered;
-        means = is.means;
-        did = is.did;
-        read = is.read;
-        head = is.head;
-        heads = is.heads;
-        text_is = is.text_is;
-      },
-    )
+    dropped_so old new text further earlier moment (inr is) =
+        let again : IsDropped needs x pass request close (at_again old earlier) text (at_again new further) moment = record {
+          begun = is.begun;
+          begins = is.begins;
+          turns = is.turns;
+          whole = is.whole;
+          reached = is.reached;
+          asked = is.asked;
+          ordered = is.ordered;
+          means = is.means;
+          did = is.did;
+          read = is.read;
+          head = is.head;
+          heads = is.heads;
+          text_is = is.text_is;
+        } in
+        inr again
 
     drops_by : (takes : Bool) (old new : Standing) (text : List ℕ) (further : List ℕ) → HasFurther new.moments further
         → MatchBool takes (AtMoment old new (λ moment. IsUnbegun needs x pass old text new ⊎ IsDropped needs x pass request close old text new moment)) ((new ≡ old) × (text ≡ []))

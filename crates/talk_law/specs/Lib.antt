@@ -1,0 +1,2 @@
+pub mod OneTalk
+pub mod RightTalk
