@@ -37,7 +37,7 @@ fn count(ran: &Ran, what: Count) -> u64 {
         Count::Bytes => ran.bytes,
         Count::Asked => ran.asked.len() as u64,
         Count::Rest => ran.writer.rest().len() as u64,
-        Count::Committed => ran.writer.committed() as u64,
+        Count::Committed => { if ran.writer.committed() { 1 } else { 0 } }
     }
 }
 
