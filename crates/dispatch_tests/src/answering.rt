@@ -10,6 +10,7 @@ use page_made::Made;
 use site_core::{SoloPort, into_site};
 use site_words::Op;
 use std::alloc::{AllocError, Global};
+use std::marker::Brand;
 use std::sync::ledger::{Blank, Ledger};
 use std::test::Fail;
 
@@ -96,9 +97,9 @@ pub struct Came {
     pub history: String,
 }
 
-/// What comes of requests, by their methods and paths, on a site of these files whose journal weighs at most `limit`. Each is answered over
-/// a sink that fails at these calls.
-pub fn come_of<N: Ledger>(
+// What comes of requests, by their methods and paths, on a site of these files whose journal weighs at most `limit`. Each is answered over
+// a sink that fails at these calls.
+fn come_of<N: Ledger>(
     alloc: Global,
     blank: Blank,
     files: &[(&str, &str)],
@@ -121,6 +122,17 @@ pub fn come_of<N: Ledger>(
         next,
         history: site.history(alloc)?,
     })
+}
+
+/// The same under the only name of a ledger.
+pub fn come(
+    alloc: Global,
+    files: &[(&str, &str)],
+    limit: u64,
+    asked: &[(&str, &str)],
+    fails: &[u64],
+) -> Result<Came, Fail> {
+    come_of::<Brand>(alloc, Blank::new(1), files, limit, asked, fails)
 }
 
 fn letter(op: &Op) -> char {

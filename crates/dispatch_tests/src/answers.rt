@@ -1,8 +1,7 @@
-use crate::answering::come_of;
+use crate::answering::{Came, come};
 use crate::opening::AMPLE;
 use conversation::Outcome;
-use std::marker::Brand;
-use std::sync::ledger::Blank;
+use std::alloc::{AllocError, Global};
 use std::test::Fail;
 
 // Pages in files, by what comes of them.
@@ -99,16 +98,47 @@ const ANSWERS: [(Outcome, u64, &str); 10] = [
 // What these requests add to the history.
 const HISTORY: &str = "BFOFOEBFFEBFOEBFOAEBFAEBFOEBFOEBFEBE";
 
+// A line of its outcome, what is read for its pages and its answer for each request, and behind them what all did.
+fn told(alloc: Global, all: &Came) -> Result<String, AllocError> {
+    let mut lines = String::new(alloc);
+    for told in &all.told {
+        let text = str::from_utf8(&told.text).unwrap_or("no text");
+        add_line(&mut lines, told.outcome, told.read, text)?;
+    }
+    lines.push_str(all.history.as_str())?;
+    Ok(lines)
+}
+
+fn add_line(
+    lines: &mut String,
+    outcome: Outcome,
+    read: u64,
+    answer: &str,
+) -> Result<(), AllocError> {
+    write!(lines, "{outcome:?} {read} {answer}\n")
+}
+
+// The same as it is wanted.
+fn wanted(
+    alloc: Global,
+    answers: &[(Outcome, u64, &str)],
+    history: &str,
+) -> Result<String, AllocError> {
+    let mut lines = String::new(alloc);
+    for &(outcome, read, answer) in answers {
+        add_line(&mut lines, outcome, read, answer)?;
+    }
+    lines.push_str(history)?;
+    Ok(lines)
+}
+
 #[test]
 fn requests_are_answered(rt: HostRuntime) -> Result<(), Fail> {
-    let all = come_of::<Brand>(rt.alloc(), Blank::new(1), &FILES, AMPLE, &ASKED, &[])?;
-    assert_eq!(rt; all.told.len(), ANSWERS.len());
-    for (told, (outcome, read, answer)) in all.told.iter().zip(ANSWERS) {
-        assert_eq!(rt; told.outcome, outcome);
-        assert_eq!(rt; told.text.as_slice(), answer.as_bytes());
-        assert_eq!(rt; told.read, read);
-    }
-    assert_eq!(rt; all.history.as_str(), HISTORY);
+    let all = come(rt.alloc(), &FILES, AMPLE, &ASKED, &[])?;
+    assert_eq!(rt;
+        told(rt.alloc(), &all)?.as_str(),
+        wanted(rt.alloc(), &ANSWERS, HISTORY)?.as_str()
+    );
     Ok(())
 }
 
@@ -118,46 +148,68 @@ fn the_clock_is_asked_where_a_request_begins(rt: HostRuntime) -> Result<(), Fail
         ([("PATCH", "/t.txt")].as_slice(), 0),
         ([("GET", "/t.txt"), ("GET", "/none")].as_slice(), 2),
     ] {
-        let all = come_of::<Brand>(rt.alloc(), Blank::new(1), &FILES, AMPLE, asked, &[])?;
+        let all = come(rt.alloc(), &FILES, AMPLE, asked, &[])?;
         assert_eq!(rt; all.next, next);
     }
     Ok(())
 }
 
-// The answers to requests of a site whose journal has room for one.
-const FULL: [&str; 4] = [
-    "HTTP/1.1 404 Not Found\r\nContent-Type: text/plain;charset=UTF-8\r\nContent-Length: 9\r\n\r\nNotFound\n",
-    "HTTP/1.1 503 Service Unavailable\r\nContent-Type: text/plain;charset=UTF-8\r\nContent-Length: 18\r\n\r\nJournalFull 160 0\n",
-    "HTTP/1.1 503 Service Unavailable\r\nContent-Type: text/plain;charset=UTF-8\r\nContent-Length: 18\r\n\r\n",
-    "HTTP/1.1 405 Method Not Allowed\r\nContent-Type: text/plain;charset=UTF-8\r\nAllow: GET, HEAD, POST\r\nContent-Length: 17\r\n\r\nMethodNotAllowed\n",
+// Requests of a site whose journal has room for one, and the answers.
+const TO_FULL: [(&str, &str); 4] = [
+    ("GET", "/none"),
+    ("GET", "/none"),
+    ("HEAD", "/none"),
+    ("PUT", "/none"),
+];
+
+const FULL: [(Outcome, u64, &str); 4] = [
+    (
+        Outcome::Whole,
+        0,
+        "HTTP/1.1 404 Not Found\r\nContent-Type: text/plain;charset=UTF-8\r\nContent-Length: 9\r\n\r\nNotFound\n",
+    ),
+    (
+        Outcome::Whole,
+        0,
+        "HTTP/1.1 503 Service Unavailable\r\nContent-Type: text/plain;charset=UTF-8\r\nContent-Length: 18\r\n\r\nJournalFull 160 0\n",
+    ),
+    (
+        Outcome::Whole,
+        0,
+        "HTTP/1.1 503 Service Unavailable\r\nContent-Type: text/plain;charset=UTF-8\r\nContent-Length: 18\r\n\r\n",
+    ),
+    (
+        Outcome::Whole,
+        0,
+        "HTTP/1.1 405 Method Not Allowed\r\nContent-Type: text/plain;charset=UTF-8\r\nAllow: GET, HEAD, POST\r\nContent-Length: 17\r\n\r\nMethodNotAllowed\n",
+    ),
 ];
 
 #[test]
 fn a_full_journal_is_told(rt: HostRuntime) -> Result<(), Fail> {
-    let asked = [
-        ("GET", "/none"),
-        ("GET", "/none"),
-        ("HEAD", "/none"),
-        ("PUT", "/none"),
-    ];
-    let all = come_of::<Brand>(rt.alloc(), Blank::new(1), &[], 4_325_376, &asked, &[])?;
-    assert_eq!(rt; all.told.len(), FULL.len());
-    for (told, answer) in all.told.iter().zip(FULL) {
-        assert_eq!(rt; told.outcome, Outcome::Whole);
-        assert_eq!(rt; told.text.as_slice(), answer.as_bytes());
-    }
-    assert_eq!(rt; all.history.as_str(), "BE");
+    let all = come(rt.alloc(), &[], 4_325_376, &TO_FULL, &[])?;
+    assert_eq!(rt;
+        told(rt.alloc(), &all)?.as_str(),
+        wanted(rt.alloc(), &FULL, "BE")?.as_str()
+    );
     Ok(())
 }
 
+// Requests whose answers are not taken.
+const NOT_TAKEN: [(&str, &str); 3] = [("GET", "/b.jsp"), ("GET", "/h.jsp"), ("GET", "/none")];
+
+const NOT_ANSWERED: [(Outcome, u64, &str); 3] = [
+    (Outcome::WriteFault, 73, ""),
+    (Outcome::WriteFault, 33, ""),
+    (Outcome::WriteFault, 0, ""),
+];
+
 #[test]
 fn a_request_ends_whose_answer_is_not_taken(rt: HostRuntime) -> Result<(), Fail> {
-    let asked = [("GET", "/b.jsp"), ("GET", "/h.jsp"), ("GET", "/none")];
-    let all = come_of::<Brand>(rt.alloc(), Blank::new(1), &FILES, AMPLE, &asked, &[0])?;
-    for told in &all.told {
-        assert_eq!(rt; told.outcome, Outcome::WriteFault);
-        assert_eq!(rt; told.text.len(), 0);
-    }
-    assert_eq!(rt; all.history.as_str(), "BFOEBFOAEBE");
+    let all = come(rt.alloc(), &FILES, AMPLE, &NOT_TAKEN, &[0])?;
+    assert_eq!(rt;
+        told(rt.alloc(), &all)?.as_str(),
+        wanted(rt.alloc(), &NOT_ANSWERED, "BFOEBFOAEBE")?.as_str()
+    );
     Ok(())
 }

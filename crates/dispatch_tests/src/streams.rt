@@ -50,16 +50,7 @@ fn streamed<N: Ledger>(
     ))
 }
 
-// The bytes of a chunked response's head, and these behind it.
-fn behind_head(alloc: Global, texts: &[&str]) -> Result<Vec<u8>, Fail> {
-    let mut bytes = Vec::new(alloc);
-    bytes.extend_from_slice(HEAD.as_bytes())?;
-    for text in texts {
-        bytes.extend_from_slice(text.as_bytes())?;
-    }
-    Ok(bytes)
-}
-
+// The head of a chunked response.
 const HEAD: &str =
     "HTTP/1.1 200 OK\r\nContent-Type: text/html;charset=UTF-8\r\nTransfer-Encoding: chunked\r\n\r\n";
 
@@ -85,38 +76,34 @@ const PAGES: [(&str, &str, &str, &str); 3] = [
     ),
 ];
 
+// What the sink had taken when a page first asked a step, a bar, and what it took in all.
+fn told(alloc: Global, method: &str, files: &[(&str, &str)]) -> Result<String, Fail> {
+    let asked = request(alloc, method, "/a.jsp")?;
+    let (first, all) = streamed::<Brand>(alloc, Blank::new(1), files, &asked)?;
+    let first = str::from_utf8(&first).unwrap_or("no text");
+    let all = str::from_utf8(&all).unwrap_or("no text");
+    Ok(format!(in alloc; "{first}|{all}")?)
+}
+
 #[test]
 fn what_is_committed_goes_out_at_once(rt: HostRuntime) -> Result<(), Fail> {
     for &(method, page, before, behind) in &PAGES {
         let files = [("/a.jsp", page), ("/t.txt", "t")];
-        let asked = request(rt.alloc(), method, "/a.jsp")?;
-        let (first, all) = streamed::<Brand>(rt.alloc(), Blank::new(1), &files, &asked)?;
-        assert_eq!(rt;
-            first.as_slice(),
-            behind_head(rt.alloc(), &[before])?.as_slice()
-        );
-        assert_eq!(rt;
-            all.as_slice(),
-            behind_head(rt.alloc(), &[before, behind])?.as_slice()
-        );
+        let wanted = format!(in rt.alloc(); "{HEAD}{before}|{HEAD}{before}{behind}")?;
+        assert_eq!(rt; told(rt.alloc(), method, &files)?.as_str(), wanted.as_str());
     }
     Ok(())
 }
 
 #[test]
 fn a_full_buffer_goes_out_at_once(rt: HostRuntime) -> Result<(), Fail> {
-    let mut page = String::from_str(rt.alloc(), "<%@ page session=\"false\" buffer=\"1kb\" %>")?;
-    page.push_str("a".repeat(rt.alloc(), 1_025)?.as_str())?;
-    page.push_str("${q}")?;
     let letters = "a".repeat(rt.alloc(), 1_024)?;
-    let chunk = ["400\r\n", letters.as_str(), "\r\n"];
-    let files = [("/a.jsp", page.as_str())];
-    let asked = request(rt.alloc(), "GET", "/a.jsp")?;
-    let (first, all) = streamed::<Brand>(rt.alloc(), Blank::new(1), &files, &asked)?;
-    assert_eq!(rt;
-        first.as_slice(),
-        behind_head(rt.alloc(), &chunk)?.as_slice()
-    );
-    assert!(rt; all.as_slice().ends_with(b"\r\n1\r\na\r\n0\r\n\r\n"));
+    let page = format!(in rt.alloc();
+        "<%@ page session=\"false\" buffer=\"1kb\" %>{letters}a${{q}}"
+    )?;
+    let chunk = format!(in rt.alloc(); "{HEAD}400\r\n{letters}\r\n")?;
+    let wanted = format!(in rt.alloc(); "{chunk}|{chunk}1\r\na\r\n0\r\n\r\n")?;
+    let told = told(rt.alloc(), "GET", &[("/a.jsp", page.as_str())])?;
+    assert_eq!(rt; told.as_str(), wanted.as_str());
     Ok(())
 }

@@ -118,41 +118,54 @@ fn a_function_has_as_many_arguments_as_it_takes(rt: HostRuntime) -> Result<(), F
 
 #[test]
 fn a_sum_of_20_000_terms_is_translated(rt: HostRuntime) -> Result<(), Fail> {
-    let mut sum = String::from_str(rt.alloc(), "1")?;
-    for _ in 1..20_000 {
-        sum.push_str("+1")?;
-    }
+    let sum = "1+".repeat(rt.alloc(), 19_999)?;
+    let sum = format!(in rt.alloc(); "{sum}1")?;
     let code = code_of(rt.alloc(), sum.as_str())?;
     assert_eq!(rt; code.len(), 79_998);
     Ok(())
 }
 
-fn part(alloc: Global, text: &str) -> Result<UnitPart, Fail> {
-    Ok(UnitPart::Expr(read_el(alloc, text)?))
+// The cells of the value of parts: a text where there is one, and an expression where there is one.
+fn value_of(alloc: Global, text: Option<&str>, el: Option<&str>) -> Result<Code, Fail> {
+    let mut list = Vec::new(alloc);
+    if let Some(text) = text {
+        list.push(UnitPart::Text(Text::copy_of(alloc, text)?))?;
+    }
+    if let Some(el) = el {
+        list.push(UnitPart::Expr(read_el(alloc, el)?))?;
+    }
+    Ok(parts(alloc, &Shape::empty(alloc)?, &place(alloc)?, &list)?)
 }
 
 #[test]
 fn parts_of_a_value_are_joined(rt: HostRuntime) -> Result<(), Fail> {
-    let alloc = rt.alloc();
+    for &(text, el, code) in &[
+        (Some("t"), None, "0 't'; 1 Concat 1"),
+        (
+            Some("t"),
+            Some("a"),
+            "0 't'; 1 Visit 1; 1 Find a; 2 ToText; 2 Concat 2",
+        ),
+    ] {
+        let cells = value_of(rt.alloc(), text, el)?;
+        assert_eq!(rt; show(rt.alloc(), &cells)?.as_str(), code);
+    }
+    Ok(())
+}
+
+// The cells of the value of an expression, coerced to a truth.
+fn truth_of(alloc: Global, el: &str) -> Result<Code, Fail> {
+    let value = value_of(alloc, None, Some(el))?;
     let ground = Shape::empty(alloc)?;
-    let at = place(alloc)?;
-    let text = UnitPart::Text(Text::copy_of(alloc, "t")?);
-    let mut list = Vec::new(alloc);
-    list.push(text)?;
-    let one = parts(alloc, &ground, &at, &list)?;
-    assert_eq!(rt; show(alloc, &one)?.as_str(), "0 't'; 1 Concat 1");
-    list.push(part(alloc, "a")?)?;
-    let two = parts(alloc, &ground, &at, &list)?;
+    let to = Evaluation::To(Coercion::Truth);
+    Ok(coerced(alloc, &ground, &place(alloc)?, to, value)?)
+}
+
+#[test]
+fn a_part_that_stands_alone_is_coerced(rt: HostRuntime) -> Result<(), Fail> {
+    let cells = truth_of(rt.alloc(), "a")?;
     assert_eq!(rt;
-        show(alloc, &two)?.as_str(),
-        "0 't'; 1 Visit 1; 1 Find a; 2 ToText; 2 Concat 2"
-    );
-    let mut alone = Vec::new(alloc);
-    alone.push(part(alloc, "a")?)?;
-    let value = parts(alloc, &ground, &at, &alone)?;
-    let value = coerced(alloc, &ground, &at, Evaluation::To(Coercion::Truth), value)?;
-    assert_eq!(rt;
-        show(alloc, &value)?.as_str(),
+        show(rt.alloc(), &cells)?.as_str(),
         "0 Visit 1; 0 Find a; 1 ToTruth"
     );
     Ok(())

@@ -3,75 +3,120 @@ use http_out::{
     Head, Status, write_chunk, write_end, write_head, write_no_memory, write_plain, write_whole,
 };
 use pg_text::Text;
+use std::alloc::{AllocError, Global};
 use std::test::Fail;
 
-#[test]
-fn fields_stand_in_their_order(rt: HostRuntime) -> Result<(), Fail> {
+// What a sink took, and behind it whether it failed.
+fn taken(alloc: Global, sink: &MemSink, failed: bool) -> Result<String, AllocError> {
+    let text = str::from_utf8(sink.taken()).unwrap_or("no text");
+    let end = if failed { " failed" } else { "" };
+    format!(in alloc; "{text}{end}")
+}
+
+// A redirect without a body.
+fn redirect(alloc: Global) -> Result<String, AllocError> {
     let head = Head {
         status: Status::Found,
         content_type: None,
-        set_cookie: Some(Text::copy_of(rt.alloc(), "00ff")?),
-        location: Some(Text::copy_of(rt.alloc(), "/b.jsp")?),
+        set_cookie: Some(Text::copy_of(alloc, "00ff")?),
+        location: Some(Text::copy_of(alloc, "/b.jsp")?),
         allow: false,
         close: true,
     };
-    let mut sink = MemSink::new(rt.alloc(), Vec::new(rt.alloc()));
+    let mut sink = MemSink::new(alloc, Vec::new(alloc));
     let mut failed = false;
-    write_whole(rt.alloc(), &mut sink, &mut failed, &head, b"", true)?;
-    write_plain(
-        rt.alloc(),
-        &mut sink,
-        &mut failed,
-        Status::MethodNotAllowed,
-        false,
-        b"MethodNotAllowed",
-        true,
-    )?;
-    write_plain(
-        rt.alloc(),
-        &mut sink,
-        &mut failed,
-        Status::HeadTooLarge,
-        true,
-        b"HeadTooLarge",
-        false,
-    )?;
-    assert!(rt; !failed);
+    write_whole(alloc, &mut sink, &mut failed, &head, b"", true)?;
+    taken(alloc, &sink, failed)
+}
+
+#[test]
+fn fields_stand_in_their_order(rt: HostRuntime) -> Result<(), Fail> {
+    let told = redirect(rt.alloc())?;
     assert_eq!(rt;
-        sink.taken(),
-        b"HTTP/1.1 302 Found\r\nSet-Cookie: JSESSIONID=00ff; Path=/; HttpOnly\r\nLocation: /b.jsp\r\nContent-Length: 0\r\nConnection: close\r\n\r\nHTTP/1.1 405 Method Not Allowed\r\nContent-Type: text/plain;charset=UTF-8\r\nAllow: GET, HEAD, POST\r\nContent-Length: 17\r\n\r\nMethodNotAllowed\nHTTP/1.1 431 Request Header Fields Too Large\r\nContent-Type: text/plain;charset=UTF-8\r\nContent-Length: 13\r\nConnection: close\r\n\r\n".as_slice()
+        told.as_str(),
+        "HTTP/1.1 302 Found\r\nSet-Cookie: JSESSIONID=00ff; Path=/; HttpOnly\r\nLocation: /b.jsp\r\nContent-Length: 0\r\nConnection: close\r\n\r\n"
     );
     Ok(())
 }
 
+// A plain response with this line.
+fn plain(
+    alloc: Global,
+    status: Status,
+    close: bool,
+    line: &str,
+    shown: bool,
+) -> Result<String, AllocError> {
+    let mut sink = MemSink::new(alloc, Vec::new(alloc));
+    let mut failed = false;
+    write_plain(
+        alloc,
+        &mut sink,
+        &mut failed,
+        status,
+        close,
+        line.as_bytes(),
+        shown,
+    )?;
+    taken(alloc, &sink, failed)
+}
+
+#[test]
+fn a_plain_response_has_a_line(rt: HostRuntime) -> Result<(), Fail> {
+    for &(status, close, line, shown, wanted) in &[
+        (
+            Status::MethodNotAllowed,
+            false,
+            "MethodNotAllowed",
+            true,
+            "HTTP/1.1 405 Method Not Allowed\r\nContent-Type: text/plain;charset=UTF-8\r\nAllow: GET, HEAD, POST\r\nContent-Length: 17\r\n\r\nMethodNotAllowed\n",
+        ),
+        (
+            Status::HeadTooLarge,
+            true,
+            "HeadTooLarge",
+            false,
+            "HTTP/1.1 431 Request Header Fields Too Large\r\nContent-Type: text/plain;charset=UTF-8\r\nContent-Length: 13\r\nConnection: close\r\n\r\n",
+        ),
+    ] {
+        let told = plain(rt.alloc(), status, close, line, shown)?;
+        assert_eq!(rt; told.as_str(), wanted);
+    }
+    Ok(())
+}
+
+// A response whose body comes in one chunk, of so many letters `a` and a `b`.
+fn chunked(alloc: Global, count: usize) -> Result<String, AllocError> {
+    let head = Head::plain(alloc, Status::Ok, false)?;
+    let mut piece = vec![in alloc; b'a'; count]?;
+    piece.push(b'b')?;
+    let mut sink = MemSink::new(alloc, Vec::new(alloc));
+    let mut failed = false;
+    write_head(alloc, &mut sink, &mut failed, &head)?;
+    write_chunk(&mut sink, &mut failed, &piece);
+    write_end(&mut sink, &mut failed);
+    taken(alloc, &sink, failed)
+}
+
+// The same as it is wanted, by the size of the chunk in writing.
+fn wanted_chunk(alloc: Global, count: usize, size: &str) -> Result<String, AllocError> {
+    let letters = "a".repeat(alloc, count)?;
+    format!(in alloc;
+        "HTTP/1.1 200 OK\r\nContent-Type: text/plain;charset=UTF-8\r\nTransfer-Encoding: chunked\r\n\r\n{size}\r\n{letters}b\r\n0\r\n\r\n"
+    )
+}
+
 #[test]
 fn a_body_comes_in_chunks(rt: HostRuntime) -> Result<(), Fail> {
-    let head = Head::plain(rt.alloc(), Status::Ok, false)?;
-    for &(count, begin) in &[
-        (0, "1\r\nb"),
-        (15, "10\r\na"),
-        (1_023, "400\r\na"),
-        (2_747, "abc\r\na"),
-    ] {
-        let mut piece = vec![in rt.alloc(); b'a'; count]?;
-        piece.push(b'b')?;
-        let mut sink = MemSink::new(rt.alloc(), Vec::new(rt.alloc()));
-        let mut failed = false;
-        write_head(rt.alloc(), &mut sink, &mut failed, &head)?;
-        write_chunk(&mut sink, &mut failed, &piece);
-        write_end(&mut sink, &mut failed);
-        let begin = format!(in rt.alloc();
-            "HTTP/1.1 200 OK\r\nContent-Type: text/plain;charset=UTF-8\r\nTransfer-Encoding: chunked\r\n\r\n{begin}"
-        )?;
-        assert!(rt; !failed);
-        assert!(rt; sink.taken().starts_with(begin.as_bytes()));
-        assert!(rt; sink.taken().ends_with(b"b\r\n0\r\n\r\n"));
+    for &(count, size) in &[(0, "1"), (15, "10"), (1_023, "400"), (2_747, "abc")] {
+        let wanted = wanted_chunk(rt.alloc(), count, size)?;
+        assert_eq!(rt; chunked(rt.alloc(), count)?.as_str(), wanted.as_str());
     }
     Ok(())
 }
 
 #[test]
-fn want_of_memory_is_told_and_a_failed_sink_is_left_alone(rt: HostRuntime) -> Result<(), Fail> {
+fn want_of_memory_is_told(rt: HostRuntime) -> Result<(), Fail> {
     for &(close, shown, size) in &[
         (false, true, 104),
         (true, true, 123),
@@ -83,12 +128,17 @@ fn want_of_memory_is_told_and_a_failed_sink_is_left_alone(rt: HostRuntime) -> Re
         write_no_memory(&mut sink, &mut failed, close, shown);
         assert_eq!(rt; sink.taken().len(), size);
     }
-    // The second of the three parts of a chunk fails, and nothing follows.
+    Ok(())
+}
+
+// The second of the three parts of a chunk fails, and nothing follows.
+#[test]
+fn a_failed_sink_is_left_alone(rt: HostRuntime) -> Result<(), Fail> {
     let mut sink = MemSink::new(rt.alloc(), vec![in rt.alloc(); 1]?);
     let mut failed = false;
     write_chunk(&mut sink, &mut failed, b"hi");
     write_end(&mut sink, &mut failed);
-    assert!(rt; failed);
-    assert_eq!(rt; sink.taken(), b"2\r\n".as_slice());
+    let told = taken(rt.alloc(), &sink, failed)?;
+    assert_eq!(rt; told.as_str(), "2\r\n failed");
     Ok(())
 }

@@ -97,22 +97,24 @@ fn texts_are_made_of_texts(rt: HostRuntime) -> Result<(), Fail> {
 
 // A text of so many letters.
 fn letters(alloc: Global, count: usize) -> Result<Value, AllocError> {
-    let mut text = String::new(alloc);
-    for _ in 0..count {
-        text.push('a')?;
-    }
+    let text = "a".repeat(alloc, count)?;
     Ok(Value::Text(Text::new(text)?))
 }
 
 #[test]
-fn answers_are_joined_and_measured(rt: HostRuntime) -> Result<(), Fail> {
-    let alloc = rt.alloc();
-    let parts = answer(alloc, Function::Split, r#"["a;;b", ";"]"#)?;
-    let between = Value::Text(Text::copy_of(alloc, "-")?);
-    let joined = call(alloc, Function::Join, &[parts, between])?;
-    assert_eq!(rt; to_text(alloc, &joined)?.as_str(), "a-b");
+fn pieces_are_joined(rt: HostRuntime) -> Result<(), Fail> {
+    let pieces = answer(rt.alloc(), Function::Split, r#"["a;;b", ";"]"#)?;
+    let between = Value::Text(Text::copy_of(rt.alloc(), "-")?);
+    let joined = call(rt.alloc(), Function::Join, &[pieces, between])?;
+    assert_eq!(rt; to_text(rt.alloc(), &joined)?.as_str(), "a-b");
+    Ok(())
+}
+
+#[test]
+fn answers_are_measured(rt: HostRuntime) -> Result<(), Fail> {
     for &(count, fits) in &[(1_048_560, true), (1_048_561, false)] {
-        let made = call(alloc, Function::ToUpperCase, &[letters(alloc, count)?]);
+        let args = [letters(rt.alloc(), count)?];
+        let made = call(rt.alloc(), Function::ToUpperCase, &args);
         assert_eq!(rt; made.is_ok(), fits);
     }
     Ok(())
@@ -125,8 +127,26 @@ fn empty_texts_are_split(rt: HostRuntime) -> Result<(), Fail> {
         let length = call(rt.alloc(), Function::Length, &[split])?;
         assert!(rt; length == Value::Int(count));
     }
+    Ok(())
+}
+
+#[test]
+fn an_empty_text_has_no_tokens(rt: HostRuntime) -> Result<(), Fail> {
     assert_eq!(rt; tokens(rt.alloc(), "", ";")?.len(), 0);
     Ok(())
+}
+
+// The fault of a substring that begins at this place, where it has one.
+fn place_fault(alloc: Global, place: &str) -> Result<Option<RunFault>, Fail> {
+    let args = [
+        Value::Text(Text::copy_of(alloc, "abc")?),
+        Value::Text(Text::copy_of(alloc, place)?),
+        Value::Int(2),
+    ];
+    match call(alloc, Function::Substring, &args) {
+        Err(Failure::Fault(fault)) => Ok(Some(fault)),
+        _ => Ok(None),
+    }
 }
 
 #[test]
@@ -136,13 +156,7 @@ fn places_are_numbers(rt: HostRuntime) -> Result<(), Fail> {
         ("1.5", RunFault::Decimal),
         ("1e", RunFault::NotANumber),
     ] {
-        let args = [
-            Value::Text(Text::copy_of(rt.alloc(), "abc")?),
-            Value::Text(Text::copy_of(rt.alloc(), place)?),
-            Value::Int(2),
-        ];
-        let answer = call(rt.alloc(), Function::Substring, &args);
-        assert!(rt; answer.err() == Some(Failure::Fault(fault)));
+        assert_eq!(rt; place_fault(rt.alloc(), place)?, Some(fault));
     }
     Ok(())
 }

@@ -42,6 +42,11 @@ fn without_expressions_marks_are_text(rt: HostRuntime) -> Result<(), Fail> {
         let found = shown(rt.alloc(), &off, text)?;
         assert_eq!(rt; found.as_str(), piece);
     }
+    Ok(())
+}
+
+#[test]
+fn a_hash_may_be_text(rt: HostRuntime) -> Result<(), Fail> {
     let hash = setting(rt.alloc(), true, true)?;
     let found = shown(rt.alloc(), &hash, "#{x}")?;
     assert_eq!(rt; found.as_str(), "'#{x}'|");
@@ -101,13 +106,22 @@ fn a_head_breaks_at_its_value_or_where_it_begins(rt: HostRuntime) -> Result<(), 
 
 #[test]
 fn attributes_are_looked_up_by_name(rt: HostRuntime) -> Result<(), Fail> {
-    let alloc = rt.alloc();
-    let setting = setting(alloc, true, false)?;
-    let tag = start(alloc, &setting, "<c:a a='1' b='${x}' a='2'>")?;
-    assert_eq!(rt; tag.attributes.plain("a"), Some("1"));
-    assert_eq!(rt; tag.attributes.plain("b"), None);
-    assert!(rt; tag.attributes.repeats());
-    let tag = start(alloc, &setting, "<c:a a='1' b='2' c:a='1'>")?;
-    assert!(rt; !tag.attributes.repeats());
+    let setting = setting(rt.alloc(), true, false)?;
+    let tag = start(rt.alloc(), &setting, "<c:a a='1' b='${x}' a='2'>")?;
+    let found = (tag.attributes.plain("a"), tag.attributes.plain("b"));
+    assert_eq!(rt; found, (Some("1"), None));
+    Ok(())
+}
+
+#[test]
+fn attributes_repeat(rt: HostRuntime) -> Result<(), Fail> {
+    let setting = setting(rt.alloc(), true, false)?;
+    for &(text, repeats) in &[
+        ("<c:a a='1' b='${x}' a='2'>", true),
+        ("<c:a a='1' b='2' c:a='1'>", false),
+    ] {
+        let tag = start(rt.alloc(), &setting, text)?;
+        assert_eq!(rt; tag.attributes.repeats(), repeats);
+    }
     Ok(())
 }

@@ -1,4 +1,4 @@
-use crate::show::{first_tree, push_times, setting, shown_under};
+use crate::show::{first_tree, setting, shown_under};
 use page_reader::{Node, PageTree};
 use std::alloc::{AllocError, Global};
 use std::test::Fail;
@@ -9,12 +9,9 @@ const DIRECTIVE: &str = "<%@ page isELIgnored=\"true\" %>";
 
 // The taglib, a text, 65 starts, so many ends, and another text.
 fn nested(alloc: Global, before: &str, ends: usize, behind: &str) -> Result<String, AllocError> {
-    let mut text = String::from_str(alloc, TAGLIB)?;
-    text.push_str(before)?;
-    push_times(&mut text, "<c:if test=\"true\">", 65)?;
-    push_times(&mut text, "</c:if>", ends)?;
-    text.push_str(behind)?;
-    Ok(text)
+    let starts = "<c:if test=\"true\">".repeat(alloc, 65)?;
+    let ends = "</c:if>".repeat(alloc, ends)?;
+    format!(in alloc; "{TAGLIB}{before}{starts}{ends}{behind}")
 }
 
 // The number of the fault that broke the reading off, and its column.
@@ -58,18 +55,19 @@ fn a_directive_behind_deep_nesting_is_in_the_tree(rt: HostRuntime) -> Result<(),
     let alloc = rt.alloc();
     let text = nested(alloc, "${1}", 65, DIRECTIVE)?;
     let tree = first_tree(alloc, text.as_str())?;
-    assert!(rt; ends_with_directive(&tree, "page"));
-    assert_eq!(rt; tree.nodes.len(), 4);
+    assert_eq!(rt;
+        (ends_with_directive(&tree, "page"), tree.nodes.len()),
+        (true, 4)
+    );
     Ok(())
 }
 
 #[test]
 fn bodies_go_down_to_level_128(rt: HostRuntime) -> Result<(), Fail> {
     let alloc = rt.alloc();
-    let mut text = String::new(alloc);
-    push_times(&mut text, "<c:a>", 130)?;
-    text.push_str("x\\$</c:a>y<c:b/></c:a>z")?;
-    push_times(&mut text, "</c:a>", 128)?;
+    let starts = "<c:a>".repeat(alloc, 130)?;
+    let ends = "</c:a>".repeat(alloc, 128)?;
+    let text = format!(in alloc; "{starts}x\\$</c:a>y<c:b/></c:a>z{ends}")?;
     let found = shown_under(alloc, text.as_str(), &setting(alloc, true, false)?)?;
     let innermost =
         " 1:636<c:a>[ 1:641<c:a> 1:646<c:a> 1:651'x$' 1:660'y' 1:661<c:b/> 1:673'z']<c:a><c:a>x\\$</c:a>y<c:b/></c:a>z]";

@@ -150,11 +150,3 @@ pub fn shown_under(alloc: Global, text: &str, setting: &Setting) -> Result<Strin
 pub fn shown_first(alloc: Global, text: &str) -> Result<String, Fail> {
     Ok(shown(alloc, &first_tree(alloc, text)?)?)
 }
-
-// So many copies of one text behind another.
-pub fn push_times(out: &mut String, text: &str, times: usize) -> Result<(), AllocError> {
-    for _ in 0..times {
-        out.push_str(text)?;
-    }
-    Ok(())
-}

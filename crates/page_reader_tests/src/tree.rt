@@ -56,6 +56,11 @@ fn texts_that_meet_are_one(rt: HostRuntime) -> Result<(), Fail> {
         let found = shown_under(rt.alloc(), text, &setting)?;
         assert_eq!(rt; found.as_str(), page);
     }
+    Ok(())
+}
+
+#[test]
+fn texts_in_a_body_are_one(rt: HostRuntime) -> Result<(), Fail> {
     let found = shown_first(
         rt.alloc(),
         "<%@ taglib prefix=\"c\" uri=\"jakarta.tags.core\" %><c:choose> \\$<c:when test=\"${x}\"/></c:choose>",
@@ -88,6 +93,12 @@ fn prefixes_are_registered_from_their_directive_on(rt: HostRuntime) -> Result<()
         let found = shown_first(alloc, text)?;
         assert_eq!(rt; found.as_str(), page);
     }
+    Ok(())
+}
+
+#[test]
+fn prefixes_are_brought_by_an_include(rt: HostRuntime) -> Result<(), Fail> {
+    let alloc = rt.alloc();
     let mut setting = setting(alloc, true, false)?;
     let mut prefixes = Prefixes::new(alloc);
     prefixes.push(Text::copy_of(alloc, "d")?)?;
@@ -102,18 +113,19 @@ fn prefixes_are_registered_from_their_directive_on(rt: HostRuntime) -> Result<()
 
 #[test]
 fn a_page_of_a_shop_is_a_tree(rt: HostRuntime) -> Result<(), Fail> {
-    let text =
-        "<%@ page language=\"java\" trimDirectiveWhitespaces=\"true\"%>\n<%@ taglib prefix=\"c\" uri=\"http://java.sun.com/jsp/jstl/core\" %>\n<jsp:useBean id=\"shop\" class=\"shop\"/>\n<ul>\n<c:forEach items=\"${shop.items}\" var=\"it\" varStatus=\"st\"><li>${st.count}/${st.last}: <c:out value=\"${it.name}\"/></li></c:forEach>\n</ul>\n";
-    let page =
-        " 1:1@page language=1:20'java' trimDirectiveWhitespaces=1:52'true' 1:59'\n' 2:1@taglib prefix=2:20'c' uri=2:28'http://java.sun.com/jsp/jstl/core' 2:65'\n' 3:1<jsp:useBean id=3:18'shop' class=3:31'shop'/> 3:38'\n<ul>\n' 5:1<c:forEach items=5:19${shop.items} var=5:39'it' varStatus=5:54'st'>[ 5:58'<li>' 5:62${st.count} 5:73'/' 5:74${st.last} 5:84': ' 5:86<c:out value=5:100${it.name}/> 5:113'</li>']<li>${st.count}/${st.last}: <c:out value=\"${it.name}\"/></li> 5:130'\n</ul>\n'";
-    let found = shown_first(rt.alloc(), text)?;
-    assert_eq!(rt; found.as_str(), page);
-    let text =
-        "<%@ taglib prefix=\"c\" uri=\"jakarta.tags.core\" %><%@ attribute name=\"items\" type=\"java.lang.Object\" %><%@ variable name-given=\"x\" scope=\"NESTED\" %><c:forEach items=\"${items}\" var=\"x\"><jsp:doBody/></c:forEach>";
-    let page =
-        " 1:1@taglib prefix=1:20'c' uri=1:28'jakarta.tags.core' 1:49@attribute name=1:69'items' type=1:82'java.lang.Object' 1:102@variable name-given=1:127'x' scope=1:137'NESTED' 1:147<c:forEach items=1:165${items} var=1:180'x'>[ 1:183<jsp:doBody/>]<jsp:doBody/>";
-    let found = shown_first(rt.alloc(), text)?;
-    assert_eq!(rt; found.as_str(), page);
+    for &(text, page) in &[
+        (
+            "<%@ page language=\"java\" trimDirectiveWhitespaces=\"true\"%>\n<%@ taglib prefix=\"c\" uri=\"http://java.sun.com/jsp/jstl/core\" %>\n<jsp:useBean id=\"shop\" class=\"shop\"/>\n<ul>\n<c:forEach items=\"${shop.items}\" var=\"it\" varStatus=\"st\"><li>${st.count}/${st.last}: <c:out value=\"${it.name}\"/></li></c:forEach>\n</ul>\n",
+            " 1:1@page language=1:20'java' trimDirectiveWhitespaces=1:52'true' 1:59'\n' 2:1@taglib prefix=2:20'c' uri=2:28'http://java.sun.com/jsp/jstl/core' 2:65'\n' 3:1<jsp:useBean id=3:18'shop' class=3:31'shop'/> 3:38'\n<ul>\n' 5:1<c:forEach items=5:19${shop.items} var=5:39'it' varStatus=5:54'st'>[ 5:58'<li>' 5:62${st.count} 5:73'/' 5:74${st.last} 5:84': ' 5:86<c:out value=5:100${it.name}/> 5:113'</li>']<li>${st.count}/${st.last}: <c:out value=\"${it.name}\"/></li> 5:130'\n</ul>\n'",
+        ),
+        (
+            "<%@ taglib prefix=\"c\" uri=\"jakarta.tags.core\" %><%@ attribute name=\"items\" type=\"java.lang.Object\" %><%@ variable name-given=\"x\" scope=\"NESTED\" %><c:forEach items=\"${items}\" var=\"x\"><jsp:doBody/></c:forEach>",
+            " 1:1@taglib prefix=1:20'c' uri=1:28'jakarta.tags.core' 1:49@attribute name=1:69'items' type=1:82'java.lang.Object' 1:102@variable name-given=1:127'x' scope=1:137'NESTED' 1:147<c:forEach items=1:165${items} var=1:180'x'>[ 1:183<jsp:doBody/>]<jsp:doBody/>",
+        ),
+    ] {
+        let found = shown_first(rt.alloc(), text)?;
+        assert_eq!(rt; found.as_str(), page);
+    }
     Ok(())
 }
 

@@ -3,6 +3,7 @@ ghost use Rattle.std.specs.Prelude.{◌≡◌, ◌<◌, ◌≤◌};
 use edges::{MemSink, MemSource, Steps, Unseen};
 use pages_check::check;
 use std::alloc::{AllocError, Global};
+use std::marker::Brand;
 use std::sync::ledger::{Blank, Ledger};
 
 /// The outside of a check: how many bytes a read gives, and the numbers of the reads and the writes that fail.
@@ -13,8 +14,8 @@ pub struct Outside<'o> {
     pub write_fails: &'o [u64],
 }
 
-/// The status of the command with these words over this input, and what it wrote.
-pub fn checked<N: Ledger>(
+// The status of the command with these words over this input, and what it wrote.
+fn checked<N: Ledger>(
     alloc: Global,
     blank: Blank,
     words: &[&str],
@@ -39,4 +40,18 @@ pub fn checked<N: Ledger>(
     let mut steps = Steps::<Unseen<N>>::unseen(blank);
     let status = check(alloc, &owned, &mut source, &mut sink, &mut steps);
     Ok((status, sink.taken().to_vec(alloc)?))
+}
+
+/// The same in one line: the status, a blank, and what was written.
+pub fn told(
+    alloc: Global,
+    words: &[&str],
+    input: &[u8],
+    outside: &Outside,
+) -> Result<String, AllocError>
+    requires piece { 1 ≤ outside.now.piece }
+{
+    let (status, written) = checked::<Brand>(alloc, Blank::new(1), words, input, outside)?;
+    let text = str::from_utf8(&written).unwrap_or("no text");
+    format!(in alloc; "{status} {text}")
 }

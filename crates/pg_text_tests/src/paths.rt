@@ -65,35 +65,68 @@ fn a_text_stands_in_the_folder_of_its_base(rt: HostRuntime) -> Result<(), Fail> 
     Ok(())
 }
 
+// Whether a text of a stroke and so many letters stands for a path.
+fn is_path(alloc: Global, count: usize) -> Result<bool, AllocError> {
+    let letters = "a".repeat(alloc, count)?;
+    let text = format!(in alloc; "/{letters}")?;
+    Ok(resolve(alloc, None, text.as_str()).is_ok())
+}
+
 #[test]
 fn a_path_has_at_most_1024_bytes(rt: HostRuntime) -> Result<(), Fail> {
     for &(count, fits) in &[(1_023, true), (1_024, false)] {
-        let mut text = String::from_str(rt.alloc(), "/")?;
-        for _ in 0..count {
-            text.push('a')?;
-        }
-        let path = resolve(rt.alloc(), None, text.as_str());
-        assert_eq!(rt; path.is_ok(), fits);
+        assert_eq!(rt; is_path(rt.alloc(), count)?, fits);
     }
     Ok(())
 }
 
-#[test]
-fn names_are_distinct_and_in_order(rt: HostRuntime) -> Result<(), Fail> {
-    let mut names = Names::empty(rt.alloc());
-    for &path in &["/b", "/a/c", "/b", "/a"] {
-        names.insert(resolve(rt.alloc(), None, path)?)?;
+// The names of these paths.
+fn names_of(alloc: Global, paths: &[&str]) -> Result<Names, Failure<BadPath>> {
+    let mut names = Names::empty(alloc);
+    for path in paths {
+        names.insert(resolve(alloc, None, path)?)?;
     }
-    let other = resolve(rt.alloc(), None, "/c")?;
-    assert!(rt; names.contains(&resolve(rt.alloc(), None, "/a/c")?));
-    assert!(rt; !names.contains(&other));
-    let mut told = String::new(rt.alloc());
-    for name in names.copy()?.as_slice() {
+    Ok(names)
+}
+
+// Names, each ended by a blank.
+fn listed(alloc: Global, names: &Names) -> Result<String, AllocError> {
+    let mut told = String::new(alloc);
+    for name in names.as_slice() {
         told.push_str(name.as_str())?;
         told.push(' ')?;
     }
-    assert_eq!(rt; told.as_str(), "/a /a/c /b ");
+    Ok(told)
+}
+
+const PATHS: [&str; 4] = ["/b", "/a/c", "/b", "/a"];
+
+#[test]
+fn names_are_distinct_and_in_order(rt: HostRuntime) -> Result<(), Fail> {
+    let names = names_of(rt.alloc(), &PATHS)?;
+    let copy = names.copy()?;
+    assert_eq!(rt; listed(rt.alloc(), &copy)?.as_str(), "/a /a/c /b ");
+    Ok(())
+}
+
+#[test]
+fn names_are_counted(rt: HostRuntime) -> Result<(), Fail> {
+    let names = names_of(rt.alloc(), &PATHS)?;
     assert_eq!(rt; (names.len(), names.is_empty()), (3, false));
     assert_eq!(rt; Names::new(names.into_vec()).len(), 3);
+    Ok(())
+}
+
+// Whether the path is among the names of those paths.
+fn is_among(alloc: Global, path: &str) -> Result<bool, Failure<BadPath>> {
+    let names = names_of(alloc, &PATHS)?;
+    Ok(names.contains(&resolve(alloc, None, path)?))
+}
+
+#[test]
+fn a_name_is_found(rt: HostRuntime) -> Result<(), Fail> {
+    for &(path, there) in &[("/a/c", true), ("/c", false)] {
+        assert_eq!(rt; is_among(rt.alloc(), path)?, there);
+    }
     Ok(())
 }

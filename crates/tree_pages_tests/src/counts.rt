@@ -15,71 +15,103 @@ fn run(alloc: Global, text: &str, nulls: usize) -> Result<Ran, Fail> {
     ran(alloc, &files, &[], &answers, 1_024)
 }
 
-// A page of so many letters.
-fn letters(alloc: Global, count: usize) -> Result<String, Fail> {
-    let mut text = String::from_str(alloc, "<%@ page session=\"false\" %>")?;
-    for _letter in 0..count {
-        text.push('a')?;
-    }
-    Ok(text)
+// What is counted of a run.
+#[derive(Clone, Copy)]
+enum Count {
+    Visits,
+    Charge,
+    // The bytes that were read.
+    Bytes,
+    // What was asked of the site.
+    Asked,
+    // The bytes in the buffer.
+    Rest,
+    // 1 where something was committed.
+    Committed,
 }
 
+fn count(ran: &Ran, what: Count) -> u64 {
+    match what {
+        Count::Visits => ran.around.visits as u64,
+        Count::Charge => ran.around.charge,
+        Count::Bytes => ran.bytes,
+        Count::Asked => ran.asked.len() as u64,
+        Count::Rest => ran.writer.rest().len() as u64,
+        Count::Committed => { if ran.writer.committed() { 1 } else { 0 } }
+    }
+}
+
+// A page of so many letters, and behind them an end.
+fn letters(alloc: Global, count: usize, end: &str) -> Result<String, Fail> {
+    let letters = "a".repeat(alloc, count)?;
+    Ok(format!(in alloc; "<%@ page session=\"false\" %>{letters}{end}")?)
+}
+
+const SUM: &str = "<%@ page session=\"false\" %>a${1 + 2}b";
+
+const STEP: &str = "<%@ page session=\"false\" %>${q}";
+
+const STEPS: &str =
+    "<%@ page session=\"false\" %><%@ taglib prefix=\"c\" uri=\"jakarta.tags.core\" %><c:forEach begin=\"1\" end=\"11780\">${q}</c:forEach>";
+
+const MORE_STEPS: &str =
+    "<%@ page session=\"false\" %><%@ taglib prefix=\"c\" uri=\"jakarta.tags.core\" %><c:forEach begin=\"1\" end=\"11781\">${q}</c:forEach>";
+
+// Nodes and expressions are visited, a step is charged, and as much is asked as the charge lets.
 #[test]
-fn nodes_and_expressions_are_visited(rt: HostRuntime) -> Result<(), Fail> {
-    let alloc = rt.alloc();
-    let ran = run(alloc, "<%@ page session=\"false\" %>a${1 + 2}b", 0)?;
-    assert_eq!(rt; ran.around.visits, 6);
-    assert_eq!(rt; ran.around.charge, 172);
-    assert_eq!(rt; ran.bytes, 37);
+fn runs_are_counted(rt: HostRuntime) -> Result<(), Fail> {
+    for &(text, nulls, what, wanted) in &[
+        (SUM, 0, Count::Visits, 6),
+        (SUM, 0, Count::Charge, 172),
+        (SUM, 0, Count::Bytes, 37),
+        (STEP, 1, Count::Charge, 261),
+        (STEPS, 11_780, Count::Charge, 1_048_592),
+        (STEPS, 11_780, Count::Asked, 11_780),
+        (MORE_STEPS, 11_781, Count::Asked, 11_780),
+    ] {
+        let ran = run(rt.alloc(), text, nulls)?;
+        assert_eq!(rt; count(&ran, what), wanted);
+    }
     Ok(())
 }
 
 #[test]
-fn a_step_is_charged(rt: HostRuntime) -> Result<(), Fail> {
-    let alloc = rt.alloc();
-    let ran = run(alloc, "<%@ page session=\"false\" %>${q}", 1)?;
-    assert_eq!(rt; told(alloc, &ran)?.as_str(), "normal [] Get q");
-    assert_eq!(rt; ran.around.charge, 261);
+fn a_step_is_told(rt: HostRuntime) -> Result<(), Fail> {
+    let ran = run(rt.alloc(), STEP, 1)?;
+    assert_eq!(rt; told(rt.alloc(), &ran)?.as_str(), "normal [] Get q");
+    Ok(())
+}
+
+#[test]
+fn a_step_too_many_is_told(rt: HostRuntime) -> Result<(), Fail> {
+    let ran = run(rt.alloc(), MORE_STEPS, 11_781)?;
+    let told = told(rt.alloc(), &ran)?;
+    assert!(rt; told.starts_with("X22 /x.jsp:1:109 []"));
     Ok(())
 }
 
 #[test]
 fn a_full_buffer_commits_nothing(rt: HostRuntime) -> Result<(), Fail> {
-    let alloc = rt.alloc();
-    let full = run(alloc, letters(alloc, 1_024)?.as_str(), 0)?;
-    assert_eq!(rt; full.writer.committed(), false);
-    assert_eq!(rt; full.writer.rest().len(), 1_024);
-    let over = run(alloc, letters(alloc, 1_025)?.as_str(), 0)?;
-    assert_eq!(rt; told(alloc, &over)?.as_str(), "normal [*a]");
-    assert_eq!(rt; over.sink.taken().ends_with(b"a\r\n"), true);
+    let full = run(rt.alloc(), letters(rt.alloc(), 1_024, "")?.as_str(), 0)?;
+    let found = (count(&full, Count::Committed), count(&full, Count::Rest));
+    assert_eq!(rt; found, (0, 1_024));
+    Ok(())
+}
+
+// A fault behind a commit leaves what was committed.
+#[test]
+fn what_is_over_a_buffer_is_committed(rt: HostRuntime) -> Result<(), Fail> {
+    for &(end, wanted) in &[("", "normal [*a]"), ("${1 mod 0}", "X3 /x.jsp:1:1053 [*a]")] {
+        let text = letters(rt.alloc(), 1_025, end)?;
+        let ran = run(rt.alloc(), text.as_str(), 0)?;
+        assert_eq!(rt; told(rt.alloc(), &ran)?.as_str(), wanted);
+    }
     Ok(())
 }
 
 #[test]
-fn a_fault_behind_a_commit_leaves_what_was_committed(rt: HostRuntime) -> Result<(), Fail> {
-    let alloc = rt.alloc();
-    let mut text = letters(alloc, 1_025)?;
-    text.push_str("${1 mod 0}")?;
-    let broken = run(alloc, text.as_str(), 0)?;
-    assert_eq!(rt; told(alloc, &broken)?.as_str(), "X3 /x.jsp:1:1053 [*a]");
-    Ok(())
-}
-
-#[test]
-fn as_much_is_asked_as_the_charge_lets(rt: HostRuntime) -> Result<(), Fail> {
-    let alloc = rt.alloc();
-    let text =
-        "<%@ page session=\"false\" %><%@ taglib prefix=\"c\" uri=\"jakarta.tags.core\" %><c:forEach begin=\"1\" end=\"11780\">${q}</c:forEach>";
-    let most = run(alloc, text, 11_780)?;
-    assert_eq!(rt; most.around.charge, 1_048_592);
-    assert_eq!(rt; most.asked.len(), 11_780);
-    let text =
-        "<%@ page session=\"false\" %><%@ taglib prefix=\"c\" uri=\"jakarta.tags.core\" %><c:forEach begin=\"1\" end=\"11781\">${q}</c:forEach>";
-    let more = run(alloc, text, 11_781)?;
-    assert_eq!(rt;
-        told(alloc, &more)?.starts_with("X22 /x.jsp:1:109 []"),
-        true
-    );
-    assert_eq!(rt; more.asked.len(), 11_780);
+fn what_is_committed_goes_out(rt: HostRuntime) -> Result<(), Fail> {
+    let over = run(rt.alloc(), letters(rt.alloc(), 1_025, "")?.as_str(), 0)?;
+    assert!(rt; over.sink.taken().ends_with(b"a\r\n"));
     Ok(())
 }

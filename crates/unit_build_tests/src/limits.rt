@@ -2,19 +2,11 @@ use crate::show::told;
 use std::alloc::Global;
 use std::test::Fail;
 
-// A text so many times.
-fn repeated(alloc: Global, text: &str, count: usize) -> Result<String, Fail> {
-    let mut all = String::new(alloc);
-    for _ in 0..count {
-        all.push_str(text)?;
-    }
-    Ok(all)
-}
-
 // What is told of a page that includes a file within one element, where that nests so many.
 fn nested(alloc: Global, levels: usize) -> Result<String, Fail> {
-    let mut text = repeated(alloc, "<c:if test=\"true\">", levels)?;
-    text.push_str(repeated(alloc, "</c:if>", levels)?.as_str())?;
+    let starts = "<c:if test=\"true\">".repeat(alloc, levels)?;
+    let ends = "</c:if>".repeat(alloc, levels)?;
+    let text = format!(in alloc; "{starts}{ends}")?;
     let files = [
         (
             "/a.jsp",
@@ -27,16 +19,18 @@ fn nested(alloc: Global, levels: usize) -> Result<String, Fail> {
 
 #[test]
 fn elements_nest_64_deep_through_an_include(rt: HostRuntime) -> Result<(), Fail> {
-    let within = nested(rt.alloc(), 63)?;
-    assert_eq!(rt; within.as_str(), "ok /a.jsp /i");
-    let beyond = nested(rt.alloc(), 64)?;
-    assert_eq!(rt; beyond.as_str(), "E20 TooLarge /i:1:1135 /a.jsp /i");
+    for &(levels, wanted) in &[
+        (63, "ok /a.jsp /i"),
+        (64, "E20 TooLarge /i:1:1135 /a.jsp /i"),
+    ] {
+        assert_eq!(rt; nested(rt.alloc(), levels)?.as_str(), wanted);
+    }
     Ok(())
 }
 
 // What is told of a page that includes one file so many times, each time on a line of its own.
 fn included(alloc: Global, count: usize) -> Result<String, Fail> {
-    let text = repeated(alloc, "<%@ include file=\"i\" %>\n", count)?;
+    let text = "<%@ include file=\"i\" %>\n".repeat(alloc, count)?;
     let files = [("/a.jsp", text.as_str()), ("/i", "x")];
     told(alloc, &files)
 }
@@ -68,16 +62,18 @@ fn an_included_file_does_not_include_itself(rt: HostRuntime) -> Result<(), Fail>
 // What is told of a page that includes a file, where both together have so many bytes.
 fn sized(alloc: Global, bytes: usize) -> Result<String, Fail> {
     let page = "<%@ include file=\"i\" %>";
-    let text = repeated(alloc, "x", bytes.saturating_sub(page.len()))?;
+    let text = "x".repeat(alloc, bytes.saturating_sub(page.len()))?;
     let files = [("/a.jsp", page), ("/i", text.as_str())];
     told(alloc, &files)
 }
 
 #[test]
 fn a_unit_has_1048576_bytes(rt: HostRuntime) -> Result<(), Fail> {
-    let within = sized(rt.alloc(), 1_048_576)?;
-    assert_eq!(rt; within.as_str(), "ok /a.jsp /i");
-    let beyond = sized(rt.alloc(), 1_048_577)?;
-    assert_eq!(rt; beyond.as_str(), "E20 TooLarge /a.jsp:1:1 /a.jsp /i");
+    for &(bytes, wanted) in &[
+        (1_048_576, "ok /a.jsp /i"),
+        (1_048_577, "E20 TooLarge /a.jsp:1:1 /a.jsp /i"),
+    ] {
+        assert_eq!(rt; sized(rt.alloc(), bytes)?.as_str(), wanted);
+    }
     Ok(())
 }

@@ -1,4 +1,0 @@
-use Rattle.dispatch_tests.proofs.answers.a_request_ends_whose_answer_is_not_taken.Given as goal
-
-abbrev pub ghosts-come_of : goal.ghosts-come_of
-ghosts-come_of g a = record { name = a.blank.name; parts = a.blank.parts }

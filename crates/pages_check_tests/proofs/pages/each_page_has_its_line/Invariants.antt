@@ -1,4 +1,0 @@
-use Rattle.pages_check_tests.proofs.pages.each_page_has_its_line.Given as goal
-
-abbrev pub ghosts-checked : goal.ghosts-checked
-ghosts-checked g a = record { name = a.blank.name; parts = a.blank.parts }
