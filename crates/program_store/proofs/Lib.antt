@@ -1,2 +1,3 @@
 mod KeptLemmas
 mod NeedLemmas
+pub mod StoreCross
