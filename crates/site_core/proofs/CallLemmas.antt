@@ -1,18 +1,15 @@
 -- What an act comes to, as a call of a port.
-use Rattle.std.proofs.Common.{◌≡◌, ◌≢◌, ℕ, zero, suc, ◌+◌, ◌-◌, ◌<◌, Bool, true, false, List, [], ◌∷◌, ◌++◌, length, max, Option, Some, None, Result, Ok, Err, refl, sym, ap, subst, ◌∙◌, append-nil}
-use Rattle.std.specs.Prelude.{⊤, IfSome, slice_get, slice_index_or}
+use Rattle.std.proofs.Common.{◌≡◌, ◌≢◌, ℕ, zero, suc, ◌-◌, ◌<◌, Bool, true, false, List, [], ◌∷◌, ◌++◌, max, Option, Some, None, refl, sym, ap, subst, ◌∙◌, append-nil}
+use Rattle.std.specs.Prelude.{IfSome, slice_get, slice_index_or}
 use Rattle.std.specs.Arc.{arc_value}
 use Rattle.std.specs.declared.sync.Arc.{Arc}
-use Rattle.edges.specs.Calls as Generic
 use Rattle.edges.specs.declared.acted.Acted.{Acted}
 use Rattle.edges.specs.declared.acted.Acted.TheVariants.{Did, Refused, NoMemory}
 use Rattle.edges.proofs.Own.{acts}
 use Rattle.source_tree.specs.declared.file.File.{File}
 use Rattle.site_words.specs.declared.port.Begun.{Begun}
 use Rattle.site_words.specs.declared.port.Fresh.{Fresh}
-use Rattle.site_words.specs.declared.port.Snapped.{Snapped}
 use Rattle.site_words.specs.declared.words.Entry.{Entry}
-use Rattle.site_words.specs.declared.words.KeptSession.{KeptSession}
 use Rattle.site_words.specs.declared.words.Op.{Op}
 use Rattle.site_words.specs.declared.words.Op.TheVariants as op
 use Rattle.site_words.specs.declared.words.Opening.{Opening}
@@ -20,16 +17,16 @@ use Rattle.site_words.specs.declared.words.Refusal.{Refusal}
 use Rattle.site_words.specs.declared.words.Reply.{Reply}
 use Rattle.site_words.specs.declared.words.Run.{Run}
 use Rattle.site_words.specs.declared.words.Reply.TheVariants as reply
-use Rattle.site_words.specs.Answers.{ForRun, IsNamed, Shows, StartsWith}
-use Rattle.site_words.specs.Calls.{Calls, Stays}
+use Rattle.site_words.specs.Answers.{ForRun, StartsWith}
+use Rattle.site_words.specs.Calls.{Calls}
 use Rattle.site_words.specs.Fits.{has_run}
 use Rattle.site_words.specs.Ids.{id_of}
 use Rattle.site_words.specs.Invariants.{HasTree}
 use Rattle.site_words.specs.Law.{Legal, own, pass_of, run_of, trees_of}
 use Rattle.site_words.specs.Runs.{UnderWay, run_in, tree_in, under_at}
-use Rattle.site_words.specs.Sessions.{attrs_of, number_of, session_attrs}
+use Rattle.site_words.specs.Sessions.{number_of}
 use Rattle.site_words.specs.State.{State, after, moved, start_of}
-use Rattle.site_words.specs.Step.{begun_session, snapped_session, step}
+use Rattle.site_words.specs.Step.{begun_session, step}
 use Rattle.site_words.specs.Trees.{Needs}
 use Rattle.site_words.proofs.Gifts.{begun_gift}
 use Rattle.site_words.proofs.Items.{each_at, get_left}
@@ -40,11 +37,11 @@ use Rattle.site_words.proofs.Trees.{trees_are}
 use Rattle.site_state.specs.declared.gift.Gift.{Gift}
 use Rattle.site_state.specs.declared.gift.Gift.TheVariants.{Nothing, Start, Made, Id, Picture}
 use Rattle.site_state.specs.declared.gift.Given.{Given}
-use Rattle.site_state.specs.Gifts.{FitsFetch, FitsHit, IsId, IsMadeGift, IsPicture, IsStart}
+use Rattle.site_state.specs.Gifts.{FitsFetch, FitsHit, IsId, IsStart}
 use Rattle.site_core.specs.Answered.{Answered, IsGiven, reply_in}
-use Rattle.site_core.specs.Applies.{Applies, Replies}
+use Rattle.site_core.specs.Applies.{Applies}
 use Rattle.site_core.specs.Lived.{Lived}
-use Rattle.site_core.specs.ReadGiven.{CanBegin, CanFind, CanName, CanShow, IsBegunBy, IsFoundBy, IsFreshBy, IsHitBy, IsSnappedBy}
+use Rattle.site_core.specs.ReadGiven.{CanBegin, CanFind, CanName, IsBegunBy, IsFoundBy, IsFreshBy, IsHitBy}
 
 module _ {P : Type 0} (needs : Needs) (made : P → List File → List ℕ → Type 0) where
   -- an act is a call

@@ -1,32 +1,29 @@
 -- What an operation that a pass may ask for can rely on.
-use Rattle.std.proofs.Common.{◌≡◌, ◌≢◌, ℕ, zero, suc, ◌+◌, ◌-◌, ◌*◌, ◌<◌, ◌≤◌, ◌^◌, Bool, true, false, List, [], ◌∷◌, ◌++◌, length, map, Option, Some, None, refl, sym, ap, subst, ◌∙◌, arith}
-use Rattle.std.specs.Prelude.{◌&&◌, ◌||◌, ◌==◌, nat_lt, nat_le, slice_get, slice_index_or, ⊤}
-use Rattle.std.specs.List.{fold}
+use Rattle.std.proofs.Common.{◌≡◌, ◌≢◌, ℕ, zero, suc, ◌+◌, ◌-◌, ◌*◌, ◌<◌, ◌≤◌, ◌^◌, true, false, List, [], ◌∷◌, ◌++◌, length, Option, Some, None, refl, sym, ap, subst, ◌∙◌, arith}
+use Rattle.std.specs.Prelude.{◌&&◌, ◌||◌, ◌==◌, nat_lt, nat_le, slice_get, slice_index_or}
 use Rattle.pg_text.specs.Names.{AreInOrder}
 use Rattle.source_tree.specs.declared.edit.Edit.{Edit}
 use Rattle.source_tree.specs.declared.file.File.{File}
 use Rattle.source_tree.specs.declared.fault.TreeFault.{TreeFault}
 use Rattle.source_tree.specs.Edits.{after_edits}
 use Rattle.source_tree.specs.Limits.{tree_fault}
-use Rattle.edges.specs.declared.acted.Acted.TheVariants.{Did}
 use Rattle.site_words.specs.declared.words.Entry.{Entry}
 use Rattle.site_words.specs.declared.words.KeptSession.{KeptSession}
 use Rattle.site_words.specs.declared.words.Op.{Op}
 use Rattle.site_words.specs.declared.words.Op.TheVariants as op
 use Rattle.site_words.specs.declared.words.Opening.{Opening}
 use Rattle.site_words.specs.declared.words.Reply.{Reply}
-use Rattle.site_words.specs.Fits.{asks, finds, fits, rests}
+use Rattle.site_words.specs.Fits.{asks, finds, rests}
 use Rattle.site_words.specs.Invariants.{HasTree, HeldIn, has_number}
-use Rattle.site_words.specs.Law.{Finds, Follows, Legal, May, latest_of, own, run_of, trees_of}
+use Rattle.site_words.specs.Law.{Finds, Legal, May, latest_of, own, run_of, trees_of}
 use Rattle.site_words.specs.Opening.{are_distinct, is_sound, no_fault, sound_app, sound_counts, sound_sessions, sound_tree}
 use Rattle.site_words.specs.Runs.{UnderWay, promised, run_at, run_in, session_in, tree_in, under_at}
 use Rattle.site_words.specs.Sessions.{most_sessions}
-use Rattle.site_words.specs.State.{State, after, moved, start_of}
-use Rattle.site_words.specs.Step.{refusal_of, reply_to, step, stepped}
+use Rattle.site_words.specs.State.{State, after, start_of}
+use Rattle.site_words.specs.Step.{refusal_of, reply_to, stepped}
 use Rattle.site_words.specs.Trees.{Needs, OneHistory}
 use Rattle.site_words.specs.Weights.{weight_with}
 use Rattle.site_words.proofs.Items.{and_left, and_right, each_at, le_of, lt_of}
-use Rattle.site_words.proofs.Lasting.{run_is_own}
 use Rattle.site_words.proofs.Legal.{after_push, legal_push, may_fits, passes_len}
 use Rattle.site_words.proofs.Good.{not_there, sessions_good}
 use Rattle.site_words.proofs.OneHistory.{one_history, opening_one}
@@ -37,19 +34,17 @@ use Rattle.site_words.proofs.StoreLaw.{one_at, one_edited}
 use Rattle.site_words.proofs.Trees.{trees_are}
 use Rattle.site_state.specs.declared.session.Session.{Session}
 use Rattle.site_state.specs.Conditions.{CanGrow, CanWork}
-use Rattle.site_state.specs.Gifts.{IsMade, IsMadeHere, IsValueFor}
+use Rattle.site_state.specs.Gifts.{IsMade, IsMadeHere}
 use Rattle.site_state.specs.Parts.{Parts, state_of}
 use Rattle.site_state.specs.ReadSessions.{has_named}
 use Rattle.site_state.specs.Sources.{sessions_of}
 use Rattle.site_state.specs.Works.{entry_of}
-use Rattle.site_core.specs.Lived.{can_open}
 use Rattle.site_core.specs.ReadSite.{IsSite}
 use Rattle.site_core.proofs.Counts.{counts_up, weight_is}
 
 -- the parts of a sound opening
 
 pub record IsOpened (x : Opening) : Type 0 where
-  pub limit : CanGrow x.limit
   pub some : 1 ≤ x.passes
   pub few : x.passes ≤ 64
   pub version : x.version < 2 ^ 63
@@ -59,9 +54,8 @@ pub record IsOpened (x : Opening) : Type 0 where
   pub app : sound_app x ≡ true
   pub sessions : sound_sessions x ≡ true
 
-pub opened : (x : Opening) → can_open x ≡ true → IsOpened x
-opened x can =
-    let sound : is_sound x ≡ true = and_left (is_sound x) (nat_lt x.limit (2 ^ 64 - 1)) can in
+pub opened : (x : Opening) → is_sound x ≡ true → IsOpened x
+opened x sound =
     let counts : sound_counts x ≡ true = and_left (sound_counts x) (sound_tree x && (sound_app x && sound_sessions x)) sound in
     let rest : (sound_tree x && (sound_app x && sound_sessions x)) ≡ true = and_right (sound_counts x) (sound_tree x && (sound_app x && sound_sessions x)) sound in
     let rest_2 : (sound_app x && sound_sessions x) ≡ true = and_right (sound_tree x) (sound_app x && sound_sessions x) rest in
@@ -69,7 +63,6 @@ opened x can =
     let c2 = and_right (nat_le x.passes 64) (nat_lt x.version (2 ^ 63) && (nat_lt x.begins (2 ^ 63) && nat_lt x.freshes (2 ^ 63))) c1 in
     let c3 = and_right (nat_lt x.version (2 ^ 63)) (nat_lt x.begins (2 ^ 63) && nat_lt x.freshes (2 ^ 63)) c2 in
     record {
-      limit = lt_of x.limit (2 ^ 64 - 1) (and_right (is_sound x) (nat_lt x.limit (2 ^ 64 - 1)) can);
       some = le_of 1 x.passes (and_left (nat_le 1 x.passes) (nat_le x.passes 64 && (nat_lt x.version (2 ^ 63) && (nat_lt x.begins (2 ^ 63) && nat_lt x.freshes (2 ^ 63)))) counts);
       few = le_of x.passes 64 (and_left (nat_le x.passes 64) (nat_lt x.version (2 ^ 63) && (nat_lt x.begins (2 ^ 63) && nat_lt x.freshes (2 ^ 63))) c1);
       version = lt_of x.version (2 ^ 63) (and_left (nat_lt x.version (2 ^ 63)) (nat_lt x.begins (2 ^ 63) && nat_lt x.freshes (2 ^ 63)) c2);
@@ -121,9 +114,9 @@ follows needs x history pass o legal may none =
 pub not_roll : (x : Opening) (history : List Entry) (pass : ℕ) (entries : List (ℕ × Entry)) (o : Op) → May x history pass entries o → o ≢ op.Roll
 not_roll x history pass entries o may is = subst (λ o. Finds x.version (trees_of x history) (run_of entries) o) is may.2
 
-pub can_step : (needs : Needs) (x : Opening) (history : List Entry) (pass : ℕ) (o : Op) → can_open x ≡ true → Legal needs x history → 64 * length history ≤ (after needs x history).weight → May x history pass (own pass history) o
+pub can_step : (needs : Needs) (x : Opening) (history : List Entry) (pass : ℕ) (o : Op) → is_sound x ≡ true → x.limit < 2 ^ 64 → Legal needs x history → 64 * length history ≤ (after needs x history).weight → May x history pass (own pass history) o
     → CanStep needs x (after needs x history) pass o
-can_step needs x history pass o can legal short may =
+can_step needs x history pass o can limit legal short may =
     let s : State = after needs x history in
     let start_x = opened x can in
     let fit = may_fits needs x history pass o legal may in
@@ -146,16 +139,16 @@ can_step needs x history pass o can legal short may =
       asks = and_left (asks (run_at s.runs pass) o) (finds (under_at s.runs pass) o && rests s.runs o) fit_1;
       finds = and_left (finds (under_at s.runs pass) o) (rests s.runs o) fit_2;
       total = fair.total;
-      version = small s.weight (promised s.runs) x.limit (length history) x.version s.version short fair.total start_x.limit start_x.version ups.version;
-      begins = small s.weight (promised s.runs) x.limit (length history) x.begins s.begins short fair.total start_x.limit start_x.begins ups.begins;
-      freshes = small s.weight (promised s.runs) x.limit (length history) x.freshes s.freshes short fair.total start_x.limit start_x.freshes ups.freshes;
+      version = small s.weight (promised s.runs) x.limit (length history) x.version s.version short fair.total limit start_x.version ups.version;
+      begins = small s.weight (promised s.runs) x.limit (length history) x.begins s.begins short fair.total limit start_x.begins ups.begins;
+      freshes = small s.weight (promised s.runs) x.limit (length history) x.freshes s.freshes short fair.total limit start_x.freshes ups.freshes;
       room = λ none.
           let r : Reply = reply_to needs x s pass o in
           let e : Entry = entry_of pass o r in
           let later_legal = follows needs x history pass o legal may none in
           let later_fair = within needs x (history ++ e ∷ []) start_x.app later_legal in
           let weight : (after needs x (history ++ e ∷ [])).weight ≡ s.weight + weight_with o r = ap (λ (t : State). t.weight) (after_push needs x history e) ∙ weight_is s.weight o r (not_roll x history pass (own pass history) o may) in
-          roomy (after needs x (history ++ e ∷ [])).weight (promised (after needs x (history ++ e ∷ [])).runs) (s.weight + weight_with o r) x.limit later_fair.total start_x.limit weight;
+          roomy (after needs x (history ++ e ∷ [])).weight (promised (after needs x (history ++ e ∷ [])).runs) (s.weight + weight_with o r) x.limit later_fair.total limit weight;
       older = older;
       later = later;
       next = λ edits.
@@ -166,10 +159,10 @@ can_step needs x history pass o can legal short may =
       unused = not_there s.freshes s.moment s.sessions good.good.each;
     }
   where
-    small : (weight promises limit entries first count : ℕ) → 64 * entries ≤ weight → weight + promises ≤ limit → CanGrow limit → first < 2 ^ 63 → count ≤ first + entries → CanGrow count
+    small : (weight promises limit entries first count : ℕ) → 64 * entries ≤ weight → weight + promises ≤ limit → limit < 2 ^ 64 → first < 2 ^ 63 → count ≤ first + entries → CanGrow count
     small weight promises limit entries first count short fair least start up = omega arith
 
-    roomy : (weight promises sum limit : ℕ) → weight + promises ≤ limit → CanGrow limit → weight ≡ sum → sum < 2 ^ 64
+    roomy : (weight promises sum limit : ℕ) → weight + promises ≤ limit → limit < 2 ^ 64 → weight ≡ sum → sum < 2 ^ 64
     roomy weight promises sum limit fair least is = omega arith
 
 -- the sessions with their attributes have the same numbers
@@ -196,7 +189,7 @@ module _ {P : Type 0} (needs : Needs) (made : P → List File → List ℕ → T
       → IsMade made x history (run_of (own pass history)) o v → CanWork needs made x history parts pass o v
   can_work x history parts len capacity pass o v site may is =
       let short : 64 * length history ≤ (after needs x history).weight = subst (λ (s : State). 64 * length history ≤ s.weight) site.state site.short in
-      let step : CanStep needs x (state_of x history parts) pass o = subst (λ (s : State). CanStep needs x s pass o) (sym site.state) (can_step needs x history pass o site.sound site.legal short may) in
+      let step : CanStep needs x (state_of x history parts) pass o = subst (λ (s : State). CanStep needs x s pass o) (sym site.state) (can_step needs x history pass o site.sound site.limit site.legal short may) in
       record {
         within = step.within;
         asks = step.asks;
@@ -204,7 +197,6 @@ module _ {P : Type 0} (needs : Needs) (made : P → List File → List ℕ → T
         goes_on = not_roll x history pass (own pass history) o may;
         value = subst (λ (s : State). IsMadeHere made (under_at s.runs pass) o v) (sym site.state) (value_here x history pass o v site.legal may.0 is);
         total = step.total;
-        limit = (opened x site.sound).limit;
         version = step.version;
         begins = step.begins;
         freshes = step.freshes;
@@ -223,9 +215,9 @@ none_of None is = refl
 none_of (Some fault) is = absurd (cc)
 
 -- the tree of a sound opening keeps its limits
-pub opened_tree : (x : Opening) → can_open x ≡ true → tree_fault x.tree ≡ None
+pub opened_tree : (x : Opening) → is_sound x ≡ true → tree_fault x.tree ≡ None
 opened_tree x can = none_of (tree_fault x.tree) (and_left (no_fault (tree_fault x.tree)) _ (opened x can).tree)
 
 -- no two sessions of a sound opening have one number
-pub opened_apart : (x : Opening) → can_open x ≡ true → are_distinct x.sessions ≡ true
+pub opened_apart : (x : Opening) → is_sound x ≡ true → are_distinct x.sessions ≡ true
 opened_apart x can = and_left (are_distinct x.sessions) _ (and_right (nat_le (length x.sessions) most_sessions) _ (opened x can).sessions)

@@ -1,7 +1,6 @@
 -- The counts of a state grow by one for an entry at most, and its weight by 64 at least.
-use Rattle.std.proofs.Common.{◌≡◌, ◌≢◌, ℕ, ◌+◌, ◌*◌, ◌≤◌, List, [], ◌∷◌, length, refl, arith}
+use Rattle.std.proofs.Common.{◌≡◌, ◌≢◌, ℕ, ◌+◌, ◌≤◌, List, [], ◌∷◌, length, refl, arith}
 use Rattle.std.specs.List.{fold}
-use Rattle.site_words.specs.declared.words.AppStep.{AppStep}
 use Rattle.site_words.specs.declared.words.Entry.{Entry}
 use Rattle.site_words.specs.declared.words.Op.{Op}
 use Rattle.site_words.specs.declared.words.Op.TheVariants as op

@@ -7,3 +7,5 @@ pub mod SoloLemmas
 pub mod Lasts
 pub mod ReplyLemmas
 pub mod Items
+pub mod SiteCross
+pub mod Resting

@@ -1,39 +1,34 @@
 -- A site after one operation more.
 use Rattle.std.proofs.Common.{◌≡◌, ◌≢◌, ℕ, zero, suc, ◌+◌, ◌*◌, ◌^◌, ◌<◌, ◌≤◌, Bool, true, false, List, [], ◌∷◌, ◌++◌, length, map, replicate, set, Option, Some, None, refl, sym, ap, subst, ◌∙◌, arith}
-use Rattle.std.specs.Prelude.{◌&&◌, ◌==◌, nat_le, slice_get, if◌then◌else◌}
+use Rattle.std.specs.Prelude.{slice_get, if◌then◌else◌}
 use Rattle.std.proofs.lemmas.List.{length_push}
 use Rattle.source_tree.specs.declared.file.File.{File}
-use Rattle.edges.specs.declared.acted.Acted.{Acted}
-use Rattle.edges.specs.declared.acted.Acted.TheVariants.{Did, Refused, NoMemory}
+use Rattle.edges.specs.declared.acted.Acted.TheVariants.{Did, Refused}
 use Rattle.site_words.specs.declared.words.Entry.{Entry}
 use Rattle.site_words.specs.declared.words.Op.{Op}
 use Rattle.site_words.specs.declared.words.Op.TheVariants as op
 use Rattle.site_words.specs.declared.words.Opening.{Opening}
 use Rattle.site_words.specs.declared.words.Refusal.{Refusal}
 use Rattle.site_words.specs.declared.words.Reply.{Reply}
-use Rattle.site_words.specs.declared.words.Run.{Run}
-use Rattle.site_words.specs.Fits.{asks, has_run}
+use Rattle.site_words.specs.Fits.{asks}
 use Rattle.site_words.specs.Law.{Legal, May, Sure, own}
-use Rattle.site_words.specs.Runs.{UnderWay, begun, run_after, run_at, run_in, seated, under_after, under_at}
+use Rattle.site_words.specs.Opening.{is_sound}
+use Rattle.site_words.specs.Runs.{UnderWay, run_at, run_in, under_after, under_at}
 use Rattle.site_words.specs.State.{State, after, moved, start_of}
 use Rattle.site_words.specs.Step.{refusal_of, reply_to, step, stepped}
 use Rattle.site_words.specs.Trees.{Needs}
 use Rattle.site_words.specs.Weights.{weight_with}
 use Rattle.site_words.proofs.Legal.{after_push, passes_len}
 use Rattle.site_words.proofs.Promise.{within}
-use Rattle.site_words.proofs.Lasting.{seated_run}
 use Rattle.site_state.specs.declared.gift.Done.{Done}
-use Rattle.site_state.specs.declared.gift.Given.{Given}
-use Rattle.site_state.specs.declared.session.Session.{Session}
 use Rattle.site_state.specs.Gifts.{FitsGift}
 use Rattle.site_state.specs.Parts.{Parts, state_of}
-use Rattle.site_state.specs.Sources.{AreThere, sessions_of}
+use Rattle.site_state.specs.Sources.{AreThere}
 use Rattle.site_state.specs.Spare.{growth, is_last, open_runs}
-use Rattle.site_state.specs.Works.{AreKept, IsDone, Works, entry_of}
+use Rattle.site_state.specs.Works.{AreKept, IsDone, entry_of}
 use Rattle.site_state.proofs.AttributeLemmas.{same_attributes}
 use Rattle.site_core.specs.Applies.{Replies}
 use Rattle.site_core.specs.ReadSite.{IsSite}
-use Rattle.site_core.specs.Lived.{can_open}
 use Rattle.site_core.proofs.Conditions.{CanStep, can_step, follows, not_roll, opened}
 use Rattle.site_core.proofs.Counts.{weighs, weight_is}
 
@@ -139,7 +134,7 @@ module _ {P : Type 0} (needs : Needs) (made : P → List File → List ℕ → T
   next x history old new len capacity pass len' capacity' o done site may is grown room =
       let e : Entry = entry_of pass o done.reply in
       let short : 64 * length history ≤ (after needs x history).weight = subst (λ (s : State). 64 * length history ≤ s.weight) site.state site.short in
-      let can : CanStep needs x (state_of x history old) pass o = subst (λ (s : State). CanStep needs x s pass o) (sym site.state) (can_step needs x history pass o site.sound site.legal short may) in
+      let can : CanStep needs x (state_of x history old) pass o = subst (λ (s : State). CanStep needs x s pass o) (sym site.state) (can_step needs x history pass o site.sound site.limit site.legal short may) in
       let none : refusal_of needs x (after needs x history) pass o ≡ None = subst (λ (s : State). refusal_of needs x s pass o ≡ None) site.state is.allowed in
       let told : done.reply ≡ reply_to needs x (after needs x history) pass o = subst (λ (s : State). done.reply ≡ reply_to needs x s pass o) site.state is.reply_is in
       let moves = next_state x history old new len capacity pass o done site is in
@@ -151,6 +146,7 @@ module _ {P : Type 0} (needs : Needs) (made : P → List File → List ℕ → T
         state = moves ∙ sym (after_push needs x history e);
         legal = subst (λ r. Legal needs x (history ++ entry_of pass o r ∷ [])) (sym told) (follows needs x history pass o site.legal may none);
         sound = site.sound;
+        limit = site.limit;
         spare = spare_of len len' capacity' (open_runs new.runs) (open_runs (set old.runs pass (under_after old.tree (under_at old.runs pass) o done.reply))) (ap (λ r. open_runs r) runs) grown place.after;
         there = subst (λ n. AreThere n new.sessions) (sym (length_push history e)) (is.moves.there site.there);
         short = short_of (length history) (length (history ++ e ∷ [])) old.weight new.weight o done.reply (length_push history e) site.short (not_roll x history pass (own pass history) o may) weight;
@@ -199,14 +195,15 @@ none_open zero = refl
 none_open (suc n) = none_open n
 
 -- a site with an empty history
-pub starts : {P : Type 0} (needs : Needs) (made : P → List File → List ℕ → Type 0) (x : Opening) (history : List Entry) (parts : Parts P) (len capacity : ℕ) → can_open x ≡ true → history ≡ [] → state_of x [] parts ≡ start_of x → parts.kept ≡ []
+pub starts : {P : Type 0} (needs : Needs) (made : P → List File → List ℕ → Type 0) (x : Opening) (history : List Entry) (parts : Parts P) (len capacity : ℕ) → is_sound x ≡ true → x.limit < 2 ^ 64 → history ≡ [] → state_of x [] parts ≡ start_of x → parts.kept ≡ []
     → AreThere 0 parts.sessions → len ≡ 0 → IsSite needs made x history parts len capacity
-starts needs made x history parts len capacity can none is empty there at =
+starts needs made x history parts len capacity can limit none is empty there at =
     subst (λ h. IsSite needs made x h parts len capacity) (sym none)
     (record {
       state = is;
       legal = tt;
       sound = can;
+      limit = limit;
       spare = let start_x = ap (λ (s : State). open_runs s.runs) is ∙ none_open x.passes in omega arith;
       there = there;
       short = omega arith;
@@ -226,7 +223,7 @@ short_history needs made x history parts len capacity site =
     let start_x = opened x site.sound in
     let fair = within needs x history start_x.app site.legal in
     let weight : parts.weight ≡ (after needs x history).weight = ap (λ (s : State). s.weight) site.state in
-    let limit = start_x.limit in
+    let limit = site.limit in
     let short = site.short in
     let total = fair.total in
     omega arith
@@ -236,4 +233,4 @@ pub still : {P : Type 0} (needs : Needs) (made : P → List File → List ℕ �
     → len' + open_runs parts.runs ≤ capacity' → IsSite needs made x history' parts len' capacity'
 still needs made x history history' parts len capacity len' capacity' site same spare =
     subst (λ h. IsSite needs made x h parts len' capacity') (sym same)
-    (record { state = site.state; legal = site.legal; sound = site.sound; spare = spare; there = site.there; short = site.short; kept = site.kept })
+    (record { state = site.state; legal = site.legal; sound = site.sound; limit = site.limit; spare = spare; there = site.there; short = site.short; kept = site.kept })

@@ -7,10 +7,9 @@ use Rattle.site_words.specs.declared.words.Entry.{Entry}
 use Rattle.site_words.specs.declared.words.KeptSession.{KeptSession}
 use Rattle.site_words.specs.declared.words.Op.TheVariants as op
 use Rattle.site_words.specs.declared.words.Opening.{Opening}
-use Rattle.site_words.specs.declared.words.Reply.{Reply}
 use Rattle.site_words.specs.declared.words.Reply.TheVariants as reply
 use Rattle.site_words.specs.Answers.{Shows}
-use Rattle.site_words.specs.Sessions.{attrs_of, holder, is_idle, number_of, numbered, session_at, session_attrs}
+use Rattle.site_words.specs.Sessions.{attrs_of, holder, is_idle, number_of, session_at, session_attrs}
 use Rattle.site_words.specs.State.{State, after, moved}
 use Rattle.site_words.specs.Step.{shown, snapped_session}
 use Rattle.site_words.specs.Trees.{Needs}

@@ -1,5 +1,5 @@
 -- The reply that was given, by what the port answers.
-use Rattle.std.proofs.Common.{◌≡◌, ℕ, Bool, true, false, Option, Some, None, refl, sym, ap}
+use Rattle.std.proofs.Common.{◌≡◌, Bool, true, false, Option, Some, refl, sym, ap}
 use Rattle.std.specs.declared.sync.Arc.{Arc}
 use Rattle.site_words.specs.declared.port.Begun.{Begun}
 use Rattle.site_words.specs.declared.port.Fresh.{Fresh}
@@ -8,7 +8,7 @@ use Rattle.site_words.specs.declared.words.Reply.{Reply}
 use Rattle.site_words.specs.declared.words.Reply.TheVariants as reply
 use Rattle.site_words.specs.Answers.{is_hit}
 use Rattle.site_state.specs.declared.gift.Gift.{Gift}
-use Rattle.site_state.specs.declared.gift.Gift.TheVariants.{Nothing, Start, Made, Id, Picture}
+use Rattle.site_state.specs.declared.gift.Gift.TheVariants.{Start, Made, Id, Picture}
 use Rattle.site_core.specs.ReadGiven.{IsBegunBy, IsFoundBy, IsFreshBy, IsHitBy, IsSnappedBy}
 
 module _ {P : Type 0} where

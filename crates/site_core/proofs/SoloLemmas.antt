@@ -1,6 +1,6 @@
 -- A pass that acts alone.
-use Rattle.std.proofs.Common.{◌≡◌, ◌≢◌, ℕ, ◌+◌, ◌<◌, Bool, true, false, List, [], ◌∷◌, ◌++◌, Option, Some, None, refl, sym, ap, subst, ◌∙◌, if◌then◌else◌, arith, inl, inr}
-use Rattle.std.specs.Prelude.{⊤, nat_lt, ◌&&◌, nat_le, length}
+use Rattle.std.proofs.Common.{◌≡◌, ℕ, ◌+◌, Bool, true, false, List, Option, Some, None, refl, sym, ap, subst, ◌∙◌, if◌then◌else◌, inl, inr}
+use Rattle.std.specs.Prelude.{nat_lt, nat_le, length}
 use Rattle.std.proofs.lemmas.Bool.{cases_eq}
 use Rattle.source_tree.specs.declared.file.File.{File}
 use Rattle.edges.specs.declared.acted.Acted.{Acted}
@@ -18,8 +18,8 @@ use Rattle.site_words.specs.Fits.{has_none}
 use Rattle.site_words.specs.Invariants.{AllRest}
 use Rattle.site_words.specs.Law.{May, own, run_of}
 use Rattle.site_words.specs.Runs.{promised}
-use Rattle.site_words.specs.State.{State, after}
-use Rattle.site_words.specs.Step.{full, refusal_of, reply_to, step, stepped}
+use Rattle.site_words.specs.State.{after}
+use Rattle.site_words.specs.Step.{reply_to, stepped}
 use Rattle.site_words.specs.Trees.{Needs}
 use Rattle.site_words.specs.Weights.{most_cookie, promise}
 use Rattle.site_words.proofs.Gifts.{never_busy, others_rest}

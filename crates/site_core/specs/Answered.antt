@@ -1,7 +1,5 @@
 -- What an act of a pass comes to, and what a port answers by it.
-use Rattle.std.specs.Prelude.{◌≡◌, ℕ, ⊤, Bool, true, false, List, Option, Some, None, is_some}
-use Rattle.std.specs.Arc.{arc_value}
-use Rattle.std.specs.declared.sync.Arc.{Arc}
+use Rattle.std.specs.Prelude.{◌≡◌, ℕ, List}
 use Rattle.edges.specs.Calls as Generic
 use Rattle.edges.specs.declared.acted.Acted.{Acted}
 use Rattle.edges.specs.declared.acted.Acted.TheVariants.{Did, Refused, NoMemory}

@@ -1,12 +1,11 @@
 -- What contracts see of a site.
-use Rattle.std.specs.Prelude.{ℕ, ◌-◌, ◌^◌, Bool, ◌&&◌, nat_lt, List, [], ◌∷◌, ◌++◌}
+use Rattle.std.specs.Prelude.{ℕ, List, [], ◌∷◌, ◌++◌}
 use Rattle.pg_value.specs.Datum.{Datum}
 use Rattle.source_tree.specs.declared.file.File.{File}
 use Rattle.site_words.specs.declared.words.Entry.{Entry}
 use Rattle.site_words.specs.declared.words.Opening.{Opening}
 use Rattle.site_words.specs.declared.words.Op.{Op}
 use Rattle.site_words.specs.declared.words.Reply.{Reply}
-use Rattle.site_words.specs.Opening.{is_sound}
 
 -- a site is its opening and its history
 pub record Lived : Type 0 where
@@ -16,10 +15,6 @@ pub record Lived : Type 0 where
 -- with one entry more
 abbrev pub with_entry : Lived → ℕ → Op → Reply → Lived
 with_entry s pass o r = record { opening = s.opening; history = s.history ++ record { pass = pass; op = o; reply = r } ∷ [] }
-
--- a site may have the opening, and its limit is below the greatest number, at which weights stop
-abbrev pub can_open : Opening → Bool
-can_open x = is_sound x && nat_lt x.limit (2 ^ 64 - 1)
 
 -- the opening of a new site: version, counts and moment are 0, and there is no session
 abbrev pub first_opening : List ℕ → List (List ℕ × Datum) → List File → ℕ → ℕ → ℕ → Opening

@@ -1,18 +1,14 @@
 -- What a port answers by what it was given.
-use Rattle.std.specs.Prelude.{◌≡◌, ℕ, ⊤, Bool, true, false, Option, Some, None, is_some, Result, Ok, Err}
+use Rattle.std.specs.Prelude.{◌≡◌, ⊤, Bool, true, false, Option, Some, None}
 use Rattle.std.specs.Arc.{arc_value}
 use Rattle.std.specs.declared.sync.Arc.{Arc}
-use Rattle.edges.specs.declared.acted.Acted.{Acted}
-use Rattle.edges.specs.declared.acted.Acted.TheVariants.{Did, Refused, NoMemory}
 use Rattle.site_words.specs.declared.port.Begun.{Begun}
 use Rattle.site_words.specs.declared.port.Fresh.{Fresh}
 use Rattle.site_words.specs.declared.port.Snapped.{Snapped}
-use Rattle.site_words.specs.declared.words.Refusal.{Refusal}
 use Rattle.site_words.specs.declared.words.Reply.{Reply}
 use Rattle.site_words.specs.declared.words.Reply.TheVariants as reply
 use Rattle.site_state.specs.declared.gift.Gift.{Gift}
-use Rattle.site_state.specs.declared.gift.Gift.TheVariants.{Nothing, Start, Made, Id, Picture}
-use Rattle.site_state.specs.Gifts.{value_in}
+use Rattle.site_state.specs.declared.gift.Gift.TheVariants.{Start, Made, Id, Picture}
 
 module _ {P : Type 0} where
   -- a request that has begun, by the reply and the gift; with others there is none

@@ -1,11 +1,10 @@
-ghost use Rattle.std.specs.Prelude.{◌≡◌, ◌==◌, not, map, nat_le};
+ghost use Rattle.std.specs.Prelude.{◌≡◌, ◌==◌, ◌^◌, ◌<◌, not, map, nat_le};
 ghost use Rattle.std.specs.List.{list_all, list_any};
 ghost use Rattle.pg_value.specs.Limits.{is_over};
 ghost use Rattle.pg_value.specs.Value.{entry_of};
 ghost use Rattle.site_words.specs.declared.words.KeptSession.{KeptSession as TheSession};
-ghost use Rattle.site_words.specs.Opening.{are_distinct, is_sound_session, sound_app, sound_counts, sound_sessions, sound_tree};
+ghost use Rattle.site_words.specs.Opening.{are_distinct, is_sound, is_sound_session, sound_app, sound_counts, sound_sessions, sound_tree};
 ghost use Rattle.site_words.specs.Trees.{every};
-ghost use Rattle.site_core.specs.Lived.{can_open};
 
 use pg_text::Text;
 use pg_value::{Value, is_too_large};
@@ -26,13 +25,16 @@ const MAX_ATTRIBUTES_WEIGHT: u64 = 65_536;
 
 /// Whether a site may have the opening. It takes no memory.
 pub fn sound(opening: &Opening) -> bool
-    ensures { result ≡ can_open opening.now }
+    ensures { result ≡ is_sound opening.now }
 {
-    sound_counts(opening)
-        && sound_tree(opening)
-        && sound_app(opening)
-        && sound_sessions(opening)
-        && opening.limit < u64::MAX
+    sound_counts(opening) && sound_tree(opening) && sound_app(opening) && sound_sessions(opening)
+}
+
+/// Knows that the limit is a number of 64 bits.
+pub(crate) fn know_limit(opening: &Opening)
+    ensures { opening.now.limit < 2 ^ 64 }
+{
+    let _limit = opening.limit;
 }
 
 // Whether there are 1 to 64 passes, and the counts leave room.

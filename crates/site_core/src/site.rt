@@ -2,14 +2,16 @@ ghost use Rattle.std.specs.Prelude.{◌≡◌, ◌==◌, ◌<◌, ◌^◌, [], l
 ghost use Rattle.edges.specs.Acted.{IsDid};
 ghost use Rattle.site_words.specs.Fits.{at_rest, fits};
 ghost use Rattle.site_words.specs.Ids.{id_of};
+ghost use Rattle.site_words.specs.Invariants.{AllRest};
 ghost use Rattle.site_words.specs.Law.{Legal, May, Sure, own, run_of};
 ghost use Rattle.site_words.specs.Opening.{is_sound};
 ghost use Rattle.site_words.specs.State.{after};
 ghost use Rattle.site_state.specs.Gifts.{IsMade, value_in};
 ghost use Rattle.site_core.specs.Applies.{Applies};
-ghost use Rattle.site_core.specs.Lived.{can_open, first_opening};
+ghost use Rattle.site_core.specs.Lived.{first_opening};
 
 use crate::condition;
+use crate::opening::know_limit;
 use pg_text::Text;
 use pg_value::Attrs;
 use site_state::{Act, Done, Given, Held, session_id};
@@ -56,7 +58,7 @@ pub fn start<P: Compiled>(
     passes: u8,
     idle: u64,
 ) -> Result<Site<P>, AllocError>
-    requires { can_open (first_opening seed app tree limit passes idle) ≡ true }
+    requires { is_sound (first_opening seed app tree limit passes idle) ≡ true }
     ensures { IfOk result (λ site. (site.opening ≡ first_opening seed app tree limit passes idle) × (site.history ≡ [])) }
 {
     Site::resume(
@@ -80,9 +82,10 @@ pub fn start<P: Compiled>(
 impl<P: Compiled> Site<P> {
     /// The site of this opening, with an empty history.
     pub fn resume(alloc: Global, opening: Opening) -> Result<Self, AllocError>
-        requires { can_open opening ≡ true }
+        requires { is_sound opening ≡ true }
         ensures { IfOk result (λ site. (site.opening ≡ opening) × (site.history ≡ [])) }
     {
+        know_limit(&opening);
         let held = Held::start(alloc, &opening)?;
         Ok(Site {
             alloc,
@@ -128,7 +131,8 @@ impl<P: Compiled> Site<P> {
 
     /// Whether no request is under way.
     pub fn at_rest(&self) -> bool
-        ensures { result ≡ at_rest (after P.needs self.now.opening self.now.history).runs }
+        ensures rest { result ≡ true → AllRest self.now.opening self.now.history }
+        ensures answer { result ≡ at_rest (after P.needs self.now.opening self.now.history).runs }
     {
         condition::at_rest(&self.held.runs)
     }

@@ -25,7 +25,6 @@ module _ {P : Type 0} (needs : Needs) (made : P → List File → List ℕ → T
     goes_on = can.goes_on;
     value = is;
     total = can.total;
-    limit = can.limit;
     version = can.version;
     begins = can.begins;
     freshes = can.freshes;

@@ -35,7 +35,7 @@ use Rattle.site_state.specs.Works.{AreKept, IsDone}
 use Rattle.site_state.proofs.AttributeLemmas.{attrs_is, awake_is, found_is, holder_is, number_is, there_later}
 use Rattle.site_state.proofs.Keeping.{Laws, clean_is, dirty_is, published_made}
 use Rattle.site_state.proofs.Moving.{run_stays}
-use Rattle.site_state.proofs.Steps.{done_by, sum_alone, sum_is}
+use Rattle.site_state.proofs.Steps.{done_by, sum_alone, sum_held}
 
 -- a tree that edits make passes no limit
 pub no_fault : (files : List File) (tree : List File) → tree_of files ≡ Ok tree → tree_fault files ≡ None
@@ -122,7 +122,7 @@ module _ {P : Type 0} (needs : Needs) (made : P → List File → List ℕ → T
       → CanWork needs made x history old pass (op.Publish base edits) None → refusal_of needs x (state_of x history old) pass (op.Publish base edits) ≡ None
       → new ≡ record old { tree = tree; version = version; kept = kept; weight = sum }
       → version ≡ old.version + 1 → tree ≡ after_edits edits (old.version + 1) old.tree → kept ≡ clean_in needed (changed edits old.tree) old.kept
-      → sum ≡ min (old.weight + w) (2 ^ 64 - 1) → w ≡ capped (weight_with (op.Publish base edits) (reply.Published (old.version + 1) (dirty_in needed (changed edits old.tree) old.kept)))
+      → sum ≡ min (old.weight + w) (2 ^ 64 - 1) → w ≡ weight_with (op.Publish base edits) (reply.Published (old.version + 1) (dirty_in needed (changed edits old.tree) old.kept))
       → done.reply ≡ reply.Published (old.version + 1) (dirty_in needed (changed edits old.tree) old.kept) → done.given.reply ≡ reply.Published (old.version + 1) (dirty_in needed (changed edits old.tree) old.kept)
       → IsDone needs made x history old new pass (op.Publish base edits) done
   publish_done x history old new pass w sum version base edits tree kept done can none is version_is tree_is kept_is added claim told given =
@@ -141,7 +141,7 @@ module _ {P : Type 0} (needs : Needs) (made : P → List File → List ℕ → T
         freshes = refl;
         moment = refl;
         ready = ap (λ (l : List (List ℕ × P)). map kept_path l) kept_is ∙ clean_is needs made needed laws old.tree (changed edits old.tree) old.kept can.kept;
-        weight = sum_is old.weight sum w (weight_with (op.Publish base edits) r) added claim room;
+        weight = sum_held old.weight sum w (weight_with (op.Publish base edits) r) added claim room;
       })
       (there_later (length history) old.sessions)
       (λ all. subst (λ t. AreKept made t kept) (sym tree_is) (subst (λ l. AreKept made (after_edits edits (old.version + 1) old.tree) l) (sym kept_is) (published_made needs made needed laws old.tree (old.version + 1) edits old.kept (can.next edits) all))))

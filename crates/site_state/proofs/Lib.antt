@@ -10,3 +10,4 @@ pub mod JournalSteps
 pub mod Arms
 pub mod RankLemmas
 pub mod RowLemmas
+pub mod HeldCross

@@ -1,5 +1,6 @@
 -- What each operation does, by what its parts did.
-use Rattle.std.proofs.Common.{◌≡◌, ℕ, ◌+◌, ◌-◌, ◌^◌, ◌<◌, min, List, length, set, Option, None, refl, sym, ap, subst, ◌∙◌, arith}
+use Rattle.std.proofs.Common.{◌≡◌, ℕ, ◌+◌, ◌-◌, ◌^◌, ◌<◌, ◌≤◌, Bool, true, min, List, length, set, Option, Some, None, refl, sym, ap, subst, ◌∙◌, arith, if◌then◌else◌}
+use Rattle.std.specs.Prelude.{nat_le}
 use Rattle.source_tree.specs.declared.file.File.{File}
 use Rattle.pg_value.specs.Datum.{Datum}
 use Rattle.site_words.specs.declared.words.AppStep.{AppStep}
@@ -13,7 +14,8 @@ use Rattle.site_words.specs.App.{app_reply, app_step}
 use Rattle.site_words.specs.Runs.{UnderWay, run_at, seated, spent, tree_in, under_at}
 use Rattle.site_words.specs.Step.{refusal_of, reply_to}
 use Rattle.site_words.specs.Trees.{Needs}
-use Rattle.site_words.specs.Weights.{capped, weight_with}
+use Rattle.site_words.specs.Weights.{capped, most_cookie, op_weight, weight_held, weight_with}
+use Rattle.site_words.proofs.Items.{le_of, to_lt}
 use Rattle.site_state.specs.declared.gift.Done.{Done}
 use Rattle.site_state.specs.Gifts.{FitsGift}
 use Rattle.site_state.specs.Parts.{Parts, state_of}
@@ -29,6 +31,23 @@ claim_is weight w n is room = omega arith
 -- and the sum doesn't stop
 pub sum_is : (weight sum w n : ℕ) → sum ≡ min (weight + w) (2 ^ 64 - 1) → w ≡ capped n → weight + n < 2 ^ 64 → sum ≡ weight + n
 sum_is weight sum w n added is room = omega arith
+
+-- a claim that 64 bits hold is there
+pub held_claim : (w n : ℕ) → n < 2 ^ 64 → w ≡ capped n → Some w ≡ weight_held n
+held_claim w n small is =
+    let same : w ≡ n = omega arith in
+    ap (λ (m : ℕ). Some m) same ∙ sym (ap (λ b. if b then Some n else None) (to_lt n (2 ^ 64) small))
+
+-- a picture's claim is there, since its cookie is short
+pub snapshot_claim : (w : ℕ) (cookie : List ℕ) → nat_le (length cookie) most_cookie ≡ true → w ≡ capped (op_weight (op.Snapshot cookie)) → Some w ≡ weight_held (op_weight (op.Snapshot cookie))
+snapshot_claim w cookie short is =
+    let few : length cookie ≤ most_cookie = le_of (length cookie) most_cookie short in
+    let small : op_weight (op.Snapshot cookie) < 2 ^ 64 = omega arith in
+    held_claim w (op_weight (op.Snapshot cookie)) small is
+
+-- nor does the sum of a claim that is as it stands
+pub sum_held : (weight sum w n : ℕ) → sum ≡ min (weight + w) (2 ^ 64 - 1) → w ≡ n → weight + n < 2 ^ 64 → sum ≡ weight + n
+sum_held weight sum w n added is room = omega arith
 
 -- the same where the reply weighs nothing
 pub claim_alone : (weight w n : ℕ) → w ≡ capped n → weight + (n + 0) < 2 ^ 64 → w ≡ n

@@ -32,7 +32,6 @@ module _ {P : Type 0} (needs : Needs) (made : P → List File → List ℕ → T
     pub goes_on : o ≢ op.Roll
     pub value : IsMadeHere made (under_at parts.runs pass) o v
     pub total : parts.weight + promised parts.runs ≤ x.limit
-    pub limit : CanGrow x.limit
     pub version : CanGrow parts.version
     pub begins : CanGrow parts.begins
     pub freshes : CanGrow parts.freshes

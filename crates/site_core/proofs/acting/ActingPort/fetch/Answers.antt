@@ -1,4 +1,4 @@
-use Rattle.std.proofs.Common.{subst, List, ℕ}
+use Rattle.std.proofs.Common.{subst}
 use Rattle.std.specs.Prelude.{IfSome, ◌+◌}
 use Rattle.std.specs.Arc.{arc_value}
 use Rattle.site_words.specs.declared.words.Op.TheVariants as op

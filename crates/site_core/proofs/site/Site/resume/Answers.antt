@@ -12,5 +12,5 @@ start-requires-clause-distinct g c = opened_apart c.args.opening c.requires
 
 pub invariant_of-result : goal.invariant_of-result
 invariant_of-result g c =
-    starts g.P.Compiled.needs g.P.Compiled.made c.args.opening c.new.result.items (parts_of c.in_ok-held.held) (vec_len c.new.result) (vec_capacity c.new.result) c.requires c.new.ensures.items
+    starts g.P.Compiled.needs g.P.Compiled.made c.args.opening c.new.result.items (parts_of c.in_ok-held.held) (vec_len c.new.result) (vec_capacity c.new.result) c.requires c.know_limit.ensures c.new.ensures.items
     c.in_ok-held.ensures.state c.in_ok-held.ensures.kept c.in_ok-held.ensures.there c.new.ensures.len

@@ -7,12 +7,9 @@ use Rattle.site_state.specs.Parts.{parts_of}
 use Rattle.site_state.proofs.Arms.{arm_can, arm_weight, arm_works}
 use Rattle.site_state.proofs.held.Held.act.Goals as goal
 
-pub publish-requires-clause-can : goal.publish-requires-clause-can
-publish-requires-clause-can g c =
+pub publish-requires : goal.publish-requires
+publish-requires g c =
     arm_can g.P.Compiled.needs g.P.Compiled.made c.args.opening.now c.args.history.now (parts_of c.args.self.now) c.args.pass c.args.op.now (op.Publish c.in-Publish.base c.in-Publish.edits) (value_in c.args.made) None c.in-Publish.is c.requires tt
-
-pub publish-requires-clause-weight : goal.publish-requires-clause-weight
-publish-requires-clause-weight g c = arm_weight c.op_weight-weight.result c.args.op.now (op.Publish c.in-Publish.base c.in-Publish.edits) c.in-Publish.is c.op_weight-weight.ensures
 
 pub returns-in-Publish-clause-works : goal.returns-in-Publish-clause-works
 returns-in-Publish-clause-works g c =

@@ -17,13 +17,13 @@ returns-in-Some g c =
       refl,
     )
 
-pub returns-in-Some-full : goal.returns-in-Some-full
-returns-in-Some-full g c =
+pub returns-in-Err : goal.returns-in-Err
+returns-in-Err g c =
     let found : c.in-Ok.found ≡ found_at c.args.opening.now.seed c.args.cookie.now c.args.self.now.sessions = c.in-Ok.ensures in
     let busy_is : None ≡ busy (held_by (found_at c.args.opening.now.seed c.args.cookie.now c.args.self.now.sessions) (map under_in c.args.self.now.runs.items)) =
     c.in_default-busy.ensures ∙ (ap (λ r. busy (held_by c.in-Ok.found (map under_in r))) c.deref.ensures.value ∙ ap (λ f. busy (held_by f (map under_in c.args.self.now.runs.items))) found) in
-    let full_is : Some c.in-Some-full.refusal ≡ full_of c.args.opening.now.limit c.args.self.now.weight (promised (map under_in c.args.self.now.runs.items)) promise =
-    subst (λ r. Some c.in-Some-full.refusal ≡ full_of c.args.opening.now.limit c.args.self.now.weight (promised (map under_in r)) promise) c.deref-2.ensures.value (c.in-Some-full.ensures promise refl) in (
+    let full_is : Some c.in-Err.refusal ≡ full_of c.args.opening.now.limit c.args.self.now.weight (promised (map under_in c.args.self.now.runs.items)) promise =
+    subst (λ r. Some c.in-Err.refusal ≡ full_of c.args.opening.now.limit c.args.self.now.weight (promised (map under_in r)) promise) c.deref-2.ensures.value (c.in-Err.ensures.full promise refl) in (
       begin_refusal g.P.Compiled.needs g.P.Compiled.made c.args.opening.now c.args.history.now (parts_of c.args.self.now) c.args.pass c.args.cookie.now c.args.moment
           ∙ (ap (λ h. or_else h (full_of c.args.opening.now.limit c.args.self.now.weight (promised (map under_in c.args.self.now.runs.items)) promise)) (sym busy_is) ∙ sym full_is),
       refl,
@@ -35,7 +35,7 @@ returns g c =
     let busy_is : None ≡ busy (held_by (found_at c.args.opening.now.seed c.args.cookie.now c.args.self.now.sessions) (map under_in c.args.self.now.runs.items)) =
     c.in_default-busy.ensures ∙ (ap (λ r. busy (held_by c.in-Ok.found (map under_in r))) c.deref.ensures.value ∙ ap (λ f. busy (held_by f (map under_in c.args.self.now.runs.items))) found) in
     let full_is : None ≡ full_of c.args.opening.now.limit c.args.self.now.weight (promised (map under_in c.args.self.now.runs.items)) promise =
-    subst (λ r. None ≡ full_of c.args.opening.now.limit c.args.self.now.weight (promised (map under_in r)) promise) c.deref-2.ensures.value (c.in_default-full.ensures promise refl) in
+    subst (λ r. None ≡ full_of c.args.opening.now.limit c.args.self.now.weight (promised (map under_in r)) promise) c.deref-2.ensures.value (c.in_default-room.ensures.fits promise refl).1 in
     let runs : map under_in c.seat.new.runs.items ≡ set (map under_in c.args.self.now.runs.items) c.args.pass
     (Some (record { run = record { request = c.args.self.now.begins; version = c.args.self.now.version; session = number_in c.awake-session.result; left = promise - c.args.weight }; tree = c.args.self.now.tree.value })) =
     c.seat.ensures ∙ (λ i. set (map under_in c.args.self.now.runs.items) c.args.pass

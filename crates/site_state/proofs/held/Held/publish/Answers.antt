@@ -8,30 +8,30 @@ use Rattle.site_words.specs.declared.words.Reply.{Reply}
 use Rattle.site_words.specs.declared.words.Reply.TheVariants as reply
 use Rattle.site_words.specs.Runs.{promised}
 use Rattle.site_words.specs.Step.{full_of, too_large}
-use Rattle.site_words.specs.Weights.{capped, weight_with}
+use Rattle.site_words.specs.Weights.{weight_held, weight_with}
 use Rattle.site_state.specs.Parts.{parts_of, under_in}
 use Rattle.site_state.proofs.JournalSteps.{no_fault, publish_done, publish_refusal}
 use Rattle.site_state.proofs.Keeping.{Laws}
 use Rattle.site_state.proofs.held.Held.publish.Goals as goal
 
-pub returns-in-Some-full : goal.returns-in-Some-full
-returns-in-Some-full g c =
+pub returns-in-Err : goal.returns-in-Err
+returns-in-Err g c =
     let laws : Laws g.P.Compiled.needs g.P.Compiled.made g.P.Compiled.needed = record { keeps = g.met.P.Compiled.keeps; stand = g.met.P.Compiled.stand; agreeing = g.met.P.Compiled.agreeing } in
     let names : c.in-Ok-changed.names ≡ changed c.args.edits.now c.args.self.now.tree.value = c.in-Ok-changed.ensures ∙ ap (λ t. changed c.args.edits.now t) c.deref-2.ensures in
     let told : reply.Published (c.args.self.now.version + 1) c.in-Ok-dirty.dirty ≡ reply.Published (c.args.self.now.version + 1) (dirty_in g.P.Compiled.needed (changed c.args.edits.now c.args.self.now.tree.value) (kept_in c.args.self.now.store.shelves.items)) =
     ap (λ d. reply.Published (c.args.self.now.version + 1) d) (c.in-Ok-dirty.ensures ∙ ap (λ n. dirty_in g.P.Compiled.needed n (kept_in c.args.self.now.store.shelves.items)) names) in
-    let claim : c.with_reply-weight.result ≡ capped (weight_with (op.Publish c.args.base c.args.edits.now) (reply.Published (c.args.self.now.version + 1) (dirty_in g.P.Compiled.needed (changed c.args.edits.now c.args.self.now.tree.value) (kept_in c.args.self.now.store.shelves.items)))) =
-    c.with_reply-weight.ensures (op.Publish c.args.base c.args.edits.now) c.requires.weight ∙ ap (λ (r : Reply). capped (weight_with (op.Publish c.args.base c.args.edits.now) r)) told in
+    let claim : c.publishing_weight-claim.result ≡ weight_held (weight_with (op.Publish c.args.base c.args.edits.now) (reply.Published (c.args.self.now.version + 1) (dirty_in g.P.Compiled.needed (changed c.args.edits.now c.args.self.now.tree.value) (kept_in c.args.self.now.store.shelves.items)))) =
+    c.publishing_weight-claim.ensures ∙ ap (λ (r : Reply). weight_held (weight_with (op.Publish c.args.base c.args.edits.now) r)) told in
     let fine : tree_of (after_edits c.args.edits.now (c.args.self.now.version + 1) c.args.self.now.tree.value) ≡ Ok c.in-Ok.tree =
     subst (λ t. tree_of (after_edits c.args.edits.now (c.args.self.now.version + 1) t) ≡ Ok c.in-Ok.tree) c.deref.ensures c.in-Ok.ensures.answer in
     let no_limit : None ≡ too_large (tree_fault (after_edits c.args.edits.now (c.args.self.now.version + 1) c.args.self.now.tree.value)) =
     sym (ap (λ f. too_large f) (no_fault (after_edits c.args.edits.now (c.args.self.now.version + 1) c.args.self.now.tree.value) c.in-Ok.tree fine)) in
-    let full_is : Some c.in-Some-full.refusal ≡ full_of c.args.opening.now.limit c.args.self.now.weight (promised (map under_in c.args.self.now.runs.items))
+    let full_is : Some c.in-Err.refusal ≡ full_of c.args.opening.now.limit c.args.self.now.weight (promised (map under_in c.args.self.now.runs.items))
     (weight_with (op.Publish c.args.base c.args.edits.now) (reply.Published (c.args.self.now.version + 1) (dirty_in g.P.Compiled.needed (changed c.args.edits.now c.args.self.now.tree.value) (kept_in c.args.self.now.store.shelves.items)))) =
-    subst (λ r. Some c.in-Some-full.refusal ≡ full_of c.args.opening.now.limit c.args.self.now.weight (promised (map under_in r))
+    subst (λ r. Some c.in-Err.refusal ≡ full_of c.args.opening.now.limit c.args.self.now.weight (promised (map under_in r))
     (weight_with (op.Publish c.args.base c.args.edits.now) (reply.Published (c.args.self.now.version + 1) (dirty_in g.P.Compiled.needed (changed c.args.edits.now c.args.self.now.tree.value) (kept_in c.args.self.now.store.shelves.items)))))
-    c.deref-3.ensures.value (c.in-Some-full.ensures _ claim) in
-    (publish_refusal g.P.Compiled.needs g.P.Compiled.made g.P.Compiled.needed laws c.args.opening.now c.args.history.now (parts_of c.args.self.now) c.args.pass c.args.base c.args.edits.now None None (Some c.in-Some-full.refusal) c.requires.can.kept c.in_default.ensures no_limit full_is, refl)
+    c.deref-3.ensures.value (c.in-Err.ensures.full _ claim) in
+    (publish_refusal g.P.Compiled.needs g.P.Compiled.made g.P.Compiled.needed laws c.args.opening.now c.args.history.now (parts_of c.args.self.now) c.args.pass c.args.base c.args.edits.now None None (Some c.in-Err.refusal) c.requires.kept c.in_default.ensures no_limit full_is, refl)
 
 pub returns : goal.returns
 returns g c =
@@ -39,8 +39,8 @@ returns g c =
     let names : c.in-Ok-changed.names ≡ changed c.args.edits.now c.args.self.now.tree.value = c.in-Ok-changed.ensures ∙ ap (λ t. changed c.args.edits.now t) c.deref-2.ensures in
     let told : reply.Published (c.args.self.now.version + 1) c.in-Ok-dirty.dirty ≡ reply.Published (c.args.self.now.version + 1) (dirty_in g.P.Compiled.needed (changed c.args.edits.now c.args.self.now.tree.value) (kept_in c.args.self.now.store.shelves.items)) =
     ap (λ d. reply.Published (c.args.self.now.version + 1) d) (c.in-Ok-dirty.ensures ∙ ap (λ n. dirty_in g.P.Compiled.needed n (kept_in c.args.self.now.store.shelves.items)) names) in
-    let claim : c.with_reply-weight.result ≡ capped (weight_with (op.Publish c.args.base c.args.edits.now) (reply.Published (c.args.self.now.version + 1) (dirty_in g.P.Compiled.needed (changed c.args.edits.now c.args.self.now.tree.value) (kept_in c.args.self.now.store.shelves.items)))) =
-    c.with_reply-weight.ensures (op.Publish c.args.base c.args.edits.now) c.requires.weight ∙ ap (λ (r : Reply). capped (weight_with (op.Publish c.args.base c.args.edits.now) r)) told in
+    let claim : c.publishing_weight-claim.result ≡ weight_held (weight_with (op.Publish c.args.base c.args.edits.now) (reply.Published (c.args.self.now.version + 1) (dirty_in g.P.Compiled.needed (changed c.args.edits.now c.args.self.now.tree.value) (kept_in c.args.self.now.store.shelves.items)))) =
+    c.publishing_weight-claim.ensures ∙ ap (λ (r : Reply). weight_held (weight_with (op.Publish c.args.base c.args.edits.now) r)) told in
     let fine : tree_of (after_edits c.args.edits.now (c.args.self.now.version + 1) c.args.self.now.tree.value) ≡ Ok c.in-Ok.tree =
     subst (λ t. tree_of (after_edits c.args.edits.now (c.args.self.now.version + 1) t) ≡ Ok c.in-Ok.tree) c.deref.ensures c.in-Ok.ensures.answer in
     let no_limit : None ≡ too_large (tree_fault (after_edits c.args.edits.now (c.args.self.now.version + 1) c.args.self.now.tree.value)) =
@@ -49,11 +49,11 @@ returns g c =
     (weight_with (op.Publish c.args.base c.args.edits.now) (reply.Published (c.args.self.now.version + 1) (dirty_in g.P.Compiled.needed (changed c.args.edits.now c.args.self.now.tree.value) (kept_in c.args.self.now.store.shelves.items)))) =
     subst (λ r. None ≡ full_of c.args.opening.now.limit c.args.self.now.weight (promised (map under_in r))
     (weight_with (op.Publish c.args.base c.args.edits.now) (reply.Published (c.args.self.now.version + 1) (dirty_in g.P.Compiled.needed (changed c.args.edits.now c.args.self.now.tree.value) (kept_in c.args.self.now.store.shelves.items)))))
-    c.deref-3.ensures.value (c.in_default-full.ensures _ claim) in
-    publish_done g.P.Compiled.needs g.P.Compiled.made g.P.Compiled.needed laws c.args.opening.now c.args.history.now (parts_of c.args.self.now) _ c.args.pass c.with_reply-weight.result c.saturating_add-self.result (c.args.self.now.version + 1)
-    c.args.base c.args.edits.now c.in-Ok-new.tree.value (kept_in c.clear.new.self.shelves.items) c.plain.result c.requires.can
-    (publish_refusal g.P.Compiled.needs g.P.Compiled.made g.P.Compiled.needed laws c.args.opening.now c.args.history.now (parts_of c.args.self.now) c.args.pass c.args.base c.args.edits.now None None None c.requires.can.kept c.in_default.ensures no_limit full_is)
+    c.deref-3.ensures.value (c.in-Ok-room.ensures.fits _ claim).1 in
+    publish_done g.P.Compiled.needs g.P.Compiled.made g.P.Compiled.needed laws c.args.opening.now c.args.history.now (parts_of c.args.self.now) _ c.args.pass c.in-Ok-room.weight c.saturating_add-self.result (c.args.self.now.version + 1)
+    c.args.base c.args.edits.now c.in-Ok-new.tree.value (kept_in c.clear.new.self.shelves.items) c.plain.result c.requires
+    (publish_refusal g.P.Compiled.needs g.P.Compiled.made g.P.Compiled.needed laws c.args.opening.now c.args.history.now (parts_of c.args.self.now) c.args.pass c.args.base c.args.edits.now None None None c.requires.kept c.in_default.ensures no_limit full_is)
     refl refl
     (c.in-Ok-new.ensures.ok ∙ (c.in-Ok.ensures.files ∙ ap (λ t. after_edits c.args.edits.now (c.args.self.now.version + 1) t) c.deref.ensures))
     (c.clear.ensures.clean (changed c.args.edits.now c.args.self.now.tree.value) (c.in-Ok-copy.ensures ∙ c.in-Ok-dirty.ensures ∙ ap (λ n. dirty_in g.P.Compiled.needed n (kept_in c.args.self.now.store.shelves.items)) names))
-    c.saturating_add-self.ensures claim (c.plain.ensures.reply ∙ told) (c.plain.ensures.told ∙ (ap (λ d. reply.Published (c.args.self.now.version + 1) d) c.in-Ok-copy.ensures ∙ told))
+    c.saturating_add-self.ensures (c.in-Ok-room.ensures.fits _ claim).0 (c.plain.ensures.reply ∙ told) (c.plain.ensures.told ∙ (ap (λ d. reply.Published (c.args.self.now.version + 1) d) c.in-Ok-copy.ensures ∙ told))
