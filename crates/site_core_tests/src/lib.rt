@@ -1,17 +1,11 @@
-//! Tests of a site: its operations as one step, its sessions and its journal's limit.
+//! Operations on a site in words, for the tests of sites.
 #![tactic(auto)]
 
 mod calls;
 mod fresh_site;
-#[cfg(test)]
-mod journal_cases;
 mod line;
 mod opening;
 mod script;
-#[cfg(test)]
-mod session_cases;
-#[cfg(test)]
-mod step_cases;
 mod word;
 
 pub use calls::{step, told};

@@ -11,11 +11,10 @@ fn page_of(alloc: Global, files: &[(&str, &str)]) -> Result<String, Fail> {
     }
 }
 
-#[test]
-fn includes_stand_in_place(rt: HostRuntime) -> Result<(), Fail> {
-    let alloc = rt.alloc();
-    let shown = page_of(
-        alloc,
+// Files of which the first is a page, and what it is shown as.
+const ROWS: [(&[(&str, &str)], &str); 2] = [
+    // Includes stand in place.
+    (
         &[
             (
                 "/a.jsp",
@@ -26,19 +25,10 @@ fn includes_stand_in_place(rt: HostRuntime) -> Result<(), Fail> {
                 "<%@ taglib prefix=\"c\" %><%@ include file=\"a.jsp\" %><%@ include file=\"no\" %>",
             ),
         ],
-    )?;
-    assert_eq!(rt;
-        shown.as_str(),
-        "'<c:x/>' 75{ @taglib cycle{ } absent{ } } x( @page ) Unclosed y( ) /b.jsp /a.jsp /no /b.jsp /a.jsp /no /b.jsp /a.jsp /no /a.jsp /no "
-    );
-    Ok(())
-}
-
-#[test]
-fn included_directives_decide_for_the_page(rt: HostRuntime) -> Result<(), Fail> {
-    let alloc = rt.alloc();
-    let shown = page_of(
-        alloc,
+        "'<c:x/>' 75{ @taglib cycle{ } absent{ } } x( @page ) Unclosed y( ) /b.jsp /a.jsp /no /b.jsp /a.jsp /no /b.jsp /a.jsp /no /a.jsp /no ",
+    ),
+    // Included directives decide for the page.
+    (
         &[
             ("/a.jsp", " ${1}<%@ include file=\"/b.jsp\" %> <%@ page %>"),
             (
@@ -46,33 +36,33 @@ fn included_directives_decide_for_the_page(rt: HostRuntime) -> Result<(), Fail> 
                 "<%@ page isELIgnored=\"true\" trimDirectiveWhitespaces=\"true\" %>",
             ),
         ],
-    )?;
-    assert_eq!(rt;
-        shown.as_str(),
-        "' ${1}' 62{ @page } @page /b.jsp /b.jsp /b.jsp "
-    );
+        "' ${1}' 62{ @page } @page /b.jsp /b.jsp /b.jsp ",
+    ),
+];
+
+#[test]
+fn includes_stand_in_place_and_decide(rt: HostRuntime) -> Result<(), Fail> {
+    for &(files, wanted) in &ROWS {
+        assert_eq!(rt; page_of(rt.alloc(), files)?.as_str(), wanted);
+    }
     Ok(())
 }
 
 // A page that includes a file within so many elements.
 fn nested(alloc: Global, levels: usize) -> Result<String, Fail> {
-    let mut page = String::from_str(alloc, "<%@ taglib prefix=\"c\" %>")?;
-    for _ in 0..levels {
-        page.push_str("<c:x>")?;
-    }
-    page.push_str("<%@ include file=\"b\" %>")?;
-    for _ in 0..levels {
-        page.push_str("</c:x>")?;
-    }
+    let starts = "<c:x>".repeat(alloc, levels)?;
+    let ends = "</c:x>".repeat(alloc, levels)?;
+    let page = format!(in alloc;
+        "<%@ taglib prefix=\"c\" %>{starts}<%@ include file=\"b\" %>{ends}"
+    )?;
     page_of(alloc, &[("/a.jsp", page.as_str()), ("/b", "text")])
 }
 
 #[test]
 fn no_file_is_read_within_65_elements(rt: HostRuntime) -> Result<(), Fail> {
-    let alloc = rt.alloc();
-    let within = nested(alloc, 64)?;
-    assert!(rt; within.as_str().contains("( 4{ 'text' } )"));
-    let beyond = nested(alloc, 65)?;
-    assert!(rt; beyond.as_str().contains("( 4{ } )"));
+    for &(levels, wanted) in &[(64, "( 4{ 'text' } )"), (65, "( 4{ } )")] {
+        let shown = nested(rt.alloc(), levels)?;
+        assert!(rt; shown.as_str().contains(wanted));
+    }
     Ok(())
 }

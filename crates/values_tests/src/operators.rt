@@ -3,9 +3,21 @@ use pg_value::{BinOp, Failure, RunFault, UnOp, Value, from_json};
 use std::alloc::Global;
 use std::test::Fail;
 
+// Whether an operator on the values of two JSON texts answers so.
+fn answers(
+    alloc: Global,
+    left: &str,
+    op: BinOp,
+    right: &str,
+    answer: Result<&str, RunFault>,
+) -> Result<bool, Fail> {
+    let left = from_json(alloc, left.as_bytes())?;
+    let right = from_json(alloc, right.as_bytes())?;
+    is_answer(alloc, binary(alloc, op, &left, &right), answer)
+}
+
 #[test]
 fn operators_answer_the_table(rt: HostRuntime) -> Result<(), Fail> {
-    let alloc = rt.alloc();
     for &(left, op, right, answer) in &[
         ("1", BinOp::Add, "\"2\"", Ok("3")),
         (
@@ -34,10 +46,7 @@ fn operators_answer_the_table(rt: HostRuntime) -> Result<(), Fail> {
         ("true", BinOp::Or, "1", Ok("true")),
         ("false", BinOp::Or, "1", Err(RunFault::NotABoolean)),
     ] {
-        let left_value = from_json(alloc, left.as_bytes())?;
-        let right_value = from_json(alloc, right.as_bytes())?;
-        let found = binary(alloc, op, &left_value, &right_value);
-        assert!(rt; is_answer(alloc, found, answer)?);
+        assert!(rt; answers(rt.alloc(), left, op, right, answer)?);
     }
     Ok(())
 }
