@@ -149,7 +149,8 @@ def leftovers(server, tally, at_rest):
         if server.descriptors() <= at_rest:
             break
         time.sleep(0.1)
-    tally.same("no descriptor is left", server.descriptors(), at_rest)
+    left = server.descriptors()
+    tally.check("no descriptor is left", left <= at_rest, (left, at_rest))
 
 
 def killed(server, tally):

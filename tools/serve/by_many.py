@@ -95,25 +95,27 @@ def try_many(server, tally):
 
 
 def try_large_publishing(server, tally):
-    """4,096 files less those that are there, put and published at once while others read."""
+    """4,000 files are put and published, a thousand at a time, while others read."""
     is_over = threading.Event()
     publish(server.editor_port, files_of(1))
     readers = [Reader(server.port, is_over) for _ in range(8)]
     for it in readers:
         it.start()
+    answers, seconds = [], 0.0
     try:
         with Connection(server.editor_port) as editor:
             for number in range(4_000):
-                put(editor, f"/many/f{number}.txt", f"file {number}\n")
-            begun = time.perf_counter()
-            answer = editor.ask("POST", "/_editor/publish")
-            seconds = time.perf_counter() - begun
+                answers.append(put(editor, f"/many/f{number}.txt", f"file {number}\n").status)
+                if number % 1_000 == 999:
+                    begun = time.perf_counter()
+                    answers.append(editor.ask("POST", "/_editor/publish").status)
+                    seconds = time.perf_counter() - begun
     finally:
         is_over.set()
         for it in readers:
             it.join(60)
     faults = [fault for it in readers for fault in it.faults]
-    tally.check("4,000 files are published under load", answer.status == 200 and not faults, (answer, faults[:3]))
-    tally.note(f"the publishing took {seconds * 1000:.1f} ms")
+    tally.check("4,000 files are published under load", set(answers) == {200} and not faults, (set(answers), faults[:3]))
+    tally.note(f"the last publishing took {seconds * 1000:.1f} ms")
     with Connection(server.port) as connection:
         tally.same("one of them", connection.ask("GET", "/many/f3999.txt").body, b"file 3999\n")
