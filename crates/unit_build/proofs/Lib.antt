@@ -5,6 +5,7 @@ pub mod MoreLemmas
 pub mod FoundLemmas
 pub mod BeanLemmas
 pub mod OkLemmas
+pub mod OpenLemmas
 pub mod FunctionLemmas
 pub mod ValueLemmas
 pub mod CallLemmas

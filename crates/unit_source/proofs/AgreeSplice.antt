@@ -1,5 +1,5 @@
 -- Sites that agree on the names of a root have the same root.
-use Rattle.std.proofs.Common.{◌≡◌, ℕ, zero, suc, Bool, true, false, cond, List, [], ◌∷◌, refl, ap, ◌∙◌, Option, Some, None, length}
+use Rattle.std.proofs.Common.{◌≡◌, ℕ, zero, suc, Bool, true, false, cond, List, [], ◌∷◌, refl, ap, ◌∙◌, leb, Option, Some, None, length}
 use Rattle.std.specs.Prelude.{codes}
 use Rattle.std.specs.Option.{is_some}
 use Rattle.pg_value.specs.declared.settings.PageSettings.{PageSettings}
@@ -8,13 +8,13 @@ use Rattle.page_pieces.specs.Settings.{brought_at, contains_text, value_of}
 use Rattle.page_directives.specs.Directive.{Directive}
 use Rattle.page_directives.specs.Settings.{settings_of}
 use Rattle.unit_source.specs.declared.entry.Entry.{Entry}
-use Rattle.unit_source.specs.declared.entry.Entry.TheVariants.{Cycle, Entered}
+use Rattle.unit_source.specs.declared.entry.Entry.TheVariants.{Cycle, Unread}
 use Rattle.unit_source.specs.Files.{Files}
 use Rattle.unit_source.specs.First.{First, included_path, own_directives, firsts_by, brought_by, brought_names, first_within, most_deep}
 use Rattle.unit_source.specs.InPlace.{InPlace, done, leaf, element, broken, included}
 use Rattle.unit_source.specs.Laws.{Agree}
 use Rattle.unit_source.specs.Root.{root_of, second_reading, with_first, rooted}
-use Rattle.unit_source.specs.Splice.{Going, Spliced, deeper, full, registered, with_prefixes, with_file, Inner, Enter, has_room, nothing_read, file_read, text_read, target_read, include_read, leaf_then, element_then, broken_then, include_then, nodes_read, file_nodes, with_names, file_with, spliced_within}
+use Rattle.unit_source.specs.Splice.{Going, Spliced, deeper, full, registered, with_prefixes, with_file, Inner, Enter, has_room, most_nested, nothing_read, file_read, room_read, text_read, target_read, include_read, leaf_then, element_then, broken_then, include_then, nodes_read, file_nodes, with_names, file_with, spliced_within}
 use Rattle.unit_source.proofs.AgreeFirst.{agree_left, agree_right, within_same, firsts_same}
 
 -- so are the readings that enter a file
@@ -31,18 +31,37 @@ head_if : (f g : Files) (b : Bool) (target text : List ℕ) (x : Spliced) (going
 head_if f g true target text x going later entry a = a.0
 head_if f g false target text x going later entry a = a.0
 
+room_head : (f g : Files) (e : Enter) (around : ℕ) (target text : List ℕ) (going : Going) → Agree f g (room_read e around target text going).names → f target ≡ g target
+room_head f g e around target text going a =
+    head_if f g (has_room (length text) going) target text (e around target text (with_file (length text) going)) going (full going) (Unread (length text)) a
+
+nested_head : (f g : Files) (b : Bool) (target : List ℕ) (x : Inner) (going : Going) (entry : Entry) → (Agree f g x.names → f target ≡ g target)
+    → Agree f g (cond b x (nothing_read entry (target ∷ []) going)).names → f target ≡ g target
+nested_head f g true target x going entry h a = h a
+nested_head f g false target x going entry h a = a.0
+
 head_of : (f g : Files) (e : Enter) (around : ℕ) (target : List ℕ) (o : Option (List ℕ)) (going : Going)
     → Agree f g (text_read e around target o going).names → f target ≡ g target
 head_of f g e around target None going a = a.0
 head_of f g e around target (Some text) going a =
-    head_if f g (has_room around (length text) going) target text (e around target text (with_file (length text) going)) going (full going) (Entered (length text)) a
+    nested_head f g (leb around most_nested) target (room_read e around target text going) going (Unread (length text)) (room_head f g e around target text going) a
+
+room_same : (f g : Files) (e d : Enter) → SameSpliced f g e d → (around : ℕ) (target text : List ℕ) (going : Going)
+    → Agree f g (room_read e around target text going).names → room_read e around target text going ≡ room_read d around target text going
+room_same f g e d h around target text going a =
+    read_if f g (has_room (length text) going) target text (e around target text (with_file (length text) going)) (d around target text (with_file (length text) going)) going
+    (nothing_read (Unread (length text)) (target ∷ []) (full going)) (h around target text (with_file (length text) going)) a
+
+nested_if : (f g : Files) (b : Bool) (x y z : Inner) → (Agree f g x.names → x ≡ y) → Agree f g (cond b x z).names → cond b x z ≡ cond b y z
+nested_if f g true x y z h a = h a
+nested_if f g false x y z h a = refl
 
 text_same : (f g : Files) (e d : Enter) → SameSpliced f g e d → (around : ℕ) (target : List ℕ) (o : Option (List ℕ)) (going : Going)
     → Agree f g (text_read e around target o going).names → text_read e around target o going ≡ text_read d around target o going
 text_same f g e d h around target None going a = refl
 text_same f g e d h around target (Some text) going a =
-    read_if f g (has_room around (length text) going) target text (e around target text (with_file (length text) going)) (d around target text (with_file (length text) going)) going
-    (nothing_read (Entered (length text)) (target ∷ []) (full going)) (h around target text (with_file (length text) going)) a
+    nested_if f g (leb around most_nested) (room_read e around target text going) (room_read d around target text going) (nothing_read (Unread (length text)) (target ∷ []) going)
+    (room_same f g e d h around target text going) a
 
 chain_if : (f g : Files) (b : Bool) (x y z : Inner) → (Agree f g x.names → x ≡ y) → Agree f g (cond b z x).names → cond b z x ≡ cond b z y
 chain_if f g true x y z h a = refl

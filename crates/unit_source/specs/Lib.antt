@@ -10,3 +10,4 @@ pub mod ReadSplice
 pub mod ReadSteps
 pub mod Root
 pub mod Splice
+pub mod Whole

@@ -14,10 +14,11 @@ use Rattle.page_reader.specs.Trees.{Opened}
 use Rattle.page_directives.specs.Directive.{Directive}
 use Rattle.page_directives.specs.Taglibs.{prefix_in}
 use Rattle.unit_source.specs.declared.entry.Entry.{Entry}
-use Rattle.unit_source.specs.declared.entry.Entry.TheVariants.{Unnamed, Absent, Cycle, Entered}
+use Rattle.unit_source.specs.declared.entry.Entry.TheVariants.{Unnamed, Absent, Cycle, Entered, Unread}
 use Rattle.unit_source.specs.Files.{Files}
 use Rattle.unit_source.specs.First.{First, directive, included_path, own_directives, firsts_by, brought_by, brought_names, most_files}
 use Rattle.unit_source.specs.InPlace.{InPlace, done, leaf, element, broken, included, placed, trimmed, with_stop}
+use Rattle.unit_source.specs.Whole.{known}
 
 -- the prefixes that are registered so far, and the files and bytes of this page or tag file with its includes
 pub record Going : Type 0 where
@@ -50,7 +51,7 @@ with_prefixes prefixes going = record { prefixes = going.prefixes ++ prefixes; f
 abbrev pub with_file : ℕ → Going → Going
 with_file bytes going = record { prefixes = going.prefixes; files = going.files + 1; bytes = going.bytes + bytes }
 
--- a limit was passed: no file more is read
+-- a limit of files or bytes was passed: no file more is read
 abbrev pub full : Going → Going
 full going = record { prefixes = going.prefixes; files = most_files; bytes = going.bytes }
 
@@ -71,9 +72,9 @@ nothing_read entry names going = record { entry = entry; names = names; nodes = 
 abbrev pub file_read : List ℕ → List ℕ → Spliced → Going → Inner
 file_read target text inner going = record { entry = Entered (length text); names = target ∷ inner.names; nodes = inner.nodes; going = with_counts inner.going going }
 
--- a file of so many bytes is read within so many elements, where the page or tag file passes no limit by it
-abbrev pub has_room : ℕ → ℕ → Going → Bool
-has_room around bytes going = nat_le around most_nested && nat_lt going.files most_files && nat_le (going.bytes + bytes) most_bytes
+-- by a file of so many bytes the page or tag file passes no limit of files or bytes
+abbrev pub has_room : ℕ → Going → Bool
+has_room bytes going = nat_lt going.files most_files && nat_le (going.bytes + bytes) most_bytes
 
 -- one open element more, counted no further than to where nothing is read
 abbrev pub deeper : ℕ → ℕ
@@ -83,13 +84,18 @@ deeper around = if nat_le around most_nested then around + 1 else around
 abbrev pub Enter : Type 0
 Enter = ℕ → (path text : List ℕ) → Going → Spliced
 
--- behind a limit of the unit nothing is read
+-- behind a limit of files or bytes nothing is read
+abbrev pub room_read : Enter → ℕ → (target text : List ℕ) → Going → Inner
+room_read enter around target text going =
+    if has_room (length text) going
+    then file_read target text (enter around target text (with_file (length text) going)) going
+    else nothing_read (Unread (length text)) (target ∷ []) (full going)
+
+-- within too many elements a file isn't read, but later ones are
 abbrev pub text_read : Enter → ℕ → List ℕ → Option (List ℕ) → Going → Inner
 text_read enter around target None going = nothing_read Absent (target ∷ []) going
 text_read enter around target (Some text) going =
-    if has_room around (length text) going
-    then file_read target text (enter around target text (with_file (length text) going)) going
-    else nothing_read (Entered (length text)) (target ∷ []) (full going)
+    if nat_le around most_nested then room_read enter around target text going else nothing_read (Unread (length text)) (target ∷ []) going
 
 abbrev pub target_read : Enter → Files → (chain : List (List ℕ)) → ℕ → (has_text : Bool) → Option (List ℕ) → Going → Inner
 target_read enter files chain around false target going = nothing_read Unnamed [] going
@@ -111,7 +117,7 @@ abbrev pub leaf_then : Leaf → Place → Spliced → Spliced
 leaf_then kind place next = spliced (leaf kind place next.nodes) next.names next.going
 
 abbrev pub element_then : Opened → Spliced → Spliced → Spliced
-element_then opened inner next = spliced (element opened inner.nodes next.nodes) (inner.names ++ next.names) next.going
+element_then opened inner next = spliced (element (known inner.nodes opened) inner.nodes next.nodes) (inner.names ++ next.names) next.going
 
 abbrev pub broken_then : PageFault → Spliced → Spliced
 broken_then fault next = spliced (broken fault next.nodes) next.names next.going

@@ -21,6 +21,7 @@ mod second;
 mod source_file;
 mod splice;
 mod steps;
+mod whole;
 
 pub use directive::WrittenDirective;
 pub use entry::Entry;

@@ -114,17 +114,17 @@ impl Progress {
         self.prefixes = prefixes;
     }
 
-    // Whether a file of so many bytes may be read within so many open elements.
-    pub fn has_room(&self, around: usize, bytes: usize) -> bool
+    // Whether a file of so many bytes passes no limit of files or bytes.
+    pub fn has_room(&self, bytes: usize) -> bool
         requires { bytes ≤ MAX_UNIT_BYTES }
-        ensures { result ≡ has_room around bytes self.now.going }
+        ensures { result ≡ has_room bytes self.now.going }
     {
-        around <= MAX_NESTING && self.files < MAX_UNIT_FILES && self.bytes + bytes <= MAX_UNIT_BYTES
+        self.files < MAX_UNIT_FILES && self.bytes + bytes <= MAX_UNIT_BYTES
     }
 
-    // A file of so many bytes is read, within so many open elements.
-    pub fn count_file(&mut self, around: usize, bytes: usize)
-        requires { has_room around bytes self.old.going ≡ true }
+    // A file of so many bytes is read.
+    pub fn count_file(&mut self, bytes: usize)
+        requires { has_room bytes self.old.going ≡ true }
         ensures { self.new ≡ gone self.old.names (with_file bytes self.old.going) }
     {
         self.files += 1;

@@ -1,0 +1,28 @@
+-- Files that are lacking among nodes in place.
+use Rattle.std.proofs.Common.{◌≡◌, ◌||◌, Bool, true, false, List, refl, ap, sym, ◌∙◌}
+use Rattle.unit_source.specs.declared.entry.Entry.{Entry}
+use Rattle.unit_source.specs.InPlace.{InPlace, done, leaf, element, broken, included, followed}
+use Rattle.unit_source.specs.Whole.{is_lacking, lacks_file}
+
+or_false : (b : Bool) → b || false ≡ b
+or_false true = refl
+or_false false = refl
+
+or_assoc : (a b c : Bool) → (a || b) || c ≡ a || (b || c)
+or_assoc true b c = refl
+or_assoc false b c = refl
+
+-- nodes, one after the other
+pub lacks_followed : (a b : InPlace) → lacks_file (followed a b) ≡ (lacks_file a || lacks_file b)
+lacks_followed done b = refl
+lacks_followed (leaf kind place next) b = lacks_followed next b
+lacks_followed (element opened body next) b = lacks_followed next b
+lacks_followed (broken fault next) b = lacks_followed next b
+lacks_followed (included d entry body next) b =
+    ap (λ n. is_lacking entry || (lacks_file body || n)) (lacks_followed next b)
+    ∙ ap (λ n. is_lacking entry || n) (sym (or_assoc (lacks_file body) (lacks_file next) (lacks_file b)))
+    ∙ sym (or_assoc (is_lacking entry) (lacks_file body || lacks_file next) (lacks_file b))
+
+-- an include directive alone
+pub lacks_include : (entry : Entry) (body : InPlace) → (is_lacking entry || (lacks_file body || false)) ≡ (is_lacking entry || lacks_file body)
+lacks_include entry body = ap (λ n. is_lacking entry || n) (or_false (lacks_file body))
