@@ -17,6 +17,6 @@ pub mod LeadsLemmas
 mod AgreeNames
 mod AgreeWalk
 pub mod AgreeUnit
-pub mod NodeLemmas
+pub mod BuiltLemmas
 pub mod LeastNames
 pub mod BuildingLemmas

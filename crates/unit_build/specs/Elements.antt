@@ -15,8 +15,8 @@ use Rattle.jstl_tags.specs.Rows.{Row}
 use Rattle.jstl_tags.specs.Content.{given_names, is_standard, takes_parts}
 use Rattle.jstl_tags.specs.Around.{Host, core_host, standard_host, call_host, other_host, Around}
 use Rattle.jstl_tags.specs.Check.{row_faults, core_faults, child_faults, is_whole, place_faults, taken_faults}
-use Rattle.unit_build.specs.declared.jsp_name.JspName.{JspName}
-use Rattle.unit_build.specs.declared.jsp_name.JspName.TheVariants as jsp
+use Rattle.unit_nodes.specs.declared.jsp_name.JspName.{JspName}
+use Rattle.unit_nodes.specs.declared.jsp_name.JspName.TheVariants as jsp
 use Rattle.unit_build.specs.Calls.{call_faults, call_value_faults}
 use Rattle.unit_source.specs.Splice.{most_nested}
 use Rattle.unit_build.specs.Kinds.{Kind, core, standard, call, refused}

@@ -13,7 +13,6 @@ ghost use Rattle.unit_source.specs.Placed.{in_place};
 ghost use Rattle.unit_build.specs.Elements.{Here as Around, asked, element_faults, is_text_alone, kind_faults, own_faults, takes_text_alone, value_faults};
 ghost use Rattle.unit_build.specs.Made.{around_made, here_made, kind_made};
 
-use crate::JspName;
 use crate::body::{has_open_body, push_inner, push_standing};
 use crate::calls::{call_faults, call_value_faults};
 use crate::here::Here;
@@ -28,6 +27,7 @@ use page_reader::Element;
 use pg_text::TranslationFault;
 use std::alloc::{AllocError, Global};
 use tag_decl::TagDecl;
+use unit_nodes::JspName;
 use unit_source::{MAX_NESTING, PlacedElement, PlacedNode};
 
 // Whether an attribute takes text alone.
