@@ -73,6 +73,6 @@ fn no_file_is_read_within_65_elements(rt: HostRuntime) -> Result<(), Fail> {
     let within = nested(alloc, 64)?;
     assert!(rt; within.as_str().contains("( 4{ 'text' } )"));
     let beyond = nested(alloc, 65)?;
-    assert!(rt; beyond.as_str().contains("( 4{ } )"));
+    assert!(rt; beyond.as_str().contains("( unread{ } )"));
     Ok(())
 }
