@@ -14,7 +14,8 @@ use Rattle.unit_source.specs.First.{First, included_path, own_directives, firsts
 use Rattle.unit_source.specs.InPlace.{InPlace, done, leaf, element, broken, included}
 use Rattle.unit_source.specs.Laws.{Agree}
 use Rattle.unit_source.specs.Root.{root_of, second_reading, with_first, rooted}
-use Rattle.unit_source.specs.Splice.{Going, Spliced, deeper, full, registered, with_prefixes, with_file, Inner, Enter, has_room, most_nested, nothing_read, file_read, room_read, text_read, target_read, include_read, leaf_then, element_then, broken_then, include_then, nodes_read, file_nodes, with_names, file_with, spliced_within}
+use Rattle.unit_source.specs.Splice.{Going, Spliced, deeper, full, registered, with_prefixes, with_file, Inner, Enter, most_nested, nothing_read, file_read, room_read, text_read, target_read, include_read, leaf_then, element_then, broken_then, include_then, nodes_read, file_nodes, with_names, file_with, spliced_within}
+use Rattle.unit_source.specs.Volume.{has_room, one_file}
 use Rattle.unit_source.proofs.AgreeFirst.{agree_left, agree_right, within_same, firsts_same}
 
 -- so are the readings that enter a file
@@ -33,7 +34,7 @@ head_if f g false target text x going later entry a = a.0
 
 room_head : (f g : Files) (e : Enter) (around : ℕ) (target text : List ℕ) (going : Going) → Agree f g (room_read e around target text going).names → f target ≡ g target
 room_head f g e around target text going a =
-    head_if f g (has_room (length text) going) target text (e around target text (with_file (length text) going)) going (full going) (Unread (length text)) a
+    head_if f g (has_room (length text) going.volume) target text (e around target text (with_file (length text) going)) going (full going) (Unread (length text)) a
 
 nested_head : (f g : Files) (b : Bool) (target : List ℕ) (x : Inner) (going : Going) (entry : Entry) → (Agree f g x.names → f target ≡ g target)
     → Agree f g (cond b x (nothing_read entry (target ∷ []) going)).names → f target ≡ g target
@@ -49,7 +50,7 @@ head_of f g e around target (Some text) going a =
 room_same : (f g : Files) (e d : Enter) → SameSpliced f g e d → (around : ℕ) (target text : List ℕ) (going : Going)
     → Agree f g (room_read e around target text going).names → room_read e around target text going ≡ room_read d around target text going
 room_same f g e d h around target text going a =
-    read_if f g (has_room (length text) going) target text (e around target text (with_file (length text) going)) (d around target text (with_file (length text) going)) going
+    read_if f g (has_room (length text) going.volume) target text (e around target text (with_file (length text) going)) (d around target text (with_file (length text) going)) going
     (nothing_read (Unread (length text)) (target ∷ []) (full going)) (h around target text (with_file (length text) going)) a
 
 nested_if : (f g : Files) (b : Bool) (x y z : Inner) → (Agree f g x.names → x ≡ y) → Agree f g (cond b x z).names → cond b x z ≡ cond b y z
@@ -109,19 +110,19 @@ unfolding spliced_within
 spliced_same f g zero settings chain around path text going a = refl
 spliced_same f g (suc deep) settings chain around path text going a =
     let longer : List (List ℕ) = path ∷ chain in
-    let firsts : List (ℕ × First) = firsts_by f longer (own_directives path text) in
+    let firsts : List (ℕ × First) = firsts_by f longer (one_file (length text)) (own_directives path text) in
     with_same f g (spliced_within deep f settings longer) (spliced_within deep g settings longer) (spliced_same f g deep settings longer) settings longer around path text going firsts a
     ∙ ap (file_with (spliced_within deep g settings longer) g settings longer around path text going)
-    (firsts_same f g longer (own_directives path text) (agree_left f g (brought_names firsts)
+    (firsts_same f g longer (own_directives path text) (one_file (length text)) (agree_left f g (brought_names firsts)
     (nodes_read (include_read (spliced_within deep f settings longer) f longer) (brought_by firsts) around (file_nodes settings going.prefixes (brought_by firsts) path text) going).names a))
 
 -- sites that agree on the names of a page or a tag file read it as the same
 pub root_same : (f g : Files) (in_tag : Bool) (path text : List ℕ) → Agree f g (rooted f in_tag path text).names → rooted f in_tag path text ≡ rooted g in_tag path text
 unfolding rooted
 root_same f g in_tag path text a =
-    let first : First = first_within most_deep f [] 1 path text in
+    let first : First = first_within most_deep f [] (one_file (length text)) path text in
     let settings : PageSettings = settings_of in_tag first.directives in
     let second : Spliced = second_reading f settings path text in
     ap (root_of path text in_tag first settings)
-    (spliced_same f g most_deep settings [] 0 path text (record { prefixes = []; files = 1; bytes = length text }) (agree_right f g first.names second.names a))
-    ∙ ap (with_first g in_tag path text) (within_same f g most_deep [] 1 path text (agree_left f g first.names second.names a))
+    (spliced_same f g most_deep settings [] 0 path text (record { prefixes = []; volume = one_file (length text) }) (agree_right f g first.names second.names a))
+    ∙ ap (with_first g in_tag path text) (within_same f g most_deep [] (one_file (length text)) path text (agree_left f g first.names second.names a))
