@@ -1,5 +1,5 @@
 -- A `jsp:body` that isn't whole among nodes in place.
-use Rattle.std.proofs.Common.{◌≡◌, ◌||◌, ◌&&◌, Bool, true, false, not, codes, refl, ap, sym, ◌∙◌}
+use Rattle.std.proofs.Common.{◌≡◌, ◌<◌, ◌+◌, ◌||◌, ◌&&◌, ℕ, Bool, true, false, List, ◌∷◌, length, drop, get_or, not, codes, refl, ap, sym, ◌∙◌}
 use Rattle.page_reader.specs.Trees.{Tree, joined}
 use Rattle.page_reader.specs.Trees as tree
 use Rattle.jstl_tags.specs.Check.{is_whole}
@@ -12,7 +12,7 @@ use Rattle.unit_source.specs.declared.placed.PlacedInclude.{PlacedInclude}
 use Rattle.unit_source.specs.InPlace.{flat}
 use Rattle.unit_source.specs.Placed.{in_place, node_in_place}
 use Rattle.unit_build.specs.Elements.{has_open_body}
-use Rattle.unit_build.proofs.PlacedLemmas.{flat_followed, joined_done, placed_element, placed_include}
+use Rattle.unit_build.proofs.PlacedLemmas.{drop_node, flat_followed, joined_done, placed_element, placed_include}
 
 or_false : (b : Bool) → b || false ≡ b
 or_false true = refl
@@ -41,3 +41,12 @@ element_open e =
 
 pub include_open : (i : PlacedInclude) → has_open_body (flat (node_in_place (Included i))) ≡ has_open_body (flat (in_place i.body.items))
 include_open i = ap (λ n. has_open_body (flat n)) (placed_include i) ∙ ap has_open_body (joined_done (flat (in_place i.body.items)))
+
+-- the loop looked at one more node
+pub next_open : (all : List PlacedNode) (i : ℕ) (node : PlacedNode) (here total : Bool) → i < length all → node ≡ get_or all i node
+    → has_open_body (flat (in_place (drop i all))) ≡ total → here ≡ has_open_body (flat (node_in_place node))
+    → (here || has_open_body (flat (in_place (drop (i + 1) all)))) ≡ total
+next_open all i node here total lt is whole found =
+    ap (λ b. b || has_open_body (flat (in_place (drop (i + 1) all)))) found
+    ∙ sym (one_open node (drop (i + 1) all))
+    ∙ ap (λ nodes. has_open_body (flat (in_place nodes))) (sym (drop_node all i node lt is)) ∙ whole

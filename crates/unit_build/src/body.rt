@@ -135,7 +135,7 @@ fn is_open_body(node: &PlacedNode) -> bool
     match node {
         PlacedNode::Element(element) => is_body(&element.head) && !is_whole(element.head.closing),
         PlacedNode::Included(include) => has_open_body(&include.body),
-        _ => false,
+        PlacedNode::Leaf(_, _) | PlacedNode::Broken(_) => false,
     }
 }
 

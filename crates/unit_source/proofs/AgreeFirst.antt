@@ -32,7 +32,9 @@ unless_same f g false x y z h a = h a
 text_same : (f g : Files) (e d : EnterFirst) → SameFirst f g e d → (volume : Volume) (target : List ℕ) (o : Option (List ℕ))
     → Agree f g (first_text e volume target o).names → first_text e volume target o ≡ first_text d volume target o
 text_same f g e d h volume target None a = refl
-text_same f g e d h volume target (Some text) a = if_same f g (nat_lt volume most_files) (e (count + 1) target text) (d (count + 1) target text) (none_read volume) (h (count + 1) target text) a
+text_same f g e d h volume target (Some text) a =
+    if_same f g (has_room (length text) volume) (e (and_file (length text) volume) target text) (d (and_file (length text) volume) target text) (none_read (spent volume))
+    (h (and_file (length text) volume) target text) a
 
 pub file_same : (f g : Files) (e d : EnterFirst) → SameFirst f g e d → (chain : List (List ℕ)) (volume : Volume) (o : Option (List ℕ))
     → Agree f g (first_file e f chain volume o).names → first_file e f chain volume o ≡ first_file d g chain volume o

@@ -36,7 +36,7 @@ fn is_lacking_at(node: &PlacedNode) -> bool
 {
     match node {
         PlacedNode::Included(include) => is_lacking(include.entry) || lacks_file(&include.body),
-        _ => false,
+        PlacedNode::Leaf(_, _) | PlacedNode::Element(_) | PlacedNode::Broken(_) => false,
     }
 }
 
