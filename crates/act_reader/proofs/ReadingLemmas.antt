@@ -4,12 +4,12 @@ use Rattle.std.proofs.lemmas.Result.{on_ok_weaker}
 use Rattle.act_reader.specs.Contents.{Adds, before}
 use Rattle.act_reader.specs.declared.contents.Content.{Content as ContentMade}
 use Rattle.page_shape.specs.Shape.{Content, content_of, with_action}
-use Rattle.unit_build.proofs.NodeLemmas.{action_is}
-use Rattle.unit_build.specs.Nodes.{Nodes, joined}
-use Rattle.unit_build.specs.Views.{given_of, kind_of, node_of, nodes_of}
-use Rattle.unit_build.specs.declared.unit.Action.{Action as Made}
-use Rattle.unit_build.specs.declared.unit.UnitNode.{UnitNode}
-use Rattle.unit_build.specs.declared.unit.UnitNode.TheVariants.{Action}
+use Rattle.unit_nodes.proofs.NodeLemmas.{action_is}
+use Rattle.unit_nodes.specs.Nodes.{Nodes, joined}
+use Rattle.unit_nodes.specs.Views.{given_of, kind_of, node_of, nodes_of}
+use Rattle.unit_nodes.specs.declared.unit.Action.{Action as Made}
+use Rattle.unit_nodes.specs.declared.unit.UnitNode.{UnitNode}
+use Rattle.unit_nodes.specs.declared.unit.UnitNode.TheVariants.{Action}
 
 action_content : (a : Made) (node : UnitNode) (inner : Content) (rest : Nodes) → node ≡ Action a → inner ≡ content_of (nodes_of a.body.items)
     → with_action (kind_of a.kind) (map given_of a.attributes) a.has_body a.source a.place inner (content_of rest) ≡ content_of (joined (node_of node) rest)

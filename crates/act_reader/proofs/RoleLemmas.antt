@@ -11,10 +11,10 @@ use Rattle.page_meaning.specs.Page as page
 use Rattle.page_shape.specs.Named.{target_in}
 use Rattle.page_shape.specs.Shape.{Content, action_node, attributes_of, core_node, jsp_node, with_action, with_node}
 use Rattle.pg_text.specs.declared.place.Place.{Place}
-use Rattle.unit_build.specs.Nodes as unit
-use Rattle.unit_build.specs.Nodes.{ActionKind, Given}
-use Rattle.unit_build.specs.declared.jsp_name.JspName.{JspName}
-use Rattle.unit_build.specs.declared.jsp_name.JspName.TheVariants as jsp
+use Rattle.unit_nodes.specs.Nodes as unit
+use Rattle.unit_nodes.specs.Nodes.{ActionKind, Given}
+use Rattle.unit_nodes.specs.declared.jsp_name.JspName.{JspName}
+use Rattle.unit_nodes.specs.declared.jsp_name.JspName.TheVariants as jsp
 
 -- what an action adds is what its role says
 pub by_role : (k : ActionKind) (attributes : List Given) (has_body : Bool) (source : List ℕ) (place : Place) (inner rest : Content)

@@ -5,9 +5,9 @@ use Rattle.act_reader.specs.Before.{attributes_before}
 use Rattle.page_acts.specs.declared.acts.ActAttribute.{ActAttribute}
 use Rattle.page_meaning.specs.Page.{Attributes}
 use Rattle.page_shape.specs.Named.{written_before}
-use Rattle.unit_build.specs.Nodes.{Given}
-use Rattle.unit_build.specs.Views.{given_of}
-use Rattle.unit_build.specs.declared.unit.UnitAttribute.{UnitAttribute}
+use Rattle.unit_nodes.specs.Nodes.{Given}
+use Rattle.unit_nodes.specs.Views.{given_of}
+use Rattle.unit_nodes.specs.declared.unit.UnitAttribute.{UnitAttribute}
 
 -- one attribute before others
 written_one : (statics : List (List ℕ)) (a : Given) (rest : List Given) (others : Attributes)

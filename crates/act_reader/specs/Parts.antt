@@ -4,7 +4,7 @@ use Rattle.act_reader.specs.declared.parts.Parts.{Parts as PartsMade}
 use Rattle.page_acts.specs.Views.{acts_of, attributes_of as attributes_made, branches_of, params_of}
 use Rattle.page_meaning.specs.Page as page
 use Rattle.page_shape.specs.Shape.{Content, no_content, attributes_of, nodes_in}
-use Rattle.unit_build.specs.Nodes.{ActionKind, Given}
+use Rattle.unit_nodes.specs.Nodes.{ActionKind, Given}
 
 -- all attributes of an action, the nodes of its body, its params and its branches
 pub record Parts : Type 0 where

@@ -8,9 +8,9 @@ use Rattle.jstl_tags.specs.declared.core_name.CoreName.TheVariants as core
 use Rattle.page_meaning.specs.Page as page
 use Rattle.page_shape.specs.Shape.{Content, branch_if, given_if, param_if, with_node}
 use Rattle.pg_text.specs.declared.place.Place.{Place}
-use Rattle.unit_build.specs.Nodes as unit
-use Rattle.unit_build.specs.Nodes.{ActionKind, Given}
-use Rattle.unit_build.specs.declared.jsp_name.JspName.TheVariants as jsp
+use Rattle.unit_nodes.specs.Nodes as unit
+use Rattle.unit_nodes.specs.Nodes.{ActionKind, Given}
+use Rattle.unit_nodes.specs.declared.jsp_name.JspName.TheVariants as jsp
 
 -- what an action is to the one in which it stands
 abbrev pub role_of : ActionKind → Role

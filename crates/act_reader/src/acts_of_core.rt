@@ -8,7 +8,7 @@ ghost use Rattle.jstl_tags.specs.declared.core_name.CoreName.TheVariants as core
 ghost use Rattle.page_meaning.specs.Page as page;
 ghost use Rattle.page_shape.specs.Named.{some_variable, static_text, variable_in};
 ghost use Rattle.page_shape.specs.Shape.{core_node};
-ghost use Rattle.unit_build.specs.Views.{given_of};
+ghost use Rattle.unit_nodes.specs.Views.{given_of};
 
 use crate::named::{some_variable, static_text, target_in, variable_in};
 use crate::parts::Parts;
@@ -16,7 +16,7 @@ use crate::roles::nothing;
 use jstl_tags::CoreName;
 use page_acts::Act;
 use std::alloc::{AllocError, Global};
-use unit_build::Action;
+use unit_nodes::Action;
 
 /// The act of a core tag of these parts. Params and branches have none of their own.
 pub(crate) fn core_act<'u>(

@@ -8,14 +8,14 @@ ghost use Rattle.page_acts.specs.Views.{act_of};
 ghost use Rattle.page_meaning.specs.Page as page;
 ghost use Rattle.page_shape.specs.Named.{property_in, scope_named, some_variable, text_of_attribute};
 ghost use Rattle.page_shape.specs.Shape.{jsp_node};
-ghost use Rattle.unit_build.specs.Views.{given_of};
+ghost use Rattle.unit_nodes.specs.Views.{given_of};
 
 use crate::named::{property_in, scope_named, some_variable, text_of_attribute};
 use crate::parts::Parts;
 use crate::roles::nothing;
 use page_acts::Act;
 use std::alloc::{AllocError, Global};
-use unit_build::{Action, JspName};
+use unit_nodes::{Action, JspName};
 
 /// The act of a standard action of these parts. `jsp:attribute`, `jsp:body` and params have none of their own.
 pub(crate) fn jsp_act<'u>(

@@ -7,11 +7,11 @@ ghost use Rattle.page_acts.specs.Views.{attributes_of};
 ghost use Rattle.page_meaning.specs.Page.{Attributes};
 ghost use Rattle.page_shape.specs.Kinds.{statics_of};
 ghost use Rattle.page_shape.specs.Named.{core_statics, jsp_statics, written_before};
-ghost use Rattle.unit_build.specs.Views.{given_of, kind_of};
+ghost use Rattle.unit_nodes.specs.Views.{given_of, kind_of};
 
 use page_acts::ActAttribute;
 use std::alloc::{AllocError, Global};
-use unit_build::{Action, ActionKind, JspName, UnitAttribute};
+use unit_nodes::{Action, ActionKind, JspName, UnitAttribute};
 
 // Whether an attribute of a core tag names something, and takes no expression.
 fn is_core_static(name: &str) -> bool

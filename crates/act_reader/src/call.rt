@@ -6,14 +6,14 @@ ghost use Rattle.act_reader.specs.Contents.{content_view};
 ghost use Rattle.page_acts.specs.Views.{act_of, acts_of, body_of};
 ghost use Rattle.page_meaning.specs.Page.{call};
 ghost use Rattle.page_shape.specs.Shape.{attributes_of, body_if, call_body};
-ghost use Rattle.unit_build.specs.Views.{given_of, kind_of};
+ghost use Rattle.unit_nodes.specs.Views.{given_of, kind_of};
 
 use crate::attributes::attributes_of;
 use crate::contents::Content;
 use page_acts::{Act, CallBody};
 use pg_text::Path;
 use std::alloc::{AllocError, Global};
-use unit_build::Action;
+use unit_nodes::Action;
 
 /// The call of the tag file at a path.
 pub(crate) fn call_act<'u>(

@@ -6,14 +6,14 @@ ghost use Rattle.std.specs.Str.{bytes_eq};
 ghost use Rattle.el_reader.specs.El.{tree_of};
 ghost use Rattle.page_acts.specs.Views.{property_of, variable_of};
 ghost use Rattle.page_shape.specs.Named.{name_in, plain_text, property_in, scope_named, some_variable, static_text, target_in, target_of, text_of_attribute, variable_in};
-ghost use Rattle.unit_build.specs.Views.{given_of, part_of};
+ghost use Rattle.unit_nodes.specs.Views.{given_of, part_of};
 
 use el_reader::El;
 use page_acts::{Property, Variable};
 use pg_text::Text;
 use pg_value::Scope;
 use std::alloc::{AllocError, Global};
-use unit_build::{UnitAttribute, UnitPart};
+use unit_nodes::{UnitAttribute, UnitPart};
 
 // The first attribute of a name.
 fn attribute_named<'u>(attributes: &'u [UnitAttribute], wanted: &str) -> Option<&'u UnitAttribute>

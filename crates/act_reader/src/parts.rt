@@ -4,13 +4,13 @@ ghost use Rattle.act_reader.specs.Contents.{content_view};
 ghost use Rattle.act_reader.specs.Parts.{parts_in, parts_view};
 ghost use Rattle.page_acts.specs.Views.{acts_of, body_of};
 ghost use Rattle.page_shape.specs.Shape.{body_nodes, nodes_in};
-ghost use Rattle.unit_build.specs.Views.{given_of, kind_of};
+ghost use Rattle.unit_nodes.specs.Views.{given_of, kind_of};
 
 use crate::attributes::attributes_of;
 use crate::contents::Content;
 use page_acts::{Act, ActAttribute, ActBranch, ActParam, CallBody};
 use std::alloc::{AllocError, Global};
-use unit_build::Action;
+use unit_nodes::Action;
 
 /// All attributes of an action, the acts of its body, its params and its branches.
 #[derive(Drop)]

@@ -3,14 +3,14 @@ ghost use Rattle.std.specs.Prelude.{◌≡◌, IfOk, OnOk};
 ghost use Rattle.act_reader.specs.Contents.{before, content_view};
 ghost use Rattle.page_acts.specs.Views.{acts_of};
 ghost use Rattle.page_shape.specs.Shape.{content_of, nodes_of as shape_of};
-ghost use Rattle.unit_build.specs.Nodes.{Nodes, joined};
-ghost use Rattle.unit_build.specs.Views.{node_of, nodes_of};
+ghost use Rattle.unit_nodes.specs.Nodes.{Nodes, joined};
+ghost use Rattle.unit_nodes.specs.Views.{node_of, nodes_of};
 
 use crate::contents::Content;
 use crate::roles::add_action;
 use page_acts::Act;
 use std::alloc::{AllocError, Global};
-use unit_build::UnitNode;
+use unit_nodes::UnitNode;
 
 /// The acts that a unit's nodes are, in order.
 pub fn acts<'u>(alloc: Global, nodes: &'u [UnitNode]) -> Result<Vec<Act<'u>>, AllocError>

@@ -6,7 +6,7 @@ ghost use Rattle.act_reader.specs.Roles.{role_of, with_nothing};
 ghost use Rattle.page_acts.specs.Views.{act_of, acts_of, attribute_before};
 ghost use Rattle.page_meaning.specs.Page.{Attributes, group, no_nodes};
 ghost use Rattle.page_shape.specs.Shape.{action_node, branch_if, given_if, param_if, with_action};
-ghost use Rattle.unit_build.specs.Views.{given_of, kind_of};
+ghost use Rattle.unit_nodes.specs.Views.{given_of, kind_of};
 
 use crate::acts_of_core::core_act;
 use crate::acts_of_jsp::jsp_act;
@@ -18,7 +18,7 @@ use jstl_tags::CoreName;
 use page_acts::{Act, ActAttribute, ActBranch, ActParam};
 use pg_text::Place;
 use std::alloc::{AllocError, Global};
-use unit_build::{Action, ActionKind, JspName};
+use unit_nodes::{Action, ActionKind, JspName};
 
 /// What an action is to the one in which it stands: an act of its own, an attribute, its body, a param or a branch.
 #[derive(Clone, Copy)]

@@ -11,8 +11,8 @@ use Rattle.page_lowering.specs.Values.{part_form, parts_form, texts_form}
 use Rattle.page_meaning.specs.Page.{Part, words, expression}
 use Rattle.page_shape.specs.Named.{part_of}
 use Rattle.pg_text.specs.declared.place.Place.{Place}
-use Rattle.unit_build.specs.Views.{part_of as part_view}
-use Rattle.unit_build.specs.declared.unit.UnitPart.{UnitPart}
+use Rattle.unit_nodes.specs.Views.{part_of as part_view}
+use Rattle.unit_nodes.specs.declared.unit.UnitPart.{UnitPart}
 use Rattle.expression_code.proofs.ListLemmas.{next_of}
 
 -- the parts as the meaning has them

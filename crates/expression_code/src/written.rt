@@ -5,7 +5,7 @@ ghost use Rattle.page_forms.specs.Codes.{form_code};
 ghost use Rattle.page_forms.specs.Forms.{does};
 ghost use Rattle.page_lowering.specs.Values.{part_form, parts_form, texts_form};
 ghost use Rattle.page_shape.specs.Named.{part_of};
-ghost use Rattle.unit_build.specs.Views.{part_of as part_view};
+ghost use Rattle.unit_nodes.specs.Views.{part_of as part_view};
 
 use crate::single::{coercion, constant};
 use crate::tree::expression;
@@ -14,7 +14,7 @@ use page_forms::operation;
 use pg_text::Place;
 use pg_value::Value;
 use std::alloc::{AllocError, Global};
-use unit_build::UnitPart;
+use unit_nodes::UnitPart;
 
 /// The code of the value of parts: of one expression alone its value, else the text of all joined.
 pub fn parts(

@@ -5,7 +5,7 @@ use page_code::{Code, Coercion, Shape};
 use pg_text::{Place, Text, resolve};
 use std::alloc::Global;
 use std::test::Fail;
-use unit_build::UnitPart;
+use unit_nodes::UnitPart;
 
 fn place(alloc: Global) -> Result<Place, Fail> {
     Ok(Place {

@@ -6,7 +6,7 @@ use crate::named::{Property, Variable};
 use el_reader::El;
 use pg_text::{Path, Place, Text};
 use pg_value::Scope;
-use unit_build::UnitPart;
+use unit_nodes::UnitPart;
 
 /// Template text, an expression in it, an action, or the call of a tag file. Faults that have no place of their own stand
 /// at `place`.

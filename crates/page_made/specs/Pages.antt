@@ -12,7 +12,7 @@ use Rattle.source_tree.specs.Edits.{file_at}
 use Rattle.source_tree.specs.declared.file.File.{File}
 use Rattle.source_tree.specs.declared.need.Need.{Need}
 use Rattle.unit_build.specs.Needs.{needs_of}
-use Rattle.unit_build.specs.Nodes as unit
+use Rattle.unit_nodes.specs.Nodes as unit
 use Rattle.unit_build.specs.Unit.{Unit, unit_at}
 use Rattle.unit_source.specs.Files.{text_in}
 

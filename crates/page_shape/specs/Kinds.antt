@@ -2,9 +2,9 @@
 use Rattle.std.specs.Prelude.{ℕ, Bool, true, false, List, []}
 use Rattle.jstl_tags.specs.declared.core_name.CoreName.TheVariants as core
 use Rattle.page_shape.specs.Named.{core_statics, jsp_statics}
-use Rattle.unit_build.specs.Nodes as unit
-use Rattle.unit_build.specs.Nodes.{ActionKind}
-use Rattle.unit_build.specs.declared.jsp_name.JspName.TheVariants as jsp
+use Rattle.unit_nodes.specs.Nodes as unit
+use Rattle.unit_nodes.specs.Nodes.{ActionKind}
+use Rattle.unit_nodes.specs.declared.jsp_name.JspName.TheVariants as jsp
 
 -- whether an action is `jsp:attribute`
 abbrev pub is_attribute : ActionKind → Bool

@@ -7,8 +7,8 @@ use Rattle.el_reader.specs.Tree.{Tree, name}
 use Rattle.page_meaning.specs.Page as page
 use Rattle.pg_value.specs.declared.scope.Scope.{Scope}
 use Rattle.pg_value.specs.declared.scope.Scope.TheVariants as scope
-use Rattle.unit_build.specs.Nodes as unit
-use Rattle.unit_build.specs.Nodes.{Given, Part}
+use Rattle.unit_nodes.specs.Nodes as unit
+use Rattle.unit_nodes.specs.Nodes.{Given, Part}
 
 -- a part as a part
 abbrev pub part_of : Part → page.Part

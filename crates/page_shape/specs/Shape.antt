@@ -7,10 +7,10 @@ use Rattle.page_meaning.specs.Page as page
 use Rattle.page_shape.specs.Kinds.{is_attribute, is_body, is_param, is_when, is_otherwise, statics_of}
 use Rattle.page_shape.specs.Named.{static_text, text_of_attribute, scope_named, variable_in, some_variable, target_in, property_in, written_before}
 use Rattle.pg_text.specs.declared.place.Place.{Place}
-use Rattle.unit_build.specs.Nodes as unit
-use Rattle.unit_build.specs.Nodes.{ActionKind, Given, Nodes}
-use Rattle.unit_build.specs.declared.jsp_name.JspName.{JspName}
-use Rattle.unit_build.specs.declared.jsp_name.JspName.TheVariants as jsp
+use Rattle.unit_nodes.specs.Nodes as unit
+use Rattle.unit_nodes.specs.Nodes.{ActionKind, Given, Nodes}
+use Rattle.unit_nodes.specs.declared.jsp_name.JspName.{JspName}
+use Rattle.unit_nodes.specs.declared.jsp_name.JspName.TheVariants as jsp
 
 -- what stands in an action: all nodes of its body; the attributes that `jsp:attribute` gives, and what `jsp:body` holds, with whether one of
 -- these stands there; its params and its branches

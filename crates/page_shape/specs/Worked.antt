@@ -6,9 +6,9 @@ use Rattle.page_meaning.specs.Page as page
 use Rattle.page_shape.specs.Shape.{nodes_of}
 use Rattle.pg_text.specs.declared.place.Place.{Place}
 use Rattle.pg_value.specs.declared.scope.Scope.TheVariants as scope
-use Rattle.unit_build.specs.Nodes as unit
-use Rattle.unit_build.specs.Nodes.{ActionKind, Given, Nodes}
-use Rattle.unit_build.specs.declared.jsp_name.JspName.TheVariants as jsp
+use Rattle.unit_nodes.specs.Nodes as unit
+use Rattle.unit_nodes.specs.Nodes.{ActionKind, Given, Nodes}
+use Rattle.unit_nodes.specs.declared.jsp_name.JspName.TheVariants as jsp
 
 -- a column of the first line of `/a.jsp`
 abbrev pub column : ℕ → Place

@@ -12,7 +12,8 @@ use page_pieces::Spot;
 use pg_text::{PageFault, Path, TranslationFault};
 use source_tree::{File, FileText, MAX_FILE_BYTES, Tree};
 use std::alloc::{AllocError, Global};
-use unit_build::{Unit, UnitBody, build};
+use unit_build::build;
+use unit_nodes::{Unit, UnitBody};
 
 /// The fault of the page with these bytes at a path, where it has one. Its unit is that of a site with this file alone.
 pub(crate) fn page_fault<L: Ledger>(

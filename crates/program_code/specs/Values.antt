@@ -15,7 +15,7 @@ use Rattle.page_lowering.specs.Values.{kept_form, parts_form}
 use Rattle.page_meaning.specs.Page.{Page}
 use Rattle.page_shape.specs.Named.{part_of}
 use Rattle.pg_text.specs.declared.place.Place.{Place}
-use Rattle.unit_build.specs.Views.{part_of as part_view}
+use Rattle.unit_nodes.specs.Views.{part_of as part_view}
 
 -- the name of an attribute
 abbrev pub name_of : ActAttribute → List ℕ

@@ -7,7 +7,7 @@ ghost use Rattle.page_forms.specs.Codes.{form_code};
 ghost use Rattle.page_lowering.specs.Lowering.{node_form};
 ghost use Rattle.page_meaning.specs.Page.{set_property};
 ghost use Rattle.page_shape.specs.Shape.{page_of};
-ghost use Rattle.unit_build.specs.Views.{page_view};
+ghost use Rattle.unit_nodes.specs.Views.{page_view};
 
 use crate::attributes::values;
 use crate::names::{evaluated_names, value_place};
@@ -18,7 +18,7 @@ use page_acts::{Act, ActAttribute, ActParam, Property};
 use page_code::{Code, Shape};
 use pg_text::{Place, Text};
 use std::alloc::{AllocError, Global};
-use unit_build::Page;
+use unit_nodes::Page;
 
 /// The code of an action around a body.
 #[cycle(nodes)]

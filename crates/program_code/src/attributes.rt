@@ -7,7 +7,7 @@ ghost use Rattle.page_forms.specs.Codes.{form_code};
 ghost use Rattle.page_lowering.specs.Expressions.{visits};
 ghost use Rattle.page_lowering.specs.Lowering.{attributes_form};
 ghost use Rattle.page_shape.specs.Shape.{page_of};
-ghost use Rattle.unit_build.specs.Views.{page_view};
+ghost use Rattle.unit_nodes.specs.Views.{page_view};
 ghost use Rattle.program_code.specs.Values.{attribute_place, behind_value, coerced_code, is_fragment, value_form};
 
 use crate::names::name_of;
@@ -18,7 +18,7 @@ use page_acts::ActAttribute;
 use page_code::{Code, Shape};
 use pg_text::Place;
 use std::alloc::{AllocError, Global};
-use unit_build::Page;
+use unit_nodes::Page;
 
 /// The code of the values of the attributes that are evaluated, in order.
 #[cycle(nodes)]

@@ -8,7 +8,7 @@ ghost use Rattle.page_meaning.specs.Page.{call, no_attributes};
 ghost use Rattle.page_meaning.specs.Tags.{tag_at};
 ghost use Rattle.page_shape.specs.Shape.{page_of, tag_of};
 ghost use Rattle.tag_decl.specs.Declare.{declared};
-ghost use Rattle.unit_build.specs.Views.{page_view, tag_view};
+ghost use Rattle.unit_nodes.specs.Views.{page_view, tag_view};
 ghost use Rattle.program_code.specs.Calls.{body_handed, is_fragment, with_fragments};
 
 use crate::attributes::values;
@@ -21,7 +21,7 @@ use page_forms::{Handed, ended};
 use pg_text::{Path, Place, Text};
 use std::alloc::{AllocError, Global};
 use tag_decl::{BodyKind, TagDecl, declared};
-use unit_build::{Page, TagFile};
+use unit_nodes::{Page, TagFile};
 
 /// The code of the call of the tag file at a path; none where the unit has no such file, as no unit does that was read.
 #[cycle(nodes)]

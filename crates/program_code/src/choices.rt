@@ -7,7 +7,7 @@ ghost use Rattle.page_lowering.specs.Expressions.{visits};
 ghost use Rattle.page_lowering.specs.Lowering.{branches_form, nodes_form};
 ghost use Rattle.page_meaning.specs.Page.{Branches, when};
 ghost use Rattle.page_shape.specs.Shape.{page_of};
-ghost use Rattle.unit_build.specs.Views.{page_view};
+ghost use Rattle.unit_nodes.specs.Views.{page_view};
 
 use crate::attributes::values;
 use crate::names::evaluated_names;
@@ -18,7 +18,7 @@ use page_acts::{Act, ActAttribute, ActBranch};
 use page_code::{Code, Shape};
 use pg_text::Place;
 use std::alloc::{AllocError, Global};
-use unit_build::Page;
+use unit_nodes::Page;
 
 /// The code of the first branch whose test is true. It goes from branch to branch in a loop: a choice is as long as it likes.
 #[cycle(nodes)]

@@ -4,7 +4,7 @@ ghost use Rattle.page_acts.specs.Views.{acts_of, attributes_of, params_of};
 ghost use Rattle.page_forms.specs.Codes.{form_code};
 ghost use Rattle.page_lowering.specs.Lowering.{params_form};
 ghost use Rattle.page_shape.specs.Shape.{page_of};
-ghost use Rattle.unit_build.specs.Views.{page_view};
+ghost use Rattle.unit_nodes.specs.Views.{page_view};
 ghost use Rattle.program_code.specs.Params.{param_form};
 
 use crate::attributes::values;
@@ -15,7 +15,7 @@ use expression_code::visits;
 use page_acts::ActParam;
 use page_code::{Code, Shape};
 use std::alloc::{AllocError, Global};
-use unit_build::Page;
+use unit_nodes::Page;
 
 /// The code of the names and the values of params, in order.
 #[cycle(nodes)]

@@ -4,7 +4,7 @@ ghost use Rattle.page_acts.specs.Views.{act_of, acts_of};
 ghost use Rattle.page_forms.specs.Codes.{form_code};
 ghost use Rattle.page_lowering.specs.Lowering.{node_form, nodes_form};
 ghost use Rattle.page_shape.specs.Shape.{page_of};
-ghost use Rattle.unit_build.specs.Views.{page_view};
+ghost use Rattle.unit_nodes.specs.Views.{page_view};
 
 use crate::actions::{addressed, enclosed, properties};
 use crate::calls::call;
@@ -16,7 +16,7 @@ use expression_code::visits;
 use page_acts::Act;
 use page_code::{Code, Shape};
 use std::alloc::{AllocError, Global};
-use unit_build::Page;
+use unit_nodes::Page;
 
 /// The code of nodes in the unit of a page, one after the other, each behind its visit.
 #[cycle(nodes)]

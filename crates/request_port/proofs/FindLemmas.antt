@@ -28,7 +28,7 @@ use Rattle.source_tree.specs.Edits.{file_at}
 use Rattle.source_tree.specs.declared.file.File.{File}
 use Rattle.unit_build.specs.Needs.{bytes_of}
 use Rattle.unit_build.specs.Views.{unit_view}
-use Rattle.unit_build.specs.declared.unit.Unit.{Unit}
+use Rattle.unit_nodes.specs.declared.unit.Unit.{Unit}
 use Rattle.unit_source.specs.Files.{text_in}
 
 -- the file of a page

@@ -1,14 +1,14 @@
 ghost use Rattle.std.specs.Prelude.{◌≡◌, ℕ, List, IfOk};
 ghost use Rattle.page_made.specs.Made.{IsBodyBy, IsMade, IsMadeBy, IsUnitOf};
 ghost use Rattle.source_tree.specs.declared.file.File.{File};
-ghost use Rattle.unit_build.specs.Views.{body_view};
+ghost use Rattle.unit_nodes.specs.Views.{body_view};
 
 use page_made::{Made, MadeBody};
 use pg_text::Listed;
 use source_tree::{Need, Stamps};
 use std::alloc::{AllocError, Global};
 use std::sync::Arc;
-use unit_build::{Unit, UnitBody};
+use unit_nodes::{Unit, UnitBody};
 use unit_program::program;
 
 /// What is kept of a unit: its page as the program, or its fault, with the stamps of its dependencies.

@@ -6,7 +6,7 @@ use Rattle.page_pieces.specs.Settings.{value_of}
 use Rattle.page_reader.specs.Trees.{Tree, Opened}
 use Rattle.page_directives.specs.Directive.{row_of}
 use Rattle.page_directives.specs.Meet.{nothing_before}
-use Rattle.unit_build.specs.declared.jsp_name.JspName.TheVariants as jsp
+use Rattle.unit_nodes.specs.declared.jsp_name.JspName.TheVariants as jsp
 use Rattle.unit_build.specs.Beans.{Step, bean_path, bean_text, bean_at, bean_met}
 use Rattle.unit_build.specs.Calls.{Called, called, first_call, call_counted, call_text, call_met}
 use Rattle.unit_build.specs.Directives.{include_met, goes_in}

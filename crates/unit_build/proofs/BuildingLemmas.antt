@@ -7,7 +7,7 @@ use Rattle.source_tree.specs.declared.need.Need.{Need}
 use Rattle.unit_source.specs.Files.{Files}
 use Rattle.unit_source.specs.Root.{Root, root_at, rooted}
 use Rattle.unit_build.specs.Needs.{bytes_in, bytes_of, needs_of}
-use Rattle.unit_build.specs.Nodes.{Page}
+use Rattle.unit_nodes.specs.Nodes.{Page}
 use Rattle.unit_build.specs.State.{Reading}
 use Rattle.unit_build.specs.Unit.{Unit, body_of, first_fault, is_xml, names_in_order, names_met, page_of, unit_by, unit_of, unit_read, xml_unit}
 

@@ -5,6 +5,7 @@ pub mod MoreLemmas
 pub mod FoundLemmas
 pub mod BeanLemmas
 pub mod OkLemmas
+pub mod OpenLemmas
 pub mod FunctionLemmas
 pub mod ValueLemmas
 pub mod CallLemmas
@@ -16,6 +17,6 @@ pub mod LeadsLemmas
 mod AgreeNames
 mod AgreeWalk
 pub mod AgreeUnit
-pub mod NodeLemmas
+pub mod BuiltLemmas
 pub mod LeastNames
 pub mod BuildingLemmas

@@ -75,7 +75,7 @@ one_inner found node nodes =
     ∙ sym (ap (λ s. found ++ s) (ap (λ t. standing_in (inner t)) (flat_followed (node_in_place node) (in_place nodes))
     ∙ ap standing_in (inner_joined (flat (node_in_place node)) (flat (in_place nodes))) ∙ standing_joined (inner (flat (node_in_place node))) (inner (flat (in_place nodes)))))
 
-joined_done : (a : Tree) → joined a tree.done ≡ a
+pub joined_done : (a : Tree) → joined a tree.done ≡ a
 joined_done tree.done = refl
 joined_done (tree.leaf kind place next) = ap (tree.leaf kind place) (joined_done next)
 joined_done (tree.element opened body next) = ap (tree.element opened body) (joined_done next)

@@ -16,8 +16,8 @@ use Rattle.page_directives.specs.Directive.{Directive}
 use Rattle.unit_source.specs.InPlace.{InPlace, done, leaf, element, broken, included}
 use Rattle.unit_build.specs.Kinds.{Kind, kind_of}
 use Rattle.unit_build.specs.Kinds as kind
-use Rattle.unit_build.specs.Nodes as node
-use Rattle.unit_build.specs.Nodes.{Nodes, Given, ActionKind, Action}
+use Rattle.unit_nodes.specs.Nodes as node
+use Rattle.unit_nodes.specs.Nodes.{Nodes, Given, ActionKind, Action}
 
 -- a part of a value; `#{` and what is no expression have a fault
 abbrev pub expression_part : Result Tree ElFault → List node.Part

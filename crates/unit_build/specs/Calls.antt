@@ -10,13 +10,13 @@ use Rattle.tag_decl.specs.declared.declaration.AttrDecl.{AttrDecl}
 use Rattle.tag_decl.specs.declared.declaration.TagDecl.{TagDecl}
 use Rattle.tag_decl.specs.declared.declaration.BodyKind.{BodyKind}
 use Rattle.tag_decl.specs.declared.declaration.BodyKind.TheVariants as body_kind
-use Rattle.tag_decl.specs.Declare.{declaration, declared}
-use Rattle.tag_decl.specs.Faults.{is_good_declaration}
+use Rattle.tag_decl.specs.Declare.{attributes_of, declaration, declared}
+use Rattle.tag_decl.specs.Faults.{are_good}
 use Rattle.jstl_tags.specs.Check.{repeats, is_whole, split_faults}
 use Rattle.jstl_tags.specs.Content.{given_names, attribute_names, body_of, is_empty}
 use Rattle.unit_source.specs.Files.{Files}
 use Rattle.unit_source.specs.Root.{Root, rooted}
-use Rattle.unit_build.specs.Own.{root_directives}
+use Rattle.unit_build.specs.Own.{judged_directives, root_directives}
 use Rattle.unit_build.specs.declared.counts.Counted.{Counted}
 use Rattle.unit_build.specs.Counts.{counted, count_faults, is_counted}
 use Rattle.unit_build.specs.State.{State, behind_count, tag_in}
@@ -51,10 +51,14 @@ call_text files path (Some text) s =
 abbrev pub call_met : Files → (path : List ℕ) → State → Called
 call_met files path s = call_text files path (files path) s
 
+-- the declarations of a tag file have no fault
+abbrev pub is_declared_well : Root → Bool
+is_declared_well root = are_good (attributes_of (root_directives root)) [] (judged_directives root)
+
 -- what a tag file declares, where its declarations have no fault
 abbrev pub declaration_of : Option Root → Option TagDecl
 declaration_of None = None
-declaration_of (Some root) = if is_good_declaration (root_directives root) then Some (declaration (root_directives root)) else None
+declaration_of (Some root) = if is_declared_well root then Some (declaration (root_directives root)) else None
 
 -- the faults of a name that is given: it isn't declared, or it is a fragment's and written as an attribute
 abbrev pub name_faults : Bool → (is_written : Bool) → Option AttrDecl → List TranslationFault

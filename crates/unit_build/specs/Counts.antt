@@ -2,8 +2,8 @@
 use Rattle.std.specs.Prelude.{ℕ, ◌+◌, ◌&&◌, Bool, true, false, List, [], ◌∷◌, nat_le, if◌then◌else◌}
 use Rattle.pg_text.specs.declared.translation_fault.TranslationFault.{TranslationFault}
 use Rattle.pg_text.specs.declared.translation_fault.TranslationFault.TheVariants as fault
-use Rattle.unit_source.specs.First.{most_files}
-use Rattle.unit_source.specs.Splice.{most_bytes, most_nested}
+use Rattle.unit_source.specs.Splice.{most_nested}
+use Rattle.unit_source.specs.Volume.{most_bytes, most_files}
 use Rattle.unit_build.specs.declared.counts.Counted.{Counted}
 use Rattle.unit_build.specs.declared.counts.Counted.TheVariants.{Within, Passes, Over}
 use Rattle.unit_build.specs.declared.counts.Counts.{Counts}

@@ -7,7 +7,7 @@ use Rattle.page_directives.specs.Meet.{Before, met_faults}
 use Rattle.tag_decl.specs.Declare.{attributes_of}
 use Rattle.tag_decl.specs.Faults.{declaring_faults}
 use Rattle.unit_source.specs.declared.entry.Entry.{Entry}
-use Rattle.unit_source.specs.declared.entry.Entry.TheVariants.{Unnamed, Absent, Cycle, Entered}
+use Rattle.unit_source.specs.declared.entry.Entry.TheVariants.{Unnamed, Absent, Cycle, Entered, Unread}
 use Rattle.unit_source.specs.Root.{Root}
 use Rattle.unit_build.specs.Own.{stands_in, root_directives}
 use Rattle.unit_build.specs.Counts.{counted, count_faults, is_counted}
@@ -37,9 +37,11 @@ entry_faults Unnamed s = []
 entry_faults Absent s = fault.NoFile ∷ []
 entry_faults Cycle s = fault.IncludeCycle ∷ []
 entry_faults (Entered bytes) s = count_faults (counted bytes s.counts)
+entry_faults (Unread bytes) s = count_faults (counted bytes s.counts)
 
 abbrev pub behind_entry : Entry → State → State
 behind_entry (Entered bytes) s = behind_count bytes s
+behind_entry (Unread bytes) s = behind_count bytes s
 behind_entry _ s = s
 
 -- reading goes into the file

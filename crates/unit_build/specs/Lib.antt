@@ -10,7 +10,6 @@ pub mod Calls
 pub mod Elements
 pub mod Directives
 pub mod Walk
-pub mod Nodes
 pub mod Build
 pub mod Unit
 pub mod Laws

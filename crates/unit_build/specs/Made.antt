@@ -9,7 +9,7 @@ use Rattle.pg_value.specs.declared.value.Value.{Value}
 use Rattle.jstl_tags.specs.declared.core_name.CoreName.{CoreName}
 use Rattle.jstl_tags.specs.declared.rows.Row.{Row as RowMade}
 use Rattle.jstl_tags.specs.Rows.{Row, row_made}
-use Rattle.unit_build.specs.declared.jsp_name.JspName.{JspName}
+use Rattle.unit_nodes.specs.declared.jsp_name.JspName.{JspName}
 use Rattle.unit_build.specs.declared.kind.Kind.{Kind as KindMade}
 use Rattle.unit_build.specs.declared.kind.Kind.TheVariants as made
 use Rattle.jstl_tags.specs.Around.{Host}

@@ -5,8 +5,8 @@ use Rattle.jstl_tags.specs.declared.rows.Takes.TheVariants as takes
 use Rattle.jstl_tags.specs.declared.rows.Holds.TheVariants as holds
 use Rattle.jstl_tags.specs.declared.rows.Stands.TheVariants as stands
 use Rattle.jstl_tags.specs.Rows.{Row, row}
-use Rattle.unit_build.specs.declared.jsp_name.JspName.{JspName}
-use Rattle.unit_build.specs.declared.jsp_name.JspName.TheVariants as jsp
+use Rattle.unit_nodes.specs.declared.jsp_name.JspName.{JspName}
+use Rattle.unit_nodes.specs.declared.jsp_name.JspName.TheVariants as jsp
 
 abbrev pub of_variable : List (List ℕ × Takes)
 of_variable = (codes "var", takes.PlainText) ∷ (codes "scope", takes.ScopeName) ∷ (codes "varReader", takes.LeftOut) ∷ []

@@ -13,7 +13,7 @@ use Rattle.unit_build.specs.Counts.{page_alone}
 use Rattle.unit_build.specs.Build.{built}
 use Rattle.unit_source.specs.Files.{Files}
 use Rattle.unit_source.specs.First.{most_deep}
-use Rattle.unit_build.specs.Nodes.{Page, TagFile}
+use Rattle.unit_nodes.specs.Nodes.{Page, TagFile}
 use Rattle.unit_source.specs.Root.{Root, rooted}
 use Rattle.unit_build.specs.Own.{root_directives}
 use Rattle.unit_build.specs.State.{Event, faulty, needs, State, Reading, followed, needed}

@@ -15,7 +15,7 @@ use Rattle.page_directives.specs.Taglibs.{prefixes_in_text}
 use Rattle.tag_decl.specs.declared.declaration.TagDecl.{TagDecl}
 use Rattle.jstl_tags.specs.declared.core_name.CoreName.TheVariants as core_name
 use Rattle.jstl_tags.specs.Around.{in_choose, after_otherwise}
-use Rattle.unit_build.specs.declared.jsp_name.JspName.TheVariants as jsp
+use Rattle.unit_nodes.specs.declared.jsp_name.JspName.TheVariants as jsp
 use Rattle.unit_build.specs.Beans.{bean_met}
 use Rattle.unit_build.specs.Calls.{Called, called, call_met, declaration_of}
 use Rattle.unit_build.specs.Counts.{counts_within}

@@ -7,17 +7,18 @@ ghost use Rattle.unit_source.specs.Placed.{root_view};
 ghost use Rattle.unit_build.specs.Needs.{bytes_in, bytes_of, needs_of};
 ghost use Rattle.unit_build.specs.ReadWalk.{IsPageMet};
 ghost use Rattle.unit_build.specs.Unit.{is_xml, unit_of, unit_read, xml_unit};
-ghost use Rattle.unit_build.specs.Views.{body_view, unit_view};
+ghost use Rattle.unit_nodes.specs.Views.{body_view};
+ghost use Rattle.unit_build.specs.Views.{unit_view};
 
 use crate::found::Found;
 use crate::page::page_of;
 use crate::site::Site;
-use crate::unit::{Unit, UnitBody};
 use crate::walk::read_page;
 use edges::{Ledger, Steps};
 use pg_text::{Listed, Names, PageFault, Path, Place, TranslationFault};
 use source_tree::{Need, Stamps, Tree};
 use std::alloc::{AllocError, Global};
+use unit_nodes::{Unit, UnitBody};
 use unit_source::Root;
 
 const XML: &[u8] = b".jspx";

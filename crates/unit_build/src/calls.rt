@@ -4,18 +4,18 @@ ghost use Rattle.page_pieces.specs.Settings.{contains_text, plain_text};
 ghost use Rattle.page_reader.specs.Trees.{Tree};
 ghost use Rattle.page_directives.specs.Faults.{in_order};
 ghost use Rattle.tag_decl.specs.Declare.{declared};
-ghost use Rattle.jstl_tags.specs.Check.{is_whole};
 ghost use Rattle.jstl_tags.specs.Content.{attribute_names, given_names, takes_parts};
 ghost use Rattle.jstl_tags.specs.Elements.{opened_of};
 ghost use Rattle.jstl_tags.specs.Given.{names_made};
 ghost use Rattle.jstl_tags.specs.Standing.{IsBody, part_names_in, standing_made};
 ghost use Rattle.unit_build.specs.Calls.{call_faults, call_value_faults, declared_faults, is_empty_kind, lacks_required, name_faults, names_faults, takes_none};
 
+use crate::body::is_whole;
 use crate::here::takes_parts;
 use jstl_tags::{Body, Given, Standing, is_bodiless, split_faults};
 use page_directives::Faults;
 use page_pieces::{Attribute, has_name, plain_text};
-use page_reader::{Closing, Element};
+use page_reader::Element;
 use pg_text::TranslationFault;
 use tag_decl::{AttrDecl, BodyKind, TagDecl, declared};
 
@@ -106,15 +106,6 @@ fn lacks_required(decls: &[AttrDecl], given: Given) -> bool
         }
     }
     false
-}
-
-fn is_whole(closing: Closing) -> bool
-    ensures { result ≡ is_whole closing }
-{
-    match closing {
-        Closing::Open => false,
-        _ => true,
-    }
 }
 
 fn is_empty_kind(kind: BodyKind) -> bool

@@ -10,16 +10,15 @@ ghost use Rattle.jstl_tags.specs.Rows.{row_made};
 ghost use Rattle.jstl_tags.specs.Standing.{IsBody};
 ghost use Rattle.unit_source.specs.InPlace.{flat};
 ghost use Rattle.unit_source.specs.Placed.{in_place};
-ghost use Rattle.unit_build.specs.Elements.{Here as Around, element_faults, is_text_alone, kind_faults, own_faults, takes_text_alone, value_faults};
+ghost use Rattle.unit_build.specs.Elements.{Here as Around, asked, element_faults, is_text_alone, kind_faults, own_faults, takes_text_alone, value_faults};
 ghost use Rattle.unit_build.specs.Made.{around_made, here_made, kind_made};
 
-use crate::JspName;
-use crate::body::{push_inner, push_standing};
+use crate::body::{has_open_body, push_inner, push_standing};
 use crate::calls::{call_faults, call_value_faults};
 use crate::here::Here;
 use crate::kind::Kind;
 use jstl_tags::{
-    Body, Given, Host, Row, Takes, child_faults, core_faults, place_faults, row_faults,
+    Body, Given, Holds, Host, Row, Takes, child_faults, core_faults, place_faults, row_faults,
     taken_faults, takes_of,
 };
 use page_directives::Faults;
@@ -28,7 +27,8 @@ use page_reader::Element;
 use pg_text::TranslationFault;
 use std::alloc::{AllocError, Global};
 use tag_decl::TagDecl;
-use unit_source::{MAX_NESTING, PlacedElement};
+use unit_nodes::JspName;
+use unit_source::{MAX_NESTING, PlacedElement, PlacedNode};
 
 // Whether an attribute takes text alone.
 fn takes_text_alone(takes: Option<Takes>) -> bool
@@ -78,6 +78,19 @@ fn refused_faults(fault: TranslationFault, hosts: &[Host]) -> Faults
     Faults::one(fault).and(child_faults(hosts))
 }
 
+// A row as it is asked for over a body.
+fn asked(row: Row, body: &[PlacedNode]) -> Row
+    ensures { row_made result ≡ asked (flat (in_place body.now)) (row_made row) }
+{
+    match row.holds {
+        Holds::Branches if has_open_body(body) => Row {
+            holds: Holds::Anything,
+            ..row
+        },
+        _ => row,
+    }
+}
+
 // The faults of an element by its kind.
 fn kind_faults(
     core: &Prefixes,
@@ -86,14 +99,18 @@ fn kind_faults(
     kind: &Kind,
     hosts: &[Host],
     row: Option<Row>,
-    head: &Element,
+    element: &PlacedElement,
     body: Body,
 ) -> Faults
-    ensures { (tree : Tree) (here : Around) → IsBody body.entry tree → here.around ≡ map host_made hosts.now → here.row ≡ option_map row_made row
-        → result ≡ in_order (kind_faults (λ prefix. contains_text prefix core.now) in_tag (option_map (λ decl. decl.now) decl.entry) (kind_made kind.now) here (opened_of head.now) tree) }
+    ensures { (here : Around) → IsBody body.entry (flat (in_place element.now.body.items)) → here.around ≡ map host_made hosts.now → here.row ≡ option_map row_made row
+        → result ≡ in_order (kind_faults (λ prefix. contains_text prefix core.now) in_tag (option_map (λ decl. decl.now) decl.entry) (kind_made kind.now) here
+        (opened_of element.now.head) (flat (in_place element.now.body.items))) }
 {
+    let head = &element.head;
     match kind {
-        Kind::Core(tag, row) => core_faults(core, (*tag, *row), hosts, head, body),
+        Kind::Core(tag, row) => {
+            core_faults(core, (*tag, asked(*row, &element.body)), hosts, head, body)
+        }
         Kind::Standard(action, standard) => place_faults(in_tag, standard.stands, hosts).and(
             row_faults(core, standard, head, body).and(own_faults(*action, row, head, body)),
         ),
@@ -125,16 +142,7 @@ pub(crate) fn element_faults(
     };
     let hosts = here.around.hosts(alloc)?;
     let deep = Faults::one_if(here.deep >= MAX_NESTING, TranslationFault::TooLarge);
-    Ok(deep.and(kind_faults(
-        core,
-        in_tag,
-        decl,
-        kind,
-        &hosts,
-        here.row,
-        &element.head,
-        body,
-    )))
+    Ok(deep.and(kind_faults(core, in_tag, decl, kind, &hosts, here.row, element, body)))
 }
 
 /// The faults of a value by its element's kind.

@@ -34,6 +34,7 @@ fn meet_entry(entry: Entry, found: &mut Found) -> (Faults, bool)
         Entry::Absent => (Faults::one(TranslationFault::NoFile), false),
         Entry::Cycle => (Faults::one(TranslationFault::IncludeCycle), false),
         Entry::Entered(bytes) => count_file(bytes, found),
+        Entry::Unread(bytes) => (count_file(bytes, found).0, false),
     }
 }
 

@@ -7,7 +7,6 @@ ghost use Rattle.unit_build.specs.Standard.{standard_table};
 ghost use Rattle.unit_build.specs.Kinds.{call_kind, core_kind, kind_of, other_fault, standard_kind, tag_path, target_kind};
 ghost use Rattle.unit_build.specs.Made.{kind_made};
 
-use crate::JspName;
 use crate::standard::standard_row;
 use jstl_tags::{CoreName, Row, core_row};
 use page_directives::{Directive, Target, is_among, target_of};
@@ -15,6 +14,7 @@ use page_pieces::begins;
 use page_reader::Element;
 use pg_text::{Failure, Path, TranslationFault, resolve};
 use std::alloc::{AllocError, Global};
+use unit_nodes::JspName;
 
 /// What an element is.
 #[derive(Drop)]

@@ -15,7 +15,6 @@ mod found;
 mod functions;
 mod here;
 mod include;
-mod jsp_name;
 mod kind;
 mod laws;
 mod leaf;
@@ -26,14 +25,8 @@ mod standard;
 mod start;
 mod steps;
 mod tag;
-mod unit;
 mod values;
 mod walk;
 
 pub use building::build;
-pub use jsp_name::JspName;
 pub use laws::unit_laws;
-pub use unit::{
-    Action, ActionKind, Page, TagFile, Unit, UnitAttribute, UnitAttributes, UnitBody, UnitNode,
-    UnitPart, UnitParts,
-};

@@ -3,19 +3,19 @@ ghost use Rattle.jstl_tags.specs.Elements.{opened_of};
 ghost use Rattle.unit_source.specs.InPlace.{done, element};
 ghost use Rattle.unit_source.specs.Placed.{in_place, node_in_place};
 ghost use Rattle.unit_build.specs.Build.{action_of, built, given_of as made_of, has_body, leaf_before, part_of, parts_of};
-ghost use Rattle.unit_build.specs.Nodes.{action, done as nothing, joined};
-ghost use Rattle.unit_build.specs.Views.{given_of, kind_of as kind_view, node_of, nodes_of, part_of as part_view};
+ghost use Rattle.unit_nodes.specs.Nodes.{action, done as nothing, joined};
+ghost use Rattle.unit_nodes.specs.Views.{given_of, kind_of as kind_view, node_of, nodes_of, part_of as part_view};
 
 use crate::kind::{Kind, kind_of};
-use crate::unit::{
-    Action, ActionKind, UnitAttribute, UnitAttributes, UnitNode, UnitPart, UnitParts,
-};
 use el_reader::read_el;
 use page_directives::Directive;
 use page_pieces::{Attribute, Leaf, Part};
 use page_reader::{Closing, Element};
 use pg_text::{Failure, Listed, Place};
 use std::alloc::{AllocError, Global};
+use unit_nodes::{
+    Action, ActionKind, UnitAttribute, UnitAttributes, UnitNode, UnitPart, UnitParts,
+};
 use unit_source::{PlacedElement, PlacedNode};
 
 /// The nodes of a page or a tag file with these directives. What has a fault is left out.
@@ -48,7 +48,7 @@ fn add_nodes(
 }
 
 #[cycle(building)]
-#[tactic(auto, using(crate::proofs::NodeLemmas::broken_built, crate::proofs::NodeLemmas::element_built, crate::proofs::NodeLemmas::include_built))]
+#[tactic(auto, using(crate::proofs::BuiltLemmas::broken_built, crate::proofs::BuiltLemmas::element_built, crate::proofs::BuiltLemmas::include_built))]
 fn add_node(
     alloc: Global,
     directives: &[Directive],
@@ -67,7 +67,7 @@ fn add_node(
 
 // Adds what an element comes to.
 #[cycle(building)]
-#[tactic(auto, using(crate::proofs::NodeLemmas::joined_done))]
+#[tactic(auto, using(unit_nodes::proofs::NodeLemmas::joined_done))]
 fn add_element(
     alloc: Global,
     directives: &[Directive],
@@ -107,7 +107,7 @@ fn add_action(
 }
 
 // An element as an action of this kind with this body.
-#[tactic(auto, using(crate::proofs::NodeLemmas::action_is))]
+#[tactic(auto, using(unit_nodes::proofs::NodeLemmas::action_is))]
 fn action_node(
     alloc: Global,
     kind: ActionKind,
@@ -127,7 +127,7 @@ fn action_node(
 }
 
 // Adds a node at the end.
-#[tactic(auto, using(crate::proofs::NodeLemmas::nodes_push))]
+#[tactic(auto, using(unit_nodes::proofs::NodeLemmas::nodes_push))]
 fn add(nodes: &mut Vec<UnitNode>, node: UnitNode) -> Result<(), AllocError>
     ensures { OnOk result (nodes_of nodes.new.items ≡ joined (nodes_of nodes.old.items) (node_of node)) }
 {
@@ -136,7 +136,7 @@ fn add(nodes: &mut Vec<UnitNode>, node: UnitNode) -> Result<(), AllocError>
 }
 
 // Adds what a leaf comes to.
-#[tactic(auto, using(crate::proofs::NodeLemmas::joined_done))]
+#[tactic(auto, using(unit_nodes::proofs::NodeLemmas::joined_done))]
 fn add_leaf(
     alloc: Global,
     leaf: &Leaf,

@@ -6,18 +6,18 @@ ghost use Rattle.unit_build.specs.Build.{built};
 ghost use Rattle.unit_build.specs.Made.{class_made};
 ghost use Rattle.unit_build.specs.ReadFound.{state_in};
 ghost use Rattle.unit_build.specs.Unit.{beans_in_order, good_beans, page_of, tag_file};
-ghost use Rattle.unit_build.specs.Views.{nodes_of, page_view, tag_view};
+ghost use Rattle.unit_nodes.specs.Views.{nodes_of, page_view, tag_view};
 
 use crate::beans::Bean;
 use crate::found::Found;
 use crate::nodes::built_nodes;
 use crate::tag::{Tag, own_directives};
-use crate::unit::{Page, TagFile, UnitNode};
 use pg_text::Text;
 use pg_value::{Attrs, Value};
 use std::alloc::{AllocError, Global};
 use std::sync::Arc;
 use tag_decl::declare;
+use unit_nodes::{Page, TagFile, UnitNode};
 use unit_source::{Root, directives};
 
 /// The page that was read, with the tag files and the beans that were found.

@@ -4,8 +4,8 @@ ghost use Rattle.page_directives.specs.Directive.{row_of};
 ghost use Rattle.unit_build.specs.Made.{standard_made, standards_made};
 ghost use Rattle.unit_build.specs.Standard.{standard_table};
 
-use crate::JspName;
 use jstl_tags::{Holds, Row, Stands, Takes};
+use unit_nodes::JspName;
 
 static STANDARD: [(&str, (JspName, Row)); 11] = [
     (

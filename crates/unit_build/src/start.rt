@@ -17,7 +17,6 @@ ghost use Rattle.unit_build.specs.State.{faults_at};
 ghost use Rattle.unit_build.specs.Values.{part_faults};
 ghost use Rattle.unit_build.specs.Walk.{bean_called, declaration_in, file_met, nested};
 
-use crate::JspName;
 use crate::calling::{Called, meet_call};
 use crate::course::Course;
 use crate::element::{element_faults, value_faults};
@@ -32,6 +31,7 @@ use page_reader::Element;
 use std::alloc::{AllocError, Global};
 use std::sync::Arc;
 use tag_decl::TagDecl;
+use unit_nodes::JspName;
 use unit_source::PlacedElement;
 
 // What the class of a `jsp:useBean` comes to.

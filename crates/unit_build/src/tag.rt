@@ -2,13 +2,14 @@ ghost use Rattle.std.specs.Prelude.{◌≡◌, filter, Some, IfOk};
 ghost use Rattle.std.specs.Option.{option_map};
 ghost use Rattle.unit_source.specs.Placed.{root_view};
 ghost use Rattle.unit_build.specs.Calls.{declaration_of};
-ghost use Rattle.unit_build.specs.Own.{root_directives};
+ghost use Rattle.unit_build.specs.Own.{judged_directives, root_directives, stands_in};
 
 use page_directives::Directive;
+use pg_text::Path;
 use std::alloc::{AllocError, Global};
 use std::marker::Model;
 use tag_decl::{TagDecl, declare, is_good};
-use unit_source::{Root, first_directives};
+use unit_source::{Root, directives, first_directives};
 
 /// A tag file that was read. Contracts see it as it was read.
 #[derive(Drop)]
@@ -57,6 +58,23 @@ impl Tag {
     }
 }
 
+// Those of these directives that stand in a file.
+fn standing_in<'r>(
+    alloc: Global,
+    path: &Path,
+    directives: Vec<Directive<'r>>,
+) -> Result<Vec<Directive<'r>>, AllocError>
+    ensures { IfOk result (λ own. own.items ≡ filter (stands_in path.now) directives.items) }
+{
+    let mut own = Vec::new(alloc);
+    for directive in directives {
+        if directive.place().file.as_str() == path.as_str() {
+            own.push(directive)?;
+        }
+    }
+    Ok(own)
+}
+
 /// The directives of the first reading that stand in a page or tag file itself.
 pub(crate) fn own_directives<'r>(
     alloc: Global,
@@ -64,22 +82,23 @@ pub(crate) fn own_directives<'r>(
 ) -> Result<Vec<Directive<'r>>, AllocError>
     ensures { IfOk result (λ own. own.items ≡ root_directives (root_view root.now)) }
 {
-    let mut own = Vec::new(alloc);
-    for directive in first_directives(alloc, root)? {
-        if directive.place().file.as_str() == root.path.as_str() {
-            own.push(directive)?;
-        }
-    }
-    Ok(own)
+    standing_in(alloc, &root.path, first_directives(alloc, root)?)
+}
+
+// Those of the second reading.
+fn judged_directives<'r>(alloc: Global, root: &'r Root) -> Result<Vec<Directive<'r>>, AllocError>
+    ensures { IfOk result (λ own. own.items ≡ judged_directives (root_view root.now)) }
+{
+    standing_in(alloc, &root.path, directives(alloc, &root.nodes)?)
 }
 
 #[tactic(auto, unfolding(tag_decl::specs::Declare::declaration))]
 fn declared_in(alloc: Global, root: &Root) -> Result<Option<TagDecl>, AllocError>
     ensures { IfOk result (λ declared. declared ≡ declaration_of (Some (root_view root.now))) }
 {
-    let own = own_directives(alloc, root)?;
-    let declared = declare(alloc, &own)?;
-    if is_good(&declared.attributes, &own) {
+    let declared = declare(alloc, &own_directives(alloc, root)?)?;
+    let judged = judged_directives(alloc, root)?;
+    if is_good(&declared.attributes, &judged) {
         Ok(Some(declared))
     } else {
         Ok(None)

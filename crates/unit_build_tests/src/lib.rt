@@ -14,4 +14,6 @@ mod places;
 #[cfg(test)]
 mod show;
 #[cfg(test)]
+mod whole;
+#[cfg(test)]
 mod worked;

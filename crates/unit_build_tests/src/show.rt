@@ -7,7 +7,8 @@ use std::alloc::{AllocError, Global};
 use std::marker::Brand;
 use std::sync::ledger::{Blank, Ledger};
 use std::test::Fail;
-use unit_build::{Unit, UnitBody, build};
+use unit_build::build;
+use unit_nodes::{Unit, UnitBody};
 
 // A tree of these files.
 fn tree_of(alloc: Global, files: &[(&str, &str)]) -> Result<Tree, Fail> {

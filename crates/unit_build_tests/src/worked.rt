@@ -1,6 +1,7 @@
 use crate::faults::FAULTS;
 use crate::pages::PAGES;
 use crate::show::{counted, told};
+use crate::whole::WHOLE;
 use std::test::Fail;
 
 #[test]
@@ -15,6 +16,15 @@ fn pages_have_the_units_that_are_worked_out(rt: HostRuntime) -> Result<(), Fail>
 #[test]
 fn faults_are_told_where_they_are_worked_out(rt: HostRuntime) -> Result<(), Fail> {
     for &(files, wanted) in &FAULTS {
+        let told = told(rt.alloc(), files)?;
+        assert_eq!(rt; told.as_str(), wanted);
+    }
+    Ok(())
+}
+
+#[test]
+fn what_isnt_read_whole_is_told_where_it_is_worked_out(rt: HostRuntime) -> Result<(), Fail> {
+    for &(files, wanted) in &WHOLE {
         let told = told(rt.alloc(), files)?;
         assert_eq!(rt; told.as_str(), wanted);
     }

@@ -5,8 +5,8 @@ use Rattle.page_lowering.specs.Programs.{tag_code_of}
 use Rattle.page_meaning.specs.Page.{Page}
 use Rattle.page_shape.specs.Shape.{tag_of}
 use Rattle.page_table.specs.Checked.{TagsFit}
-use Rattle.unit_build.specs.Views.{tag_view}
-use Rattle.unit_build.specs.declared.unit.TagFile.{TagFile}
+use Rattle.unit_nodes.specs.Views.{tag_view}
+use Rattle.unit_nodes.specs.declared.unit.TagFile.{TagFile}
 
 -- the shapes of one of them fit
 pub fits_at : (page : Page) (tags : List TagFile) (i : ℕ) (tag : TagFile) → i < length tags → tag ≡ get_or tags i tag → TagsFit (map (tag_code_of page) (map tag_of (map tag_view tags)))

@@ -6,7 +6,7 @@ ghost use Rattle.page_lowering.specs.Programs.{code_of, file_place, tag_code_of}
 ghost use Rattle.page_shape.specs.Shape.{nodes_of as shape_of, page_of};
 ghost use Rattle.run_world.specs.Programs.{program_of};
 ghost use Rattle.run_world.specs.Tags.{tag_of};
-ghost use Rattle.unit_build.specs.Views.{nodes_of, page_view};
+ghost use Rattle.unit_nodes.specs.Views.{nodes_of, page_view};
 
 use crate::declarations::copied_decl;
 use act_reader::acts;
@@ -18,7 +18,7 @@ use pg_text::{Listed, Path, Place};
 use program_code::nodes;
 use run_world::{Program, TagProgram};
 use std::alloc::{AllocError, Global};
-use unit_build::{Page, TagFile, UnitNode};
+use unit_nodes::{Page, TagFile, UnitNode};
 
 /// The program of a page: its code, and those of the tag files of its unit.
 pub fn program(alloc: Global, page: &Page) -> Result<Program, AllocError>

@@ -9,3 +9,4 @@ pub mod PlacedLemmas
 pub mod PlacingLemmas
 pub mod SpliceLemmas
 pub mod StepLemmas
+pub mod WholeLemmas

@@ -10,3 +10,5 @@ pub mod ReadSplice
 pub mod ReadSteps
 pub mod Root
 pub mod Splice
+pub mod Volume
+pub mod Whole

@@ -8,6 +8,7 @@ use Rattle.unit_source.specs.Files.{Files}
 use Rattle.unit_source.specs.First.{First, first_within, most_deep}
 use Rattle.unit_source.specs.InPlace.{InPlace, all_directives}
 use Rattle.unit_source.specs.Splice.{Spliced, spliced_within}
+use Rattle.unit_source.specs.Volume.{one_file}
 
 pub record Root : Type 0 where
   pub path : List ℕ
@@ -36,7 +37,7 @@ root_of path text in_tag first settings second = record {
 
 -- the second reading under these settings
 abbrev pub second_reading : Files → PageSettings → (path text : List ℕ) → Spliced
-second_reading files settings path text = spliced_within most_deep files settings [] 0 path text (record { prefixes = []; files = 1; bytes = length text })
+second_reading files settings path text = spliced_within most_deep files settings [] 0 path text (record { prefixes = []; volume = one_file (length text) })
 
 abbrev pub with_second : Files → Bool → (path text : List ℕ) → First → PageSettings → Root
 with_second files in_tag path text first settings = root_of path text in_tag first settings (second_reading files settings path text)
@@ -46,7 +47,7 @@ with_first files in_tag path text first = with_second files in_tag path text fir
 
 -- the page or tag file with this text, read twice
 unfoldable pub rooted : Files → (in_tag : Bool) → (path text : List ℕ) → Root
-rooted files in_tag path text = with_first files in_tag path text (first_within most_deep files [] 1 path text)
+rooted files in_tag path text = with_first files in_tag path text (first_within most_deep files [] (one_file (length text)) path text)
 
 -- the page or tag file at a path, where there is one
 abbrev pub root_at : Files → (in_tag : Bool) → (path : List ℕ) → Option Root

@@ -1,5 +1,5 @@
 -- The second reading: a page or a tag file with its includes in place, under the settings that the first reading decided.
-use Rattle.std.specs.Prelude.{ℕ, zero, suc, ◌+◌, ◌&&◌, Bool, true, false, List, [], ◌∷◌, ◌++◌, codes, Option, Some, None, length, nat_lt, nat_le, if◌then◌else◌}
+use Rattle.std.specs.Prelude.{ℕ, zero, suc, ◌+◌, Bool, true, false, List, [], ◌∷◌, ◌++◌, codes, Option, Some, None, length, nat_le, if◌then◌else◌}
 use Rattle.std.specs.Option.{is_some, option_to_list}
 use Rattle.pg_text.specs.declared.place.PageFault.{PageFault}
 use Rattle.pg_text.specs.declared.place.Place.{Place}
@@ -14,20 +14,18 @@ use Rattle.page_reader.specs.Trees.{Opened}
 use Rattle.page_directives.specs.Directive.{Directive}
 use Rattle.page_directives.specs.Taglibs.{prefix_in}
 use Rattle.unit_source.specs.declared.entry.Entry.{Entry}
-use Rattle.unit_source.specs.declared.entry.Entry.TheVariants.{Unnamed, Absent, Cycle, Entered}
+use Rattle.unit_source.specs.declared.entry.Entry.TheVariants.{Unnamed, Absent, Cycle, Entered, Unread}
 use Rattle.unit_source.specs.Files.{Files}
-use Rattle.unit_source.specs.First.{First, directive, included_path, own_directives, firsts_by, brought_by, brought_names, most_files}
+use Rattle.unit_source.specs.First.{First, directive, included_path, own_directives, firsts_by, brought_by, brought_names}
 use Rattle.unit_source.specs.InPlace.{InPlace, done, leaf, element, broken, included, placed, trimmed, with_stop}
+use Rattle.unit_source.specs.declared.volume.Volume.{Volume}
+use Rattle.unit_source.specs.Volume.{and_file, has_room, one_file, spent}
+use Rattle.unit_source.specs.Whole.{known}
 
 -- the prefixes that are registered so far, and the files and bytes of this page or tag file with its includes
 pub record Going : Type 0 where
   pub prefixes : List (List ℕ)
-  pub files : ℕ
-  pub bytes : ℕ
-
--- a unit has so many bytes at most
-abbrev pub most_bytes : ℕ
-most_bytes = 1048576
+  pub volume : Volume
 
 -- elements of a unit stand in so many others at most
 abbrev pub most_nested : ℕ
@@ -44,19 +42,19 @@ spliced nodes names going = record { nodes = nodes; names = names; going = going
 
 -- prefixes more
 abbrev pub with_prefixes : List (List ℕ) → Going → Going
-with_prefixes prefixes going = record { prefixes = going.prefixes ++ prefixes; files = going.files; bytes = going.bytes }
+with_prefixes prefixes going = record { prefixes = going.prefixes ++ prefixes; volume = going.volume }
 
 -- a file more
 abbrev pub with_file : ℕ → Going → Going
-with_file bytes going = record { prefixes = going.prefixes; files = going.files + 1; bytes = going.bytes + bytes }
+with_file bytes going = record { prefixes = going.prefixes; volume = and_file bytes going.volume }
 
--- a limit was passed: no file more is read
+-- a limit of files or bytes was passed: no file more is read
 abbrev pub full : Going → Going
-full going = record { prefixes = going.prefixes; files = most_files; bytes = going.bytes }
+full going = record { prefixes = going.prefixes; volume = spent going.volume }
 
 -- the files and bytes of what was included, with the prefixes from before
 abbrev pub with_counts : Going → Going → Going
-with_counts inner going = record { prefixes = going.prefixes; files = inner.files; bytes = inner.bytes }
+with_counts inner going = record { prefixes = going.prefixes; volume = inner.volume }
 
 -- what an include directive comes to, and what is read there
 pub record Inner : Type 0 where
@@ -71,10 +69,6 @@ nothing_read entry names going = record { entry = entry; names = names; nodes = 
 abbrev pub file_read : List ℕ → List ℕ → Spliced → Going → Inner
 file_read target text inner going = record { entry = Entered (length text); names = target ∷ inner.names; nodes = inner.nodes; going = with_counts inner.going going }
 
--- a file of so many bytes is read within so many elements, where the page or tag file passes no limit by it
-abbrev pub has_room : ℕ → ℕ → Going → Bool
-has_room around bytes going = nat_le around most_nested && nat_lt going.files most_files && nat_le (going.bytes + bytes) most_bytes
-
 -- one open element more, counted no further than to where nothing is read
 abbrev pub deeper : ℕ → ℕ
 deeper around = if nat_le around most_nested then around + 1 else around
@@ -83,13 +77,18 @@ deeper around = if nat_le around most_nested then around + 1 else around
 abbrev pub Enter : Type 0
 Enter = ℕ → (path text : List ℕ) → Going → Spliced
 
--- behind a limit of the unit nothing is read
+-- behind a limit of files or bytes nothing is read
+abbrev pub room_read : Enter → ℕ → (target text : List ℕ) → Going → Inner
+room_read enter around target text going =
+    if has_room (length text) going.volume
+    then file_read target text (enter around target text (with_file (length text) going)) going
+    else nothing_read (Unread (length text)) (target ∷ []) (full going)
+
+-- within too many elements a file isn't read, but later ones are
 abbrev pub text_read : Enter → ℕ → List ℕ → Option (List ℕ) → Going → Inner
 text_read enter around target None going = nothing_read Absent (target ∷ []) going
 text_read enter around target (Some text) going =
-    if has_room around (length text) going
-    then file_read target text (enter around target text (with_file (length text) going)) going
-    else nothing_read (Entered (length text)) (target ∷ []) (full going)
+    if nat_le around most_nested then room_read enter around target text going else nothing_read (Unread (length text)) (target ∷ []) going
 
 abbrev pub target_read : Enter → Files → (chain : List (List ℕ)) → ℕ → (has_text : Bool) → Option (List ℕ) → Going → Inner
 target_read enter files chain around false target going = nothing_read Unnamed [] going
@@ -111,7 +110,7 @@ abbrev pub leaf_then : Leaf → Place → Spliced → Spliced
 leaf_then kind place next = spliced (leaf kind place next.nodes) next.names next.going
 
 abbrev pub element_then : Opened → Spliced → Spliced → Spliced
-element_then opened inner next = spliced (element opened inner.nodes next.nodes) (inner.names ++ next.names) next.going
+element_then opened inner next = spliced (element (known inner.nodes opened) inner.nodes next.nodes) (inner.names ++ next.names) next.going
 
 abbrev pub broken_then : PageFault → Spliced → Spliced
 broken_then fault next = spliced (broken fault next.nodes) next.names next.going
@@ -151,7 +150,7 @@ file_with enter files settings chain around path text going firsts =
 
 -- a file within the files of the chain, itself among them
 abbrev pub file_within : Enter → Files → PageSettings → (chain : List (List ℕ)) → ℕ → (path text : List ℕ) → Going → Spliced
-file_within enter files settings chain around path text going = file_with enter files settings chain around path text going (firsts_by files chain (own_directives path text))
+file_within enter files settings chain around path text going = file_with enter files settings chain around path text going (firsts_by files chain (one_file (length text)) (own_directives path text))
 
 -- a file with its includes in place, within the files of the chain and so many open elements, so many files deep at most
 unfoldable pub spliced_within : ℕ → Files → PageSettings → List (List ℕ) → Enter

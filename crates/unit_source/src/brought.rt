@@ -1,25 +1,28 @@
 ghost use Rattle.std.specs.Prelude.{◌≡◌, ◌++◌, IfOk, OnOk};
 ghost use Rattle.unit_source.specs.Files.{text_in};
 ghost use Rattle.unit_source.specs.First.{brought_by, brought_first, brought_names, firsts_by};
+ghost use Rattle.unit_source.specs.Volume.{one_file};
 
 use crate::WrittenDirective;
 use crate::files::UnitFiles;
 use crate::first::{First, MAX_CHAIN, read_included};
 use crate::prefixes::prefixes_of;
+use crate::volume::Volume;
 use page_pieces::{Brought, BroughtPrefixes};
 use pg_text::{Listed, Path};
 use std::alloc::AllocError;
 
-// What an include directive brings: the first readings of its file, and of what that includes.
+// What an include directive brings behind so much: the first readings of its file, and of what that includes.
 fn brought_first(
     files: &mut UnitFiles,
     chain: &[Path],
+    volume: Volume,
     directive: &WrittenDirective,
 ) -> Result<First, AllocError>
-    ensures first { IfOk result (λ first. first ≡ brought_first (text_in files.old) chain.now directive.now) }
+    ensures first { IfOk result (λ first. first ≡ brought_first (text_in files.old) chain.now volume directive.now) }
     ensures files { files.new ≡ files.old }
 {
-    let mut found = First::new(files.alloc(), 0);
+    let mut found = First::new(files.alloc(), volume);
     read_included(files, chain, MAX_CHAIN, directive, &mut found)?;
     Ok(found)
 }
@@ -34,23 +37,26 @@ pub(crate) fn push_names(names: &mut Listed<Path>, more: &[Path]) -> Result<(), 
     Ok(())
 }
 
-// The prefixes that the include directives of a file bring, whose chain and own directives these are. The names of the files
+// The prefixes that the include directives of a file bring, whose chain, bytes and own directives these are. The names of the files
 // that are read for it are added.
 pub(crate) fn read_brought(
     files: &mut UnitFiles,
     chain: &[Path],
+    bytes: usize,
     own: &[WrittenDirective],
     names: &mut Listed<Path>,
 ) -> Result<Brought, AllocError>
-    ensures brought { IfOk result (λ brought. brought ≡ brought_by (firsts_by (text_in files.old) chain.now own.now)) }
-    ensures names { OnOk result (names.new ≡ names.old ++ brought_names (firsts_by (text_in files.old) chain.now own.now)) }
+    ensures brought { IfOk result (λ brought. brought ≡ brought_by (firsts_by (text_in files.old) chain.now (one_file bytes) own.now)) }
+    ensures names { OnOk result (names.new ≡ names.old ++ brought_names (firsts_by (text_in files.old) chain.now (one_file bytes) own.now)) }
     ensures files { files.new ≡ files.old }
 {
     let alloc = files.alloc();
     let mut brought = Brought::empty(alloc);
+    let mut volume = Volume::one(bytes);
     for directive in own {
         if directive.name() == "include" {
-            let first = brought_first(files, chain, directive)?;
+            let first = brought_first(files, chain, volume, directive)?;
+            volume = first.volume();
             brought.push(BroughtPrefixes {
                 byte: directive.place().byte,
                 prefixes: prefixes_of(alloc, first.directives())?,

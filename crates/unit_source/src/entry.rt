@@ -7,6 +7,9 @@ pub enum Entry {
     Absent,
     /// The file that it names is being read.
     Cycle,
-    /// The file that it names has so many bytes. Behind a limit of the unit it isn't read, and nothing of it is in place.
+    /// The file that it names has so many bytes, and is read.
     Entered(usize),
+    /// The file that it names has so many bytes, and isn't read: it stands in too many elements, or behind a limit of files or
+    /// bytes.
+    Unread(usize),
 }

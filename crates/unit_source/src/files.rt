@@ -1,4 +1,4 @@
-ghost use Rattle.std.specs.Prelude.{◌≡◌, IfOk};
+ghost use Rattle.std.specs.Prelude.{◌≡◌, length, IfOk};
 ghost use Rattle.std.specs.List.{find};
 ghost use Rattle.std.specs.Option.{option_copied, option_map};
 ghost use Rattle.std.specs.Str.{bytes_eq};
@@ -64,6 +64,16 @@ impl<'a> UnitFiles<'a> {
         match self.file(path)? {
             Some(source) => Ok(Some(read_twice(self, &source, in_tag)?)),
             None => Ok(None),
+        }
+    }
+
+    // How many bytes the file at a path has, where one stands there.
+    pub(crate) fn bytes_at(&self, path: &Path) -> Option<usize>
+        ensures { result ≡ option_map (λ text. length text) (text_in self.now path.now) }
+    {
+        match self.tree.get(path) {
+            Some(file) => Some(file.text.len()),
+            None => None,
         }
     }
 

@@ -7,6 +7,7 @@ ghost use Rattle.unit_source.specs.ReadSteps.{filled};
 use crate::found::FoundNodes;
 use crate::placed::{PlacedInclude, PlacedNode, element_node, include_node};
 use crate::placing::add;
+use crate::whole::known;
 use std::alloc::{AllocError, Global};
 use std::collections::VecDeque;
 
@@ -42,7 +43,8 @@ fn fill_node(
     match node {
         PlacedNode::Element(element) => {
             let body = fill_nodes(alloc, element.body, found)?;
-            Ok(element_node(element.head, body))
+            let head = known(element.head, &body);
+            Ok(element_node(head, body))
         }
         PlacedNode::Included(include) => Ok(fill_include(include, found)),
         PlacedNode::Leaf(kind, place) => Ok(PlacedNode::Leaf(kind, place)),

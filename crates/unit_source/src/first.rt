@@ -7,21 +7,20 @@ use crate::WrittenDirective;
 use crate::chain::{chain_with, contains, included_path};
 use crate::files::UnitFiles;
 use crate::source_file::SourceFile;
+use crate::volume::Volume;
 use pg_text::{Listed, Path};
 use std::alloc::{AllocError, Global};
 use std::marker::Model;
 
-/// The most files of a unit.
-pub const MAX_UNIT_FILES: usize = 256;
 // The most files of a chain of includes.
 pub(crate) const MAX_CHAIN: usize = 257;
 
-// First readings: directives in reading order, the names of the files that they include, and how many files were read.
+// First readings: directives in reading order, the names of the files that they include, and what was read.
 #[derive(Drop)]
 pub(crate) struct First {
     directives: Listed<WrittenDirective>,
     names: Listed<Path>,
-    count: usize,
+    volume: Volume,
 }
 
 impl Model for First {
@@ -29,18 +28,18 @@ impl Model for First {
 
     ghost Value = { Seen };
 
-    ghost view = { λ f. record { directives = f.directives; names = f.names; count = f.count } };
+    ghost view = { λ f. record { directives = f.directives; names = f.names; volume = f.volume } };
 }
 
 impl First {
-    // So many files were read, and nothing was met.
-    pub fn new(alloc: Global, count: usize) -> Self
-        ensures { result ≡ none_read count }
+    // So much was read, and nothing was met.
+    pub fn new(alloc: Global, volume: Volume) -> Self
+        ensures { result ≡ none_read volume }
     {
         First {
             directives: Listed::empty(alloc),
             names: Listed::empty(alloc),
-            count,
+            volume,
         }
     }
 
@@ -54,6 +53,13 @@ impl First {
         ensures { result.now ≡ self.now.names }
     {
         self.names.as_slice()
+    }
+
+    // What was read.
+    pub fn volume(&self) -> Volume
+        ensures { result ≡ self.now.volume }
+    {
+        self.volume
     }
 
     // The directives and the names, without a copy.
@@ -87,7 +93,7 @@ pub(crate) fn read_first(
     file: &SourceFile,
     found: &mut First,
 ) -> Result<(), AllocError>
-    ensures first { OnOk result (found.new ≡ gathered found.old (first_within deep (text_in files.old) chain.now found.old.count file.now.path file.now.text)) }
+    ensures first { OnOk result (found.new ≡ gathered found.old (first_within deep (text_in files.old) chain.now found.old.volume file.now.path file.now.text)) }
     ensures files { files.new ≡ files.old }
 {
     if deep == 0 {
@@ -106,7 +112,7 @@ fn read_all(
     own: &[WrittenDirective],
     found: &mut First,
 ) -> Result<(), AllocError>
-    ensures first { OnOk result (found.new ≡ gathered found.old (first_all (first_within deep (text_in files.old) chain.now) (text_in files.old) chain.now found.old.count own.now)) }
+    ensures first { OnOk result (found.new ≡ gathered found.old (first_all (first_within deep (text_in files.old) chain.now) (text_in files.old) chain.now found.old.volume own.now)) }
     ensures files { files.new ≡ files.old }
 {
     for directive in own {
@@ -125,7 +131,7 @@ pub(crate) fn read_included(
     directive: &WrittenDirective,
     found: &mut First,
 ) -> Result<(), AllocError>
-    ensures first { OnOk result (found.new ≡ gathered found.old (first_file (first_within deep (text_in files.old) chain.now) (text_in files.old) chain.now found.old.count (included_path directive.now))) }
+    ensures first { OnOk result (found.new ≡ gathered found.old (first_file (first_within deep (text_in files.old) chain.now) (text_in files.old) chain.now found.old.volume (included_path directive.now))) }
     ensures files { files.new ≡ files.old }
 {
     let Some(path) = included_path(files.alloc(), directive)? else {
@@ -135,12 +141,16 @@ pub(crate) fn read_included(
     if contains(chain, &path) {
         return Ok(());
     }
-    let Some(file) = files.file(&path)? else {
+    let Some(bytes) = files.bytes_at(&path) else {
         return Ok(());
     };
-    if found.count >= MAX_UNIT_FILES {
+    if !found.volume.has_room(bytes) {
+        found.volume.spend();
         return Ok(());
     }
-    found.count += 1;
+    found.volume.count(bytes);
+    let Some(file) = files.file(&path)? else {
+        unreachable!();
+    };
     read_first(files, chain, deep, &file, found)
 }

@@ -21,13 +21,15 @@ mod second;
 mod source_file;
 mod splice;
 mod steps;
+mod volume;
+mod whole;
 
 pub use directive::WrittenDirective;
 pub use entry::Entry;
 pub use files::UnitFiles;
-pub use first::MAX_UNIT_FILES;
 pub use laws::same_root;
 pub use placed::{PlacedElement, PlacedInclude, PlacedNode};
-pub use progress::{MAX_NESTING, MAX_UNIT_BYTES};
+pub use progress::MAX_NESTING;
 pub use reading_order::{directives, first_directives};
 pub use root::Root;
+pub use volume::{MAX_UNIT_BYTES, MAX_UNIT_FILES};

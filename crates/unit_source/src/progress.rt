@@ -1,22 +1,21 @@
-ghost use Rattle.std.specs.Prelude.{◌≡◌, ◌∷◌, ◌≤◌, [], true, IfOk, OnOk};
+ghost use Rattle.std.specs.Prelude.{◌≡◌, ◌∷◌, [], true, IfOk, OnOk};
 ghost use Rattle.page_pieces.specs.Settings.{brought_at};
 ghost use Rattle.unit_source.specs.Files.{text_in};
 ghost use Rattle.unit_source.specs.First.{brought_by, brought_names, firsts_by};
 ghost use Rattle.unit_source.specs.ReadSplice.{gone, with_more};
-ghost use Rattle.unit_source.specs.Splice.{full, has_room, with_file, with_prefixes};
+ghost use Rattle.unit_source.specs.Splice.{full, with_file, with_prefixes};
+ghost use Rattle.unit_source.specs.Volume.{has_room, one_file};
 
 use crate::WrittenDirective;
 use crate::brought::read_brought;
 use crate::files::UnitFiles;
-use crate::first::MAX_UNIT_FILES;
 use crate::prefixes::{push_all, push_brought};
+use crate::volume::Volume;
 use page_pieces::{Brought, BroughtPrefixes, Prefixes};
 use pg_text::{Listed, Path, Text};
 use std::alloc::{AllocError, Global};
 use std::marker::Model;
 
-/// The most bytes of a unit.
-pub const MAX_UNIT_BYTES: usize = 1_048_576;
 /// The most elements in which an element of a unit stands.
 pub const MAX_NESTING: usize = 64;
 
@@ -26,32 +25,26 @@ pub const MAX_NESTING: usize = 64;
 pub(crate) struct Progress {
     names: Listed<Path>,
     prefixes: Prefixes,
-    files: usize,
-    bytes: usize,
+    volume: Volume,
 }
 
 impl Model for Progress {
-    ghost use Rattle.std.specs.Prelude.{◌≤◌};
     ghost use Rattle.unit_source.specs.ReadSplice.{Gone};
 
     ghost Value = { Gone };
 
-    ghost view = { λ p. record { names = p.names; going = record { prefixes = p.prefixes; files = p.files; bytes = p.bytes } } };
-
-    ghost invariant = { λ p. p.bytes ≤ 1048576 };
+    ghost view = { λ p. record { names = p.names; going = record { prefixes = p.prefixes; volume = p.volume } } };
 }
 
 impl Progress {
     // A file of so many bytes is read, and nothing else yet.
     pub fn new(alloc: Global, bytes: usize) -> Self
-        requires { bytes ≤ MAX_UNIT_BYTES }
-        ensures { result ≡ gone [] (record { prefixes = []; files = 1; bytes = bytes }) }
+        ensures { result ≡ gone [] (record { prefixes = []; volume = one_file bytes }) }
     {
         Progress {
             names: Listed::empty(alloc),
             prefixes: Prefixes::new(alloc),
-            files: 1,
-            bytes,
+            volume: Volume::one(bytes),
         }
     }
 
@@ -80,13 +73,14 @@ impl Progress {
         &mut self,
         files: &mut UnitFiles,
         chain: &[Path],
+        bytes: usize,
         own: &[WrittenDirective],
     ) -> Result<Brought, AllocError>
-        ensures brought { IfOk result (λ brought. brought ≡ brought_by (firsts_by (text_in files.old) chain.now own.now)) }
-        ensures names { OnOk result (self.new ≡ with_more (brought_names (firsts_by (text_in files.old) chain.now own.now)) self.old) }
+        ensures brought { IfOk result (λ brought. brought ≡ brought_by (firsts_by (text_in files.old) chain.now (one_file bytes) own.now)) }
+        ensures names { OnOk result (self.new ≡ with_more (brought_names (firsts_by (text_in files.old) chain.now (one_file bytes) own.now)) self.old) }
         ensures files { files.new ≡ files.old }
     {
-        read_brought(files, chain, own, &mut self.names)
+        read_brought(files, chain, bytes, own, &mut self.names)
     }
 
     // Prefixes are registered.
@@ -109,32 +103,30 @@ impl Progress {
 
     // These prefixes are registered and no others.
     pub fn set_prefixes(&mut self, prefixes: Prefixes)
-        ensures { self.new ≡ gone self.old.names (record { prefixes = prefixes; files = self.old.going.files; bytes = self.old.going.bytes }) }
+        ensures { self.new ≡ gone self.old.names (record { prefixes = prefixes; volume = self.old.going.volume }) }
     {
         self.prefixes = prefixes;
     }
 
-    // Whether a file of so many bytes may be read within so many open elements.
-    pub fn has_room(&self, around: usize, bytes: usize) -> bool
-        requires { bytes ≤ MAX_UNIT_BYTES }
-        ensures { result ≡ has_room around bytes self.now.going }
+    // Whether a file of so many bytes passes no limit of files or bytes.
+    pub fn has_room(&self, bytes: usize) -> bool
+        ensures { result ≡ has_room bytes self.now.going.volume }
     {
-        around <= MAX_NESTING && self.files < MAX_UNIT_FILES && self.bytes + bytes <= MAX_UNIT_BYTES
+        self.volume.has_room(bytes)
     }
 
-    // A file of so many bytes is read, within so many open elements.
-    pub fn count_file(&mut self, around: usize, bytes: usize)
-        requires { has_room around bytes self.old.going ≡ true }
+    // A file of so many bytes is read.
+    pub fn count_file(&mut self, bytes: usize)
+        requires { has_room bytes self.old.going.volume ≡ true }
         ensures { self.new ≡ gone self.old.names (with_file bytes self.old.going) }
     {
-        self.files += 1;
-        self.bytes += bytes;
+        self.volume.count(bytes);
     }
 
     // No file more is read.
     pub fn fill(&mut self)
         ensures { self.new ≡ gone self.old.names (full self.old.going) }
     {
-        self.files = MAX_UNIT_FILES;
+        self.volume.spend();
     }
 }

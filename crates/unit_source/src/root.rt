@@ -1,9 +1,10 @@
-ghost use Rattle.std.specs.Prelude.{◌≡◌, [], IfOk};
+ghost use Rattle.std.specs.Prelude.{◌≡◌, [], length, IfOk};
 ghost use Rattle.page_directives.specs.Settings.{settings_of};
 ghost use Rattle.unit_source.specs.Files.{text_in};
 ghost use Rattle.unit_source.specs.First.{first_within, most_deep};
 ghost use Rattle.unit_source.specs.Placed.{root_view};
 ghost use Rattle.unit_source.specs.Root.{rooted};
+ghost use Rattle.unit_source.specs.Volume.{one_file};
 
 use crate::brought::push_names;
 use crate::files::UnitFiles;
@@ -12,6 +13,7 @@ use crate::progress::Progress;
 use crate::reading_order::borrowed;
 use crate::source_file::SourceFile;
 use crate::splice::read_file;
+use crate::volume::Volume;
 use crate::{PlacedNode, WrittenDirective};
 use page_directives::settings;
 use pg_text::{Listed, Path};
@@ -49,10 +51,10 @@ fn decided_settings(
 
 // The first reading of a file and of what it includes.
 fn first_reading(files: &mut UnitFiles, source: &SourceFile) -> Result<First, AllocError>
-    ensures first { IfOk result (λ first. first ≡ first_within most_deep (text_in files.old) [] 1 source.now.path source.now.text) }
+    ensures first { IfOk result (λ first. first ≡ first_within most_deep (text_in files.old) [] (one_file (length source.now.text)) source.now.path source.now.text) }
     ensures files { files.new ≡ files.old }
 {
-    let mut first = First::new(files.alloc(), 1);
+    let mut first = First::new(files.alloc(), Volume::one(source.text().len()));
     let outside: Listed<Path> = Listed::empty(files.alloc());
     read_first(files, outside.as_slice(), MAX_CHAIN, source, &mut first)?;
     Ok(first)

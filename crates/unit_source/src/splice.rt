@@ -3,13 +3,13 @@ ghost use Rattle.unit_source.specs.Files.{text_in};
 ghost use Rattle.unit_source.specs.Placed.{in_place};
 ghost use Rattle.unit_source.specs.ReadSplice.{behind_file, behind_inner, found_of, reads, step_of, taken_of, with_more};
 ghost use Rattle.unit_source.specs.ReadSteps.{both_taken, found_in, taken};
-ghost use Rattle.unit_source.specs.Splice.{file_nodes, nodes_read, spliced_within, target_read, text_read};
+ghost use Rattle.unit_source.specs.Splice.{file_nodes, nodes_read, room_read, spliced_within, target_read, text_read};
 
 use crate::chain::{chain_with, contains, included_path};
 use crate::files::UnitFiles;
 use crate::fill::fill_nodes;
 use crate::found::FoundNodes;
-use crate::progress::Progress;
+use crate::progress::{MAX_NESTING, Progress};
 use crate::second::read_alone;
 use crate::source_file::SourceFile;
 use crate::steps::{Step, add_steps};
@@ -191,14 +191,36 @@ fn enter_source(
         ≡ behind_inner progress.old (text_read (spliced_within file.now.deep (text_in files.old) file.now.settings.now file.now.chain) around source.now.path (Some source.now.text) progress.old.going)) }
     ensures files { files.new ≡ files.old }
 {
+    if around > MAX_NESTING {
+        progress.push_name(source.path())?;
+        return Ok(FoundNodes::nothing(files.alloc(), Entry::Unread(source.text().len())));
+    }
+    enter_within(files, file, around, source, progress)
+}
+
+// The same where no more elements are open around it than may be.
+#[cycle(splicing)]
+fn enter_within(
+    files: &mut UnitFiles,
+    file: &InFile,
+    around: usize,
+    source: &SourceFile,
+    progress: &mut Progress,
+) -> Result<FoundNodes, AllocError>
+    ensures found { IfOk result (λ found. found_of found
+        ≡ found_in (room_read (spliced_within file.now.deep (text_in files.old) file.now.settings.now file.now.chain) around source.now.path source.now.text progress.old.going)) }
+    ensures progress { OnOk result (progress.new
+        ≡ behind_inner progress.old (room_read (spliced_within file.now.deep (text_in files.old) file.now.settings.now file.now.chain) around source.now.path source.now.text progress.old.going)) }
+    ensures files { files.new ≡ files.old }
+{
     let bytes = source.text().len();
     progress.push_name(source.path())?;
-    if !progress.has_room(around, bytes) {
+    if !progress.has_room(bytes) {
         progress.fill();
-        return Ok(FoundNodes::nothing(files.alloc(), Entry::Entered(bytes)));
+        return Ok(FoundNodes::nothing(files.alloc(), Entry::Unread(bytes)));
     }
     let prefixes = progress.prefixes().copy()?;
-    progress.count_file(around, bytes);
+    progress.count_file(bytes);
     let nodes = read_file(
         files,
         file.settings,

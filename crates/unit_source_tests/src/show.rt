@@ -42,6 +42,7 @@ fn show_entry(alloc: Global, entry: Entry, out: &mut String) -> Result<(), Alloc
         Entry::Unnamed => out.push_str("unnamed"),
         Entry::Absent => out.push_str("absent"),
         Entry::Cycle => out.push_str("cycle"),
+        Entry::Unread(_) => out.push_str("unread"),
         Entry::Entered(bytes) => {
             let bytes = format!(in alloc; "{bytes}")?;
             out.push_str(bytes.as_str())

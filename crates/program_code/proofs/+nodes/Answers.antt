@@ -8,7 +8,7 @@ use Rattle.page_lowering.specs.Expressions.{visits}
 use Rattle.page_lowering.specs.Lowering.{nodes_form}
 use Rattle.page_shape.specs.Named.{part_of}
 use Rattle.page_shape.specs.Shape.{page_of}
-use Rattle.unit_build.specs.Views.{page_view, part_of as part_view}
+use Rattle.unit_nodes.specs.Views.{page_view, part_of as part_view}
 use Rattle.program_code.proofs.ActionLemmas.{addressed_is, enclosed_is}
 use Rattle.program_code.proofs.CallLemmas.{fragment_is, fragments_from, fragments_past, unless_fragment, written_is}
 use Rattle.program_code.proofs.ChoiceLemmas.{branches_end, branches_from, branches_past, when_is}

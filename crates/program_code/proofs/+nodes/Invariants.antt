@@ -9,7 +9,7 @@ use Rattle.page_acts.specs.declared.acts.CallBody.{size-CallBody}
 use Rattle.page_forms.specs.Codes.{form_code}
 use Rattle.page_lowering.specs.Lowering.{attributes_form, branches_form, fragments_form, nodes_form, params_form}
 use Rattle.page_shape.specs.Shape.{page_of}
-use Rattle.unit_build.specs.Views.{page_view}
+use Rattle.unit_nodes.specs.Views.{page_view}
 use Rattle.program_code.specs.Calls.{with_fragments}
 use Rattle.program_code.proofs.+nodes.Given as goal
 

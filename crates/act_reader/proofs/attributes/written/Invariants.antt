@@ -3,7 +3,7 @@ use Rattle.act_reader.specs.Before.{attributes_before}
 use Rattle.page_meaning.specs.Page.{Attributes}
 use Rattle.page_shape.specs.Kinds.{statics_of}
 use Rattle.page_shape.specs.Named.{written_before}
-use Rattle.unit_build.specs.Views.{given_of, kind_of}
+use Rattle.unit_nodes.specs.Views.{given_of, kind_of}
 use Rattle.act_reader.proofs.attributes.written.Given as goal
 
 abbrev pub invariant-loop-attribute : goal.invariant-loop-attribute

@@ -1,7 +1,7 @@
 use Rattle.std.proofs.Common.{◌≡◌, drop, map}
 use Rattle.std.specs.List.{find}
 use Rattle.std.specs.Str.{bytes_eq}
-use Rattle.unit_build.specs.Views.{given_of}
+use Rattle.unit_nodes.specs.Views.{given_of}
 use Rattle.act_reader.proofs.named.attribute_named.Given as goal
 
 abbrev pub invariant-loop-attribute : goal.invariant-loop-attribute

@@ -1,6 +1,6 @@
 use Rattle.std.proofs.Common.{◌≡◌, ◌++◌, drop, map, string_bytes}
 use Rattle.page_shape.specs.Named.{plain_text}
-use Rattle.unit_build.specs.Views.{part_of}
+use Rattle.unit_nodes.specs.Views.{part_of}
 use Rattle.act_reader.proofs.named.joined_text.Given as goal
 
 abbrev pub invariant-loop-part : goal.invariant-loop-part

@@ -2,7 +2,7 @@ use Rattle.std.proofs.Common.{◌≡◌, ◌++◌, drop, map}
 use Rattle.page_forms.specs.Codes.{form_code}
 use Rattle.page_lowering.specs.Values.{texts_form}
 use Rattle.page_shape.specs.Named.{part_of}
-use Rattle.unit_build.specs.Views.{part_of as part_view}
+use Rattle.unit_nodes.specs.Views.{part_of as part_view}
 use Rattle.expression_code.proofs.written.texts.Given as goal
 
 abbrev pub invariant-loop-part : goal.invariant-loop-part

@@ -1,7 +1,7 @@
 use Rattle.std.proofs.Common.{◌≡◌, drop, map}
 use Rattle.page_meaning.specs.Tags.{tag_at}
 use Rattle.page_shape.specs.Shape.{tag_of}
-use Rattle.unit_build.specs.Views.{tag_view}
+use Rattle.unit_nodes.specs.Views.{tag_view}
 use Rattle.program_code.proofs.calls.tag_at.Given as goal
 
 abbrev pub invariant-loop-tag : goal.invariant-loop-tag

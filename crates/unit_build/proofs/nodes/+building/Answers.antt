@@ -2,9 +2,10 @@ use Rattle.std.proofs.Common.{◌∙◌, sym, arith}
 use Rattle.std.proofs.lemmas.List.{at_drop_all}
 use Rattle.unit_source.specs.Placed.{in_place}
 use Rattle.unit_build.specs.Build.{built}
-use Rattle.unit_build.specs.Nodes.{joined}
-use Rattle.unit_build.specs.Views.{nodes_of}
-use Rattle.unit_build.proofs.NodeLemmas.{joined_done, next_built}
+use Rattle.unit_nodes.specs.Nodes.{joined}
+use Rattle.unit_nodes.specs.Views.{nodes_of}
+use Rattle.unit_nodes.proofs.NodeLemmas.{joined_done}
+use Rattle.unit_build.proofs.BuiltLemmas.{next_built}
 use Rattle.unit_build.proofs.nodes.+building.Goals as goal
 
 pub add_nodes-loop-node-preserved : goal.add_nodes-loop-node-preserved

@@ -1,8 +1,8 @@
 use Rattle.std.proofs.Common.{◌≡◌, drop}
 use Rattle.unit_source.specs.Placed.{in_place}
 use Rattle.unit_build.specs.Build.{built}
-use Rattle.unit_build.specs.Nodes.{joined}
-use Rattle.unit_build.specs.Views.{nodes_of}
+use Rattle.unit_nodes.specs.Nodes.{joined}
+use Rattle.unit_nodes.specs.Views.{nodes_of}
 use Rattle.unit_build.proofs.nodes.+building.Given as goal
 
 abbrev pub invariant-add_nodes-loop-node : goal.invariant-add_nodes-loop-node

@@ -1,5 +1,5 @@
 use Rattle.std.proofs.Common.{◌∙◌, refl}
-use Rattle.unit_build.proofs.NodeLemmas.{action_is}
+use Rattle.unit_nodes.proofs.NodeLemmas.{action_is}
 use Rattle.unit_build.proofs.nodes.action_node.Goals as goal
 
 pub returns : goal.returns

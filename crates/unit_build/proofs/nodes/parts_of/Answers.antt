@@ -1,5 +1,5 @@
 use Rattle.std.proofs.Common.{arith}
-use Rattle.unit_build.proofs.NodeLemmas.{next_part}
+use Rattle.unit_build.proofs.BuiltLemmas.{next_part}
 use Rattle.unit_build.proofs.nodes.parts_of.Goals as goal
 
 pub loop-part-preserved : goal.loop-part-preserved

@@ -1,6 +1,6 @@
 use Rattle.std.proofs.Common.{◌≡◌, ◌++◌, map, drop}
 use Rattle.unit_build.specs.Build.{parts_of}
-use Rattle.unit_build.specs.Views.{part_of}
+use Rattle.unit_nodes.specs.Views.{part_of}
 use Rattle.unit_build.proofs.nodes.parts_of.Given as goal
 
 abbrev pub invariant-loop-part : goal.invariant-loop-part

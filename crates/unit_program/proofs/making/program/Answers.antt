@@ -2,7 +2,7 @@ use Rattle.std.proofs.Common.{sym, subst}
 use Rattle.page_code.specs.Fits.{CodeFits}
 use Rattle.page_lowering.specs.Programs.{code_of, file_place}
 use Rattle.page_shape.specs.Shape.{nodes_of as shape_of, page_of}
-use Rattle.unit_build.specs.Views.{nodes_of, page_view}
+use Rattle.unit_nodes.specs.Views.{nodes_of, page_view}
 use Rattle.unit_program.proofs.making.program.Goals as goal
 
 pub file_code-requires : goal.file_code-requires

@@ -3,7 +3,7 @@ use Rattle.page_code.specs.Fits.{CodeFits}
 use Rattle.page_lowering.specs.Programs.{code_of, file_place, tag_code_of}
 use Rattle.page_shape.specs.Shape.{nodes_of as shape_of, page_of, tag_of}
 use Rattle.page_table.specs.Checked.{TagsFit}
-use Rattle.unit_build.specs.Views.{nodes_of, page_view, tag_view}
+use Rattle.unit_nodes.specs.Views.{nodes_of, page_view, tag_view}
 use Rattle.unit_program.proofs.TagLemmas.{fits_at}
 use Rattle.unit_program.proofs.making.tag_programs.Goals as goal
 

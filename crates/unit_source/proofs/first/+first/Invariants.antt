@@ -16,6 +16,6 @@ decreases-read_all l = 3 * l.deep + 2
 abbrev pub invariant-read_all-loop-directive : goal.invariant-read_all-loop-directive
 invariant-read_all-loop-directive l = record {
   files : l.files ≡ l.fn.files;
-  first : gathered l.found (first_all (first_within l.deep (text_in l.fn.files) l.chain) (text_in l.fn.files) l.chain l.found.count (drop l.directive-index l.own))
-      ≡ gathered l.fn.found (first_all (first_within l.deep (text_in l.fn.files) l.chain) (text_in l.fn.files) l.chain l.fn.found.count l.own);
+  first : gathered l.found (first_all (first_within l.deep (text_in l.fn.files) l.chain) (text_in l.fn.files) l.chain l.found.volume (drop l.directive-index l.own))
+      ≡ gathered l.fn.found (first_all (first_within l.deep (text_in l.fn.files) l.chain) (text_in l.fn.files) l.chain l.fn.found.volume l.own);
 }

@@ -1,4 +1,4 @@
-use Rattle.std.proofs.Common.{◌≡◌, ◌∙◌, ◌-◌, IfOk, List, [], OnOk, ap, arith, map, rules, subst, sym}
+use Rattle.std.proofs.Common.{◌≡◌, ◌∙◌, ◌-◌, IfOk, List, [], OnOk, ap, arith, length, map, rules, subst, sym}
 use Rattle.unit_source.specs.Files.{text_in}
 use Rattle.unit_source.specs.First.{brought_names, firsts_by, own_directives}
 use Rattle.unit_source.specs.InPlace.{InPlace}
@@ -6,6 +6,7 @@ use Rattle.unit_source.specs.Placed.{in_place}
 use Rattle.unit_source.specs.ReadSplice.{Gone, behind_file, found_of, reads, step_of, with_more}
 use Rattle.unit_source.specs.ReadSteps.{Found, filled, steps_of}
 use Rattle.unit_source.specs.Splice.{Spliced, include_read, nodes_read, spliced_within, with_names}
+use Rattle.unit_source.specs.Volume.{one_file}
 use Rattle.unit_source.proofs.SpliceLemmas.{file_is, more_behind, on_ok_always}
 use Rattle.unit_source.proofs.StepLemmas.{nodes_filled, steps_read}
 use Rattle.unit_source.proofs.splice.+splicing.Goals as goal
@@ -39,7 +40,7 @@ read_file-returns-clause-nodes t c =
     let settings = c.args.settings.now in
     let longer = c.in_ok-longer.longer in
     let own = own_directives c.args.source.now.path c.args.source.now.text in
-    let names = brought_names (firsts_by files longer own) in
+    let names = brought_names (firsts_by files longer (one_file (length c.args.source.now.text)) own) in
     let read = include_read (spliced_within (c.args.deep - 1) files settings longer) files longer in
     let nodes = in_place c.in_ok-alone.alone.nodes.items in
     let whole : spliced_within c.args.deep files settings c.args.chain.now c.args.around c.args.source.now.path c.args.source.now.text c.args.progress.now.going
@@ -63,7 +64,7 @@ read_file-returns-clause-progress t c =
     let settings = c.args.settings.now in
     let longer = c.in_ok-longer.longer in
     let own = own_directives c.args.source.now.path c.args.source.now.text in
-    let names = brought_names (firsts_by files longer own) in
+    let names = brought_names (firsts_by files longer (one_file (length c.args.source.now.text)) own) in
     let read = include_read (spliced_within (c.args.deep - 1) files settings longer) files longer in
     let nodes = in_place c.in_ok-alone.alone.nodes.items in
     let whole : spliced_within c.args.deep files settings c.args.chain.now c.args.around c.args.source.now.path c.args.source.now.text c.args.progress.now.going

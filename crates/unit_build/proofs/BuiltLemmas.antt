@@ -1,6 +1,5 @@
--- The nodes of a unit, one after the other.
-use Rattle.std.proofs.Common.{◌≡◌, ◌<◌, ◌+◌, append_assoc, ℕ, List, [], ◌∷◌, ◌++◌, Result, Ok, Err, map, length, drop, get_or, refl, ap, sym, ◌∙◌, add-one, drop-cons, rules}
-use mathlib.Core.Former.{Count}
+-- What nodes in place come to, one after the other.
+use Rattle.std.proofs.Common.{◌≡◌, ◌<◌, ◌+◌, append_assoc, ℕ, List, [], ◌∷◌, ◌++◌, Result, Ok, Err, length, drop, get_or, refl, ap, sym, ◌∙◌, add-one, drop-cons}
 use Rattle.pg_text.specs.declared.place.Place.{Place}
 use Rattle.page_pieces.specs.declared.attribute.Part.{Part as Written}
 use Rattle.page_pieces.specs.declared.piece.Leaf.{Leaf}
@@ -17,44 +16,13 @@ use Rattle.unit_source.specs.declared.placed.PlacedElement.{PlacedElement}
 use Rattle.unit_source.specs.declared.placed.PlacedInclude.{PlacedInclude}
 use Rattle.unit_source.specs.InPlace.{InPlace, done, leaf, element, broken, included, followed}
 use Rattle.unit_source.specs.Placed.{node_in_place, in_place}
-use Rattle.unit_build.specs.declared.unit.Action.{Action as Made}
-use Rattle.unit_build.specs.declared.unit.UnitNode.{UnitNode, Row_of-UnitNode, end_of-UnitNode, more_of-UnitNode, items-the_row-UnitNode}
-use Rattle.unit_build.specs.declared.unit.UnitNode.TheViews.{the_lemmas}
-use Rattle.unit_build.specs.declared.unit.UnitNode.TheVariants.{Action}
 use Rattle.unit_build.specs.Build.{built, element_before, leaf_before, part_of, parts_of, shown_before}
 use Rattle.unit_build.specs.Kinds.{Kind, kind_of}
 use Rattle.unit_build.specs.Kinds as kind
-use Rattle.unit_build.specs.Nodes.{Nodes, Part, joined, template, shown, action}
-use Rattle.unit_build.specs.Nodes as nodes
-use Rattle.unit_build.specs.Views.{given_of, kind_of as kind_view, node_of, nodes_of, row_of}
+use Rattle.unit_nodes.specs.Nodes.{Nodes, Part, joined}
+use Rattle.unit_nodes.specs.Nodes as nodes
+use Rattle.unit_nodes.proofs.NodeLemmas.{joined_assoc, joined_done}
 use Rattle.unit_build.proofs.PlacedLemmas.{placed_element, placed_include}
-
-pub joined_done : (a : Nodes) → joined a nodes.done ≡ a
-joined_done nodes.done = refl
-joined_done (template text place next) = ap (template text place) (joined_done next)
-joined_done (shown tree place next) = ap (shown tree place) (joined_done next)
-joined_done (action a body next) = ap (action a body) (joined_done next)
-
-pub joined_assoc : (a b c : Nodes) → joined (joined a b) c ≡ joined a (joined b c)
-joined_assoc nodes.done b c = refl
-joined_assoc (template text place next) b c = ap (template text place) (joined_assoc next b c)
-joined_assoc (shown tree place next) b c = ap (shown tree place) (joined_assoc next b c)
-joined_assoc (action a body next) b c = ap (action a body) (joined_assoc next b c)
-
--- one more node at the end
-pub nodes_push : (made : List UnitNode) (node : UnitNode) → nodes_of (made ++ node ∷ []) ≡ joined (nodes_of made) (node_of node)
-nodes_push [] node = joined_done (node_of node)
-nodes_push (first ∷ made) node = ap (joined (node_of first)) (nodes_push made node) ∙ sym (joined_assoc (node_of first) (nodes_of made) (node_of node))
-
--- a row of nodes as a list
-row_is : (n : Count) (row : Row_of-UnitNode n) → row_of row ≡ nodes_of (items-the_row-UnitNode n row)
-row_is _ end_of-UnitNode = refl
-row_is _ (more_of-UnitNode node rest) = ap (joined (node_of node)) (row_is _ rest)
-
--- an action as a node
-pub action_is : (a : Made)
-    → node_of (Action a) ≡ action (record { kind = kind_view a.kind; attributes = map given_of a.attributes; has_body = a.has_body; source = a.source; place = a.place }) (nodes_of a.body.items) nodes.done
-action_is a = search (rules, the_lemmas, row_is)
 
 -- what nodes in place come to, and then others
 shown_joined : (found : Result Tree ElFault) (place : Place) (a b : Nodes) → shown_before found place (joined a b) ≡ joined (shown_before found place a) b

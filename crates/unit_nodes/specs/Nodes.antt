@@ -6,7 +6,7 @@ use Rattle.pg_value.specs.declared.settings.PageSettings.{PageSettings}
 use Rattle.el_reader.specs.Tree.{Tree}
 use Rattle.jstl_tags.specs.declared.core_name.CoreName.{CoreName}
 use Rattle.tag_decl.specs.declared.declaration.TagDecl.{TagDecl}
-use Rattle.unit_build.specs.declared.jsp_name.JspName.{JspName}
+use Rattle.unit_nodes.specs.declared.jsp_name.JspName.{JspName}
 
 -- a part of a value
 pub data Part : Type 0 where
