@@ -1,5 +1,5 @@
 -- The children of an action, as far as they were read, and those that stand behind them.
-use Rattle.std.proofs.Common.{◌≡◌, ◌∙◌, true, false, not, refl, ap, Bool, ℕ, List, [], ◌∷◌, Option, Some, None, option_map, length}
+use Rattle.std.proofs.Common.{◌≡◌, ◌∙◌, true, false, not, refl, ap, Bool, ℕ, List, [], ◌∷◌, Option, Some, None, option_map, length, nat_eq, rules}
 use Rattle.act_reader.specs.Contents.{Adds, before, children_view, content_before, content_view, first_held, held_view, with_held}
 use Rattle.act_reader.specs.Before.{attributes_before}
 use Rattle.act_reader.specs.declared.contents.Children.{Children as ChildrenMade}
@@ -41,5 +41,5 @@ before_nothing made = children_is _ _ _ _ _ _ (content_alone made.own) (attribut
 -- an attribute stands there exactly where one was made
 pub given_made : (made : List ActAttribute) → has_attributes (attributes_of made) ≡ not (nat_eq (length made) 0)
 given_made [] = refl
-given_made (Written name parts place ∷ rest) = refl
-given_made (Given' name trim s body place ∷ rest) = refl
+given_made (Written name parts place ∷ rest) = search rules
+given_made (Given' name trim s body place ∷ rest) = search rules

@@ -25,8 +25,8 @@ pub(crate) fn call_act<'u>(
     ensures { IfOk result (λ act. act_of act ≡ call path.now (attributes_of (kind_of action.now.kind) (map given_of action.now.attributes) (children_view inner.entry))
         (call_body action.now.has_body action.now.source (children_view inner.entry)) action.now.place) }
 {
+    let is_given = inner.is_given();
     let Children { own, given, held } = inner;
-    let is_given = !given.is_empty();
     Ok(Act::Call {
         path,
         attributes: attributes_of(alloc, action, given)?,

@@ -1,8 +1,8 @@
 // The children of an action, and what stands in it.
 ghost use Rattle.std.specs.Prelude.{◌≡◌, true, OnOk};
-ghost use Rattle.act_reader.specs.Contents.{Adds, before, content_view, with_branch, with_given, with_held, with_param};
-ghost use Rattle.page_acts.specs.Views.{act_of, attribute_before, branch_before, param_before};
-ghost use Rattle.page_shape.specs.Shape.{Children as Standing, no_content, with_node};
+ghost use Rattle.act_reader.specs.Contents.{Adds, before, content_before, content_view, with_branch, with_given, with_held, with_param};
+ghost use Rattle.page_acts.specs.Views.{act_of, attribute_before, attributes_of, branch_before, param_before};
+ghost use Rattle.page_shape.specs.Shape.{Children as Standing, Content as Inside, has_attributes, no_content, with_node};
 
 use page_acts::{Act, ActAttribute, ActBranch, ActParam};
 use pg_text::Text;
@@ -19,7 +19,8 @@ pub(crate) struct Content<'u> {
 impl<'u> Content<'u> {
     /// Nothing.
     pub fn empty(alloc: Global) -> Self
-        ensures { content_view result ≡ no_content }
+        ensures view { content_view result ≡ no_content }
+        ensures before { (rest : Inside) → content_before result rest ≡ rest }
     {
         Content {
             acts: Vec::new(alloc),
@@ -55,6 +56,14 @@ impl<'u> Children<'u> {
             given: Vec::new(alloc),
             held: None,
         }
+    }
+
+    /// Whether `jsp:attribute` gives an attribute.
+    #[tactic(auto, using(crate::proofs::ContentLemmas::given_made))]
+    pub fn is_given(&self) -> bool
+        ensures { result ≡ has_attributes (attributes_of self.now.given.items) }
+    {
+        !self.given.is_empty()
     }
 
     pub fn add_act(&mut self, act: Act<'u>) -> Result<(), AllocError>

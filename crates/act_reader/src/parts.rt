@@ -22,12 +22,11 @@ pub(crate) struct Parts<'u> {
 
 impl<'u> Parts<'u> {
     /// The parts of an action with these children.
-    #[tactic(auto, using(crate::proofs::ContentLemmas::given_made))]
     pub fn of(alloc: Global, action: &'u Action, children: Children<'u>) -> Result<Self, AllocError>
         ensures { IfOk result (λ parts. parts_view parts ≡ parts_in (kind_of action.now.kind) (map given_of action.now.attributes) (children_view children.entry)) }
     {
+        let is_given = children.is_given();
         let Children { own, given, held } = children;
-        let is_given = !given.is_empty();
         let Content {
             acts,
             params,
