@@ -35,6 +35,14 @@ fn nodes_and_expressions_are_visited(rt: HostRuntime) -> Result<(), Fail> {
 }
 
 #[test]
+fn a_body_is_no_visit_and_its_params_are(rt: HostRuntime) -> Result<(), Fail> {
+    let text =
+        "<%@ page session=\"false\" %><%@ taglib prefix=\"c\" uri=\"jakarta.tags.core\" %><c:url value=\"/x\"><jsp:body><c:param name=\"x\" value=\"1\"/></jsp:body></c:url>";
+    assert_eq!(rt; run(rt.alloc(), text, 0)?.around.visits, 2);
+    Ok(())
+}
+
+#[test]
 fn a_step_is_charged(rt: HostRuntime) -> Result<(), Fail> {
     let alloc = rt.alloc();
     let ran = run(alloc, "<%@ page session=\"false\" %>${q}", 1)?;

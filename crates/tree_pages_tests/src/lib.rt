@@ -6,6 +6,8 @@ mod ran;
 pub use ran::{Ran, Surroundings, run_page};
 
 #[cfg(test)]
+mod bodies;
+#[cfg(test)]
 mod counts;
 #[cfg(test)]
 mod several;
