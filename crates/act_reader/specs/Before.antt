@@ -23,8 +23,3 @@ params_before (made ∷ params) others = param_before made (params_before params
 abbrev pub branches_before : List ActBranch → page.Branches → page.Branches
 branches_before [] others = others
 branches_before (branch ∷ branches) others = branch_before branch (branches_before branches others)
-
--- a body, or another where there is none
-abbrev pub body_or : page.Body → page.Body → page.Body
-body_or page.no_body other = other
-body_or (page.given_body source nodes) other = page.given_body source nodes

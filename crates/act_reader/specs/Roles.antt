@@ -1,12 +1,12 @@
 -- What becomes of an action.
 use Rattle.std.specs.Prelude.{ℕ, List, true, false}
-use Rattle.act_reader.specs.Contents.{with_body, with_branch, with_given, with_param}
+use Rattle.act_reader.specs.Contents.{with_branch, with_given, with_held, with_param}
 use Rattle.act_reader.specs.Parts.{Parts}
 use Rattle.act_reader.specs.declared.roles.Role.{Role}
 use Rattle.act_reader.specs.declared.roles.Role.TheVariants as role
 use Rattle.jstl_tags.specs.declared.core_name.CoreName.TheVariants as core
 use Rattle.page_meaning.specs.Page as page
-use Rattle.page_shape.specs.Shape.{Content, branch_if, given_if, param_if, with_node}
+use Rattle.page_shape.specs.Shape.{Children, branch_if, given_if, param_if, with_node}
 use Rattle.pg_text.specs.declared.place.Place.{Place}
 use Rattle.unit_nodes.specs.Nodes as unit
 use Rattle.unit_nodes.specs.Nodes.{ActionKind, Given}
@@ -23,14 +23,14 @@ role_of (unit.core core.Otherwise) = role.Otherwise
 role_of other = role.Act
 
 -- with what an action adds that has no act of its own, and with the group of none that stands for it
-abbrev pub with_nothing : Place → (Content → Content) → Content → Content
+abbrev pub with_nothing : Place → (Children → Children) → Children → Children
 with_nothing place added rest = with_node (page.group page.no_nodes place) (added rest)
 
 -- with what an action of a role adds, of these attributes and this source, whose act is `node`
-abbrev pub with_role : Role → page.Node → List Given → (source : List ℕ) → Parts → Place → Content → Content
+abbrev pub with_role : Role → page.Node → List Given → (source : List ℕ) → Parts → Place → Children → Children
 with_role role.Act node attributes source parts place = with_node node
-with_role role.Attribute node attributes source parts place = with_nothing place (with_given (given_if true attributes parts.body place))
-with_role role.Body node attributes source parts place = with_nothing place (with_body source parts.body)
-with_role role.Param node attributes source parts place = with_nothing place (with_param (param_if true parts.attributes parts.body place))
-with_role role.When node attributes source parts place = with_nothing place (with_branch (branch_if true false parts.attributes parts.body place))
-with_role role.Otherwise node attributes source parts place = with_nothing place (with_branch (branch_if false true parts.attributes parts.body place))
+with_role role.Attribute node attributes source parts place = with_nothing place (with_given (given_if true attributes parts.content.nodes place))
+with_role role.Body node attributes source parts place = with_nothing place (with_held source parts.content)
+with_role role.Param node attributes source parts place = with_nothing place (with_param (param_if true parts.attributes parts.content.nodes place))
+with_role role.When node attributes source parts place = with_nothing place (with_branch (branch_if true false parts.attributes parts.content.nodes place))
+with_role role.Otherwise node attributes source parts place = with_nothing place (with_branch (branch_if false true parts.attributes parts.content.nodes place))

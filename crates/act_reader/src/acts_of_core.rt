@@ -2,7 +2,7 @@
 #![tactic(auto, using(page_acts::proofs::Rows::rows))]
 
 ghost use Rattle.std.specs.Prelude.{◌≡◌, codes, map, IfOk};
-ghost use Rattle.act_reader.specs.Parts.{content_with, parts_view};
+ghost use Rattle.act_reader.specs.Parts.{parts_view};
 ghost use Rattle.page_acts.specs.Views.{act_of};
 ghost use Rattle.jstl_tags.specs.declared.core_name.CoreName.TheVariants as core;
 ghost use Rattle.page_meaning.specs.Page as page;
@@ -25,7 +25,7 @@ pub(crate) fn core_act<'u>(
     action: &'u Action,
     parts: Parts<'u>,
 ) -> Result<Act<'u>, AllocError>
-    ensures { IfOk result (λ act. act_of act ≡ core_node name (map given_of action.now.attributes) (parts_view parts.entry).attributes (content_with (parts_view parts.entry)) action.now.place) }
+    ensures { IfOk result (λ act. act_of act ≡ core_node name (map given_of action.now.attributes) (parts_view parts.entry).attributes (parts_view parts.entry).content action.now.place) }
 {
     match name {
         CoreName::Out => Ok(out(action, parts)),
@@ -47,7 +47,7 @@ pub(crate) fn core_act<'u>(
 
 // `c:out`.
 fn out<'u>(action: &'u Action, parts: Parts<'u>) -> Act<'u>
-    ensures { act_of result ≡ page.out (parts_view parts.entry).attributes (parts_view parts.entry).body action.now.place }
+    ensures { act_of result ≡ page.out (parts_view parts.entry).attributes (parts_view parts.entry).content.nodes action.now.place }
 {
     Act::Out {
         attributes: parts.attributes,
@@ -58,7 +58,7 @@ fn out<'u>(action: &'u Action, parts: Parts<'u>) -> Act<'u>
 
 // `c:set`, of a variable or of an entry.
 fn set<'u>(alloc: Global, action: &'u Action, parts: Parts<'u>) -> Result<Act<'u>, AllocError>
-    ensures { IfOk result (λ act. act_of act ≡ core_node core.Set (map given_of action.now.attributes) (parts_view parts.entry).attributes (content_with (parts_view parts.entry)) action.now.place) }
+    ensures { IfOk result (λ act. act_of act ≡ core_node core.Set (map given_of action.now.attributes) (parts_view parts.entry).attributes (parts_view parts.entry).content action.now.place) }
 {
     let attributes = action.attributes.as_slice();
     match target_in(alloc, attributes)? {
@@ -89,7 +89,7 @@ fn remove<'u>(alloc: Global, action: &'u Action) -> Result<Act<'u>, AllocError>
 
 // `c:catch`.
 fn catch<'u>(alloc: Global, action: &'u Action, parts: Parts<'u>) -> Result<Act<'u>, AllocError>
-    ensures { IfOk result (λ act. act_of act ≡ page.catch (static_text (codes "var") (map given_of action.now.attributes)) (parts_view parts.entry).body action.now.place) }
+    ensures { IfOk result (λ act. act_of act ≡ page.catch (static_text (codes "var") (map given_of action.now.attributes)) (parts_view parts.entry).content.nodes action.now.place) }
 {
     Ok(Act::Catch {
         variable: static_text(alloc, action.attributes.as_slice(), "var")?,
@@ -100,7 +100,7 @@ fn catch<'u>(alloc: Global, action: &'u Action, parts: Parts<'u>) -> Result<Act<
 
 // `c:if`.
 fn when_true<'u>(alloc: Global, action: &'u Action, parts: Parts<'u>) -> Result<Act<'u>, AllocError>
-    ensures { IfOk result (λ act. act_of act ≡ page.when_true (some_variable (map given_of action.now.attributes)) (parts_view parts.entry).attributes (parts_view parts.entry).body action.now.place) }
+    ensures { IfOk result (λ act. act_of act ≡ page.when_true (some_variable (map given_of action.now.attributes)) (parts_view parts.entry).attributes (parts_view parts.entry).content.nodes action.now.place) }
 {
     Ok(Act::If {
         variable: some_variable(alloc, action.attributes.as_slice())?,
@@ -112,7 +112,7 @@ fn when_true<'u>(alloc: Global, action: &'u Action, parts: Parts<'u>) -> Result<
 
 // `c:choose`.
 fn choose<'u>(action: &'u Action, parts: Parts<'u>) -> Act<'u>
-    ensures { act_of result ≡ page.choose (parts_view parts.entry).branches action.now.place }
+    ensures { act_of result ≡ page.choose (parts_view parts.entry).content.branches action.now.place }
 {
     Act::Choose {
         branches: parts.branches,
@@ -122,7 +122,7 @@ fn choose<'u>(action: &'u Action, parts: Parts<'u>) -> Act<'u>
 
 // `c:forEach`.
 fn for_each<'u>(alloc: Global, action: &'u Action, parts: Parts<'u>) -> Result<Act<'u>, AllocError>
-    ensures { IfOk result (λ act. act_of act ≡ page.each (static_text (codes "var") (map given_of action.now.attributes)) (static_text (codes "varStatus") (map given_of action.now.attributes)) (parts_view parts.entry).attributes (parts_view parts.entry).body action.now.place) }
+    ensures { IfOk result (λ act. act_of act ≡ page.each (static_text (codes "var") (map given_of action.now.attributes)) (static_text (codes "varStatus") (map given_of action.now.attributes)) (parts_view parts.entry).attributes (parts_view parts.entry).content.nodes action.now.place) }
 {
     let attributes = action.attributes.as_slice();
     Ok(Act::ForEach {
@@ -140,7 +140,7 @@ fn for_tokens<'u>(
     action: &'u Action,
     parts: Parts<'u>,
 ) -> Result<Act<'u>, AllocError>
-    ensures { IfOk result (λ act. act_of act ≡ page.each_token (static_text (codes "var") (map given_of action.now.attributes)) (static_text (codes "varStatus") (map given_of action.now.attributes)) (parts_view parts.entry).attributes (parts_view parts.entry).body action.now.place) }
+    ensures { IfOk result (λ act. act_of act ≡ page.each_token (static_text (codes "var") (map given_of action.now.attributes)) (static_text (codes "varStatus") (map given_of action.now.attributes)) (parts_view parts.entry).attributes (parts_view parts.entry).content.nodes action.now.place) }
 {
     let attributes = action.attributes.as_slice();
     Ok(Act::ForTokens {
@@ -154,7 +154,7 @@ fn for_tokens<'u>(
 
 // `c:import`.
 fn import<'u>(alloc: Global, action: &'u Action, parts: Parts<'u>) -> Result<Act<'u>, AllocError>
-    ensures { IfOk result (λ act. act_of act ≡ page.import (some_variable (map given_of action.now.attributes)) (parts_view parts.entry).attributes (parts_view parts.entry).params action.now.place) }
+    ensures { IfOk result (λ act. act_of act ≡ page.import (some_variable (map given_of action.now.attributes)) (parts_view parts.entry).attributes (parts_view parts.entry).content.params action.now.place) }
 {
     Ok(Act::Import {
         variable: some_variable(alloc, action.attributes.as_slice())?,
@@ -166,7 +166,7 @@ fn import<'u>(alloc: Global, action: &'u Action, parts: Parts<'u>) -> Result<Act
 
 // `c:url`.
 fn url<'u>(alloc: Global, action: &'u Action, parts: Parts<'u>) -> Result<Act<'u>, AllocError>
-    ensures { IfOk result (λ act. act_of act ≡ page.url (some_variable (map given_of action.now.attributes)) (parts_view parts.entry).attributes (parts_view parts.entry).params action.now.place) }
+    ensures { IfOk result (λ act. act_of act ≡ page.url (some_variable (map given_of action.now.attributes)) (parts_view parts.entry).attributes (parts_view parts.entry).content.params action.now.place) }
 {
     Ok(Act::Url {
         variable: some_variable(alloc, action.attributes.as_slice())?,
@@ -178,7 +178,7 @@ fn url<'u>(alloc: Global, action: &'u Action, parts: Parts<'u>) -> Result<Act<'u
 
 // `c:redirect`.
 fn redirect<'u>(action: &'u Action, parts: Parts<'u>) -> Act<'u>
-    ensures { act_of result ≡ page.redirect (parts_view parts.entry).attributes (parts_view parts.entry).params action.now.place }
+    ensures { act_of result ≡ page.redirect (parts_view parts.entry).attributes (parts_view parts.entry).content.params action.now.place }
 {
     Act::Redirect {
         attributes: parts.attributes,

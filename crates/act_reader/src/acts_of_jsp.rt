@@ -3,7 +3,7 @@
 
 ghost use Rattle.std.specs.Prelude.{◌≡◌, codes, map, IfOk};
 ghost use Rattle.std.specs.Str.{bytes_eq};
-ghost use Rattle.act_reader.specs.Parts.{content_with, parts_view};
+ghost use Rattle.act_reader.specs.Parts.{parts_view};
 ghost use Rattle.page_acts.specs.Views.{act_of};
 ghost use Rattle.page_meaning.specs.Page as page;
 ghost use Rattle.page_shape.specs.Named.{property_in, scope_named, some_variable, text_of_attribute};
@@ -24,7 +24,7 @@ pub(crate) fn jsp_act<'u>(
     action: &'u Action,
     parts: Parts<'u>,
 ) -> Result<Act<'u>, AllocError>
-    ensures { IfOk result (λ act. act_of act ≡ jsp_node name (map given_of action.now.attributes) (parts_view parts.entry).attributes (content_with (parts_view parts.entry)) action.now.place) }
+    ensures { IfOk result (λ act. act_of act ≡ jsp_node name (map given_of action.now.attributes) (parts_view parts.entry).attributes (parts_view parts.entry).content action.now.place) }
 {
     match name {
         JspName::Include => include(alloc, action, parts),
@@ -43,7 +43,7 @@ pub(crate) fn jsp_act<'u>(
 
 // `jsp:include`.
 fn include<'u>(alloc: Global, action: &'u Action, parts: Parts<'u>) -> Result<Act<'u>, AllocError>
-    ensures { IfOk result (λ act. act_of act ≡ page.include (bytes_eq (text_of_attribute (codes "flush") (map given_of action.now.attributes)) (codes "true")) (parts_view parts.entry).attributes (parts_view parts.entry).params action.now.place) }
+    ensures { IfOk result (λ act. act_of act ≡ page.include (bytes_eq (text_of_attribute (codes "flush") (map given_of action.now.attributes)) (codes "true")) (parts_view parts.entry).attributes (parts_view parts.entry).content.params action.now.place) }
 {
     let flush = text_of_attribute(alloc, action.attributes.as_slice(), "flush")?;
     Ok(Act::Include {
@@ -56,7 +56,7 @@ fn include<'u>(alloc: Global, action: &'u Action, parts: Parts<'u>) -> Result<Ac
 
 // `jsp:forward`.
 fn forward<'u>(action: &'u Action, parts: Parts<'u>) -> Act<'u>
-    ensures { act_of result ≡ page.forward (parts_view parts.entry).attributes (parts_view parts.entry).params action.now.place }
+    ensures { act_of result ≡ page.forward (parts_view parts.entry).attributes (parts_view parts.entry).content.params action.now.place }
 {
     Act::Forward {
         attributes: parts.attributes,
@@ -67,7 +67,7 @@ fn forward<'u>(action: &'u Action, parts: Parts<'u>) -> Act<'u>
 
 // `jsp:useBean`.
 fn use_bean<'u>(alloc: Global, action: &'u Action, parts: Parts<'u>) -> Result<Act<'u>, AllocError>
-    ensures { IfOk result (λ act. act_of act ≡ page.use_bean (text_of_attribute (codes "id") (map given_of action.now.attributes)) (scope_named (text_of_attribute (codes "scope") (map given_of action.now.attributes))) (text_of_attribute (codes "class") (map given_of action.now.attributes)) (parts_view parts.entry).body action.now.place) }
+    ensures { IfOk result (λ act. act_of act ≡ page.use_bean (text_of_attribute (codes "id") (map given_of action.now.attributes)) (scope_named (text_of_attribute (codes "scope") (map given_of action.now.attributes))) (text_of_attribute (codes "class") (map given_of action.now.attributes)) (parts_view parts.entry).content.nodes action.now.place) }
 {
     let attributes = action.attributes.as_slice();
     let scope = text_of_attribute(alloc, attributes, "scope")?;
@@ -111,7 +111,7 @@ fn set_property<'u>(
 
 // `jsp:text`.
 fn text<'u>(action: &'u Action, parts: Parts<'u>) -> Act<'u>
-    ensures { act_of result ≡ page.group (parts_view parts.entry).body action.now.place }
+    ensures { act_of result ≡ page.group (parts_view parts.entry).content.nodes action.now.place }
 {
     Act::Group {
         body: parts.body,

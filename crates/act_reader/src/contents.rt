@@ -1,21 +1,17 @@
-// What stands in an action.
+// The children of an action, and what stands in it.
 ghost use Rattle.std.specs.Prelude.{◌≡◌, true, OnOk};
-ghost use Rattle.act_reader.specs.Contents.{Adds, before, with_body, with_branch, with_given, with_param};
-ghost use Rattle.page_acts.specs.Views.{act_of, acts_of, attribute_before, branch_before, param_before};
-ghost use Rattle.page_shape.specs.Shape.{Content as Standing, with_node};
+ghost use Rattle.act_reader.specs.Contents.{Adds, before, content_before, content_view, with_branch, with_given, with_held, with_param};
+ghost use Rattle.page_acts.specs.Views.{act_of, attribute_before, attributes_of, branch_before, param_before};
+ghost use Rattle.page_shape.specs.Shape.{Children as Standing, Content as Inside, has_attributes, no_content, with_node};
 
-use page_acts::{Act, ActAttribute, ActBranch, ActParam, CallBody};
+use page_acts::{Act, ActAttribute, ActBranch, ActParam};
 use pg_text::Text;
 use std::alloc::{AllocError, Global};
 
-/// What stands in an action, or in a page, as far as it was read: its acts; the attributes that `jsp:attribute` gives, and what the first
-/// `jsp:body` holds, with whether one of these stands there; its params and its branches.
+/// What stands in an action: its acts, and those of its children that are params and branches.
 #[derive(Drop)]
 pub(crate) struct Content<'u> {
     pub acts: Vec<Act<'u>>,
-    pub given: Vec<ActAttribute<'u>>,
-    pub body: CallBody<'u>,
-    pub is_split: bool,
     pub params: Vec<ActParam<'u>>,
     pub branches: Vec<ActBranch<'u>>,
 }
@@ -23,22 +19,57 @@ pub(crate) struct Content<'u> {
 impl<'u> Content<'u> {
     /// Nothing.
     pub fn empty(alloc: Global) -> Self
-        ensures { (rest : Standing) → before result rest ≡ rest }
+        ensures view { content_view result ≡ no_content }
+        ensures before { (rest : Inside) → content_before result rest ≡ rest }
     {
         Content {
             acts: Vec::new(alloc),
-            given: Vec::new(alloc),
-            body: CallBody::Absent,
-            is_split: false,
             params: Vec::new(alloc),
             branches: Vec::new(alloc),
         }
+    }
+}
+
+/// What stands in a `jsp:body`, with its source text.
+#[derive(Drop)]
+pub(crate) struct Held<'u> {
+    pub source: &'u Text,
+    pub content: Content<'u>,
+}
+
+/// The children of an action, or the nodes of a page, as far as they were read: all of them as they stand there, the attributes that
+/// `jsp:attribute` gives, and the first `jsp:body`.
+#[derive(Drop)]
+pub(crate) struct Children<'u> {
+    pub own: Content<'u>,
+    pub given: Vec<ActAttribute<'u>>,
+    pub held: Option<Held<'u>>,
+}
+
+impl<'u> Children<'u> {
+    /// None.
+    pub fn empty(alloc: Global) -> Self
+        ensures { (rest : Standing) → before result rest ≡ rest }
+    {
+        Children {
+            own: Content::empty(alloc),
+            given: Vec::new(alloc),
+            held: None,
+        }
+    }
+
+    /// Whether `jsp:attribute` gives an attribute.
+    #[tactic(auto, using(crate::proofs::ContentLemmas::given_made))]
+    pub fn is_given(&self) -> bool
+        ensures { result ≡ has_attributes (attributes_of self.now.given.items) }
+    {
+        !self.given.is_empty()
     }
 
     pub fn add_act(&mut self, act: Act<'u>) -> Result<(), AllocError>
         ensures { OnOk result (Adds self.old self.new (with_node (act_of act.entry))) }
     {
-        self.acts.push(act)?;
+        self.own.acts.push(act)?;
         Ok(())
     }
 
@@ -47,31 +78,29 @@ impl<'u> Content<'u> {
         ensures { OnOk result (Adds self.old self.new (with_given (attribute_before attribute.entry))) }
     {
         self.given.push(attribute)?;
-        self.is_split = true;
         Ok(())
     }
 
-    /// Adds what `jsp:body` holds, unless one stands before it.
-    pub fn add_body(&mut self, source: &'u Text, body: Vec<Act<'u>>)
-        ensures { Adds self.old self.new (with_body source.now (acts_of body.entry.items)) }
+    /// Adds a `jsp:body`, unless one stands before it.
+    pub fn add_held(&mut self, source: &'u Text, content: Content<'u>)
+        ensures { Adds self.old self.new (with_held source.now (content_view content.entry)) }
     {
-        if let CallBody::Absent = self.body {
-            self.body = CallBody::Given { source, body };
+        if self.held.is_none() {
+            self.held = Some(Held { source, content });
         }
-        self.is_split = true;
     }
 
     pub fn add_param(&mut self, param: ActParam<'u>) -> Result<(), AllocError>
         ensures { OnOk result (Adds self.old self.new (with_param (param_before param.entry))) }
     {
-        self.params.push(param)?;
+        self.own.params.push(param)?;
         Ok(())
     }
 
     pub fn add_branch(&mut self, branch: ActBranch<'u>) -> Result<(), AllocError>
         ensures { OnOk result (Adds self.old self.new (with_branch (branch_before branch.entry))) }
     {
-        self.branches.push(branch)?;
+        self.own.branches.push(branch)?;
         Ok(())
     }
 }

@@ -1,14 +1,13 @@
 // What the act of an action is made of.
-ghost use Rattle.std.specs.Prelude.{◌≡◌, map, if◌then◌else◌, IfOk};
-ghost use Rattle.act_reader.specs.Contents.{content_view};
+ghost use Rattle.std.specs.Prelude.{◌≡◌, map, option_map, if◌then◌else◌, IfOk};
+ghost use Rattle.act_reader.specs.Contents.{children_view, content_view, held_view};
 ghost use Rattle.act_reader.specs.Parts.{parts_in, parts_view};
-ghost use Rattle.page_acts.specs.Views.{acts_of, body_of};
-ghost use Rattle.page_shape.specs.Shape.{body_nodes, nodes_in};
+ghost use Rattle.page_shape.specs.Shape.{held_or, no_content};
 ghost use Rattle.unit_nodes.specs.Views.{given_of, kind_of};
 
 use crate::attributes::attributes_of;
-use crate::contents::Content;
-use page_acts::{Act, ActAttribute, ActBranch, ActParam, CallBody};
+use crate::contents::{Children, Content, Held};
+use page_acts::{Act, ActAttribute, ActBranch, ActParam};
 use std::alloc::{AllocError, Global};
 use unit_nodes::Action;
 
@@ -22,42 +21,38 @@ pub(crate) struct Parts<'u> {
 }
 
 impl<'u> Parts<'u> {
-    /// The parts of an action in which this stands.
-    pub fn of(alloc: Global, action: &'u Action, content: Content<'u>) -> Result<Self, AllocError>
-        ensures { IfOk result (λ parts. parts_view parts ≡ parts_in (kind_of action.now.kind) (map given_of action.now.attributes) (content_view content.entry)) }
+    /// The parts of an action with these children.
+    pub fn of(alloc: Global, action: &'u Action, children: Children<'u>) -> Result<Self, AllocError>
+        ensures { IfOk result (λ parts. parts_view parts ≡ parts_in (kind_of action.now.kind) (map given_of action.now.attributes) (children_view children.entry)) }
     {
+        let is_given = children.is_given();
+        let Children { own, given, held } = children;
         let Content {
             acts,
-            given,
-            body,
-            is_split,
             params,
             branches,
-        } = content;
+        } = content_in(alloc, own, is_given, held);
         Ok(Parts {
             attributes: attributes_of(alloc, action, given)?,
-            body: acts_in(alloc, acts, body, is_split),
+            body: acts,
             params,
             branches,
         })
     }
 }
 
-// The acts of a body: what `jsp:body` holds, where the action is split, else all.
-#[tactic(auto, using(page_acts::proofs::Rows::rows))]
-fn acts_in<'u>(
+// What stands in an action: what its `jsp:body` holds, where it has one; beside `jsp:attribute` nothing else; or else its children.
+fn content_in<'u>(
     alloc: Global,
-    acts: Vec<Act<'u>>,
-    body: CallBody<'u>,
-    is_split: bool,
-) -> Vec<Act<'u>>
-    ensures { acts_of result.items ≡ (if is_split then body_nodes (body_of body.entry) else acts_of acts.entry.items) }
+    own: Content<'u>,
+    is_given: bool,
+    held: Option<Held<'u>>,
+) -> Content<'u>
+    ensures { content_view result ≡ held_or (option_map held_view held.entry) (if is_given then no_content else content_view own.entry) }
 {
-    if !is_split {
-        return acts;
-    }
-    match body {
-        CallBody::Given { source: _, body } => body,
-        CallBody::Absent => Vec::new(alloc),
+    match held {
+        Some(held) => held.content,
+        None if is_given => Content::empty(alloc),
+        None => own,
     }
 }

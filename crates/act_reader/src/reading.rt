@@ -1,12 +1,12 @@
 // The walk over a unit's nodes.
 ghost use Rattle.std.specs.Prelude.{◌≡◌, IfOk, OnOk};
-ghost use Rattle.act_reader.specs.Contents.{before, content_view};
+ghost use Rattle.act_reader.specs.Contents.{before, children_view};
 ghost use Rattle.page_acts.specs.Views.{acts_of};
-ghost use Rattle.page_shape.specs.Shape.{content_of, nodes_of as shape_of};
+ghost use Rattle.page_shape.specs.Shape.{children_of, nodes_of as shape_of};
 ghost use Rattle.unit_nodes.specs.Nodes.{Nodes, joined};
 ghost use Rattle.unit_nodes.specs.Views.{node_of, nodes_of};
 
-use crate::contents::Content;
+use crate::contents::Children;
 use crate::roles::add_action;
 use page_acts::Act;
 use std::alloc::{AllocError, Global};
@@ -16,20 +16,20 @@ use unit_nodes::UnitNode;
 pub fn acts<'u>(alloc: Global, nodes: &'u [UnitNode]) -> Result<Vec<Act<'u>>, AllocError>
     ensures { IfOk result (λ acts. acts_of acts.items ≡ shape_of (nodes_of nodes.now)) }
 {
-    let content = content_in(alloc, nodes)?;
-    Ok(content.acts)
+    let children = children_in(alloc, nodes)?;
+    Ok(children.own.acts)
 }
 
-// What stands in an action whose body these nodes are.
+// The children of an action whose body these nodes are.
 #[cycle(reading)]
-fn content_in<'u>(alloc: Global, nodes: &'u [UnitNode]) -> Result<Content<'u>, AllocError>
-    ensures { IfOk result (λ content. content_view content ≡ content_of (nodes_of nodes.now)) }
+fn children_in<'u>(alloc: Global, nodes: &'u [UnitNode]) -> Result<Children<'u>, AllocError>
+    ensures { IfOk result (λ children. children_view children ≡ children_of (nodes_of nodes.now)) }
 {
-    let mut content = Content::empty(alloc);
+    let mut children = Children::empty(alloc);
     for node in nodes {
-        add_node(alloc, node, &mut content)?;
+        add_node(alloc, node, &mut children)?;
     }
-    Ok(content)
+    Ok(children)
 }
 
 // Adds a node.
@@ -37,16 +37,16 @@ fn content_in<'u>(alloc: Global, nodes: &'u [UnitNode]) -> Result<Content<'u>, A
 fn add_node<'u>(
     alloc: Global,
     node: &'u UnitNode,
-    content: &mut Content<'u>,
+    children: &mut Children<'u>,
 ) -> Result<(), AllocError>
-    ensures { OnOk result ((rest : Nodes) → before content.new (content_of rest) ≡ before content.old (content_of (joined (node_of node.now) rest))) }
+    ensures { OnOk result ((rest : Nodes) → before children.new (children_of rest) ≡ before children.old (children_of (joined (node_of node.now) rest))) }
 {
     match node {
-        UnitNode::Text { text, place } => content.add_act(Act::Template { text, place }),
-        UnitNode::Expr { el, place } => content.add_act(Act::Shown { el, place }),
+        UnitNode::Text { text, place } => children.add_act(Act::Template { text, place }),
+        UnitNode::Expr { el, place } => children.add_act(Act::Shown { el, place }),
         UnitNode::Action(action) => {
-            let inner = content_in(alloc, &action.body)?;
-            add_action(alloc, action, inner, content)
+            let inner = children_in(alloc, &action.body)?;
+            add_action(alloc, action, inner, children)
         }
     }
 }

@@ -1,6 +1,6 @@
 // What becomes of an action.
 ghost use Rattle.std.specs.Prelude.{◌≡◌, map, OnOk, IfOk, true, false};
-ghost use Rattle.act_reader.specs.Contents.{Adds, content_view, with_body, with_branch, with_given, with_param};
+ghost use Rattle.act_reader.specs.Contents.{Adds, children_view, with_branch, with_given, with_held, with_param};
 ghost use Rattle.act_reader.specs.Parts.{parts_view};
 ghost use Rattle.act_reader.specs.Roles.{role_of, with_nothing};
 ghost use Rattle.page_acts.specs.Views.{act_of, acts_of, attribute_before};
@@ -11,7 +11,7 @@ ghost use Rattle.unit_nodes.specs.Views.{given_of, kind_of};
 use crate::acts_of_core::core_act;
 use crate::acts_of_jsp::jsp_act;
 use crate::call::call_act;
-use crate::contents::Content;
+use crate::contents::{Children, Content};
 use crate::named::text_of_attribute;
 use crate::parts::Parts;
 use jstl_tags::CoreName;
@@ -51,40 +51,44 @@ impl Role {
 pub(crate) fn add_action<'u>(
     alloc: Global,
     action: &'u Action,
-    inner: Content<'u>,
-    content: &mut Content<'u>,
+    inner: Children<'u>,
+    children: &mut Children<'u>,
 ) -> Result<(), AllocError>
-    ensures { OnOk result (Adds content.old content.new (with_action (kind_of action.now.kind) (map given_of action.now.attributes) action.now.has_body action.now.source action.now.place (content_view inner.entry))) }
+    ensures { OnOk result (Adds children.old children.new (with_action (kind_of action.now.kind) (map given_of action.now.attributes) action.now.has_body action.now.source action.now.place (children_view inner.entry))) }
 {
     match Role::of(&action.kind) {
-        Role::Act => content.add_act(own_act(alloc, action, inner)?),
+        Role::Act => children.add_act(own_act(alloc, action, inner)?),
         Role::Attribute => {
             let parts = Parts::of(alloc, action, inner)?;
-            add_given(alloc, action, parts, content)
+            add_given(alloc, action, parts, children)
         }
         Role::Body => {
             let parts = Parts::of(alloc, action, inner)?;
-            add_body(alloc, action, parts, content)
+            add_held(alloc, action, parts, children)
         }
         Role::Param => {
             let parts = Parts::of(alloc, action, inner)?;
-            add_param(alloc, &action.place, parts, content)
+            add_param(alloc, &action.place, parts, children)
         }
         Role::When => {
             let parts = Parts::of(alloc, action, inner)?;
-            add_when(alloc, &action.place, parts, content)
+            add_when(alloc, &action.place, parts, children)
         }
         Role::Otherwise => {
             let parts = Parts::of(alloc, action, inner)?;
-            add_otherwise(alloc, &action.place, parts, content)
+            add_otherwise(alloc, &action.place, parts, children)
         }
     }
 }
 
 // The act that an action is.
 #[tactic(auto, using(crate::proofs::RoleLemmas::own_core, crate::proofs::RoleLemmas::own_jsp))]
-fn own_act<'u>(alloc: Global, action: &'u Action, inner: Content<'u>) -> Result<Act<'u>, AllocError>
-    ensures { IfOk result (λ act. act_of act ≡ action_node (kind_of action.now.kind) (map given_of action.now.attributes) action.now.has_body action.now.source (content_view inner.entry) action.now.place) }
+fn own_act<'u>(
+    alloc: Global,
+    action: &'u Action,
+    inner: Children<'u>,
+) -> Result<Act<'u>, AllocError>
+    ensures { IfOk result (λ act. act_of act ≡ action_node (kind_of action.now.kind) (map given_of action.now.attributes) action.now.has_body action.now.source (children_view inner.entry) action.now.place) }
 {
     match &action.kind {
         ActionKind::Jsp(name) => {
@@ -104,12 +108,12 @@ fn add_given<'u>(
     alloc: Global,
     action: &'u Action,
     parts: Parts<'u>,
-    content: &mut Content<'u>,
+    children: &mut Children<'u>,
 ) -> Result<(), AllocError>
-    ensures { OnOk result (Adds content.old content.new (with_nothing action.now.place (with_given (given_if true (map given_of action.now.attributes) (parts_view parts.entry).body action.now.place)))) }
+    ensures { OnOk result (Adds children.old children.new (with_nothing action.now.place (with_given (given_if true (map given_of action.now.attributes) (parts_view parts.entry).content.nodes action.now.place)))) }
 {
-    content.add_act(nothing(alloc, &action.place))?;
-    content.add_given(given(alloc, action, parts.body)?)
+    children.add_act(nothing(alloc, &action.place))?;
+    children.add_given(given(alloc, action, parts.body)?)
 }
 
 // The attribute that `jsp:attribute` gives with this body.
@@ -132,17 +136,22 @@ fn given<'u>(
     })
 }
 
-// Adds what `jsp:body` holds.
-fn add_body<'u>(
+// Adds a `jsp:body`.
+fn add_held<'u>(
     alloc: Global,
     action: &'u Action,
     parts: Parts<'u>,
-    content: &mut Content<'u>,
+    children: &mut Children<'u>,
 ) -> Result<(), AllocError>
-    ensures { OnOk result (Adds content.old content.new (with_nothing action.now.place (with_body action.now.source (parts_view parts.entry).body))) }
+    ensures { OnOk result (Adds children.old children.new (with_nothing action.now.place (with_held action.now.source (parts_view parts.entry).content))) }
 {
-    content.add_act(nothing(alloc, &action.place))?;
-    content.add_body(&action.source, parts.body);
+    children.add_act(nothing(alloc, &action.place))?;
+    let content = Content {
+        acts: parts.body,
+        params: parts.params,
+        branches: parts.branches,
+    };
+    children.add_held(&action.source, content);
     Ok(())
 }
 
@@ -151,12 +160,12 @@ fn add_param<'u>(
     alloc: Global,
     place: &'u Place,
     parts: Parts<'u>,
-    content: &mut Content<'u>,
+    children: &mut Children<'u>,
 ) -> Result<(), AllocError>
-    ensures { OnOk result (Adds content.old content.new (with_nothing place.now (with_param (param_if true (parts_view parts.entry).attributes (parts_view parts.entry).body place.now)))) }
+    ensures { OnOk result (Adds children.old children.new (with_nothing place.now (with_param (param_if true (parts_view parts.entry).attributes (parts_view parts.entry).content.nodes place.now)))) }
 {
-    content.add_act(nothing(alloc, place))?;
-    content.add_param(ActParam {
+    children.add_act(nothing(alloc, place))?;
+    children.add_param(ActParam {
         attributes: parts.attributes,
         body: parts.body,
         place,
@@ -168,12 +177,12 @@ fn add_when<'u>(
     alloc: Global,
     place: &'u Place,
     parts: Parts<'u>,
-    content: &mut Content<'u>,
+    children: &mut Children<'u>,
 ) -> Result<(), AllocError>
-    ensures { OnOk result (Adds content.old content.new (with_nothing place.now (with_branch (branch_if true false (parts_view parts.entry).attributes (parts_view parts.entry).body place.now)))) }
+    ensures { OnOk result (Adds children.old children.new (with_nothing place.now (with_branch (branch_if true false (parts_view parts.entry).attributes (parts_view parts.entry).content.nodes place.now)))) }
 {
-    content.add_act(nothing(alloc, place))?;
-    content.add_branch(ActBranch::When {
+    children.add_act(nothing(alloc, place))?;
+    children.add_branch(ActBranch::When {
         attributes: parts.attributes,
         body: parts.body,
         place,
@@ -185,12 +194,12 @@ fn add_otherwise<'u>(
     alloc: Global,
     place: &'u Place,
     parts: Parts<'u>,
-    content: &mut Content<'u>,
+    children: &mut Children<'u>,
 ) -> Result<(), AllocError>
-    ensures { OnOk result (Adds content.old content.new (with_nothing place.now (with_branch (branch_if false true (parts_view parts.entry).attributes (parts_view parts.entry).body place.now)))) }
+    ensures { OnOk result (Adds children.old children.new (with_nothing place.now (with_branch (branch_if false true (parts_view parts.entry).attributes (parts_view parts.entry).content.nodes place.now)))) }
 {
-    content.add_act(nothing(alloc, place))?;
-    content.add_branch(ActBranch::Otherwise {
+    children.add_act(nothing(alloc, place))?;
+    children.add_branch(ActBranch::Otherwise {
         body: parts.body,
         place,
     })

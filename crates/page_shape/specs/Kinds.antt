@@ -32,6 +32,11 @@ abbrev pub is_otherwise : ActionKind → Bool
 is_otherwise (unit.core core.Otherwise) = true
 is_otherwise other = false
 
+-- whether an action is the call of a tag file
+abbrev pub is_call : ActionKind → Bool
+is_call (unit.call path) = true
+is_call other = false
+
 -- the statics of an action; a param's name is evaluated like an attribute of the core
 abbrev pub statics_of : ActionKind → List (List ℕ)
 statics_of (unit.standard jsp.Param) = []

@@ -1,4 +1,5 @@
 pub mod Kinds
+pub mod Laws
 pub mod Named
 pub mod Shape
 pub mod Worked

@@ -34,6 +34,17 @@ UrlWithParam =
     page.no_nodes (column 4) page.no_params)
     (column 1)) page.no_nodes
 
+-- `c:choose` whose branch stands in `jsp:body`: its branch all the same
+abbrev pub ChoiceInBody : Type 0
+ChoiceInBody =
+    nodes_of (alone (unit.core core.Choose) [] (codes "whole")
+    (alone (unit.standard jsp.Body) [] (codes "held")
+    (alone (unit.core core.When) (with_text (codes "test") (codes "true") 4 ∷ []) (codes "x") (unit.template (codes "x") (column 5) unit.done) 3 unit.done) 2 unit.done) 1 unit.done)
+    ≡ page.more_nodes
+    (page.choose
+    (page.when (page.written (codes "test") (page.words (codes "true") ∷ []) (column 4) page.no_attributes) (page.more_nodes (page.template (codes "x") (column 5)) page.no_nodes) (column 3) page.no_branches)
+    (column 1)) page.no_nodes
+
 -- a call with `jsp:attribute` and `jsp:body`: the one is an attribute behind those that were written, the other the call's body with its source
 abbrev pub SplitCall : Type 0
 SplitCall =

@@ -3,4 +3,4 @@
 
 mod laws;
 
-pub use laws::worked;
+pub use laws::{bodies, worked};

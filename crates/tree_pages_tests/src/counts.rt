@@ -57,13 +57,17 @@ const STEPS: &str =
 const MORE_STEPS: &str =
     "<%@ page session=\"false\" %><%@ taglib prefix=\"c\" uri=\"jakarta.tags.core\" %><c:forEach begin=\"1\" end=\"11781\">${q}</c:forEach>";
 
-// Nodes and expressions are visited, a step is charged, and as much is asked as the charge lets.
+const PARAM_IN_BODY: &str =
+    "<%@ page session=\"false\" %><%@ taglib prefix=\"c\" uri=\"jakarta.tags.core\" %><c:url value=\"/x\"><jsp:body><c:param name=\"x\" value=\"1\"/></jsp:body></c:url>";
+
+// Nodes and expressions are visited, a `jsp:body` isn't and its params are; a step is charged, and as much is asked as the charge lets.
 #[test]
 fn runs_are_counted(rt: HostRuntime) -> Result<(), Fail> {
     for &(text, nulls, what, wanted) in &[
         (SUM, 0, Count::Visits, 6),
         (SUM, 0, Count::Charge, 172),
         (SUM, 0, Count::Bytes, 37),
+        (PARAM_IN_BODY, 0, Count::Visits, 2),
         (STEP, 1, Count::Charge, 261),
         (STEPS, 11_780, Count::Charge, 1_048_592),
         (STEPS, 11_780, Count::Asked, 11_780),

@@ -1,3 +1,4 @@
+use crate::bodies;
 use crate::several::{BEANS, FILES, TAG_FILES};
 use crate::single::{CORE_TAGS, EXPRESSIONS};
 use crate::told::told;
@@ -44,5 +45,23 @@ fn beans_are_translated(rt: HostRuntime) -> Result<(), Fail> {
 #[test]
 fn tag_files_are_called(rt: HostRuntime) -> Result<(), Fail> {
     assert_eq!(rt; told_otherwise(rt.alloc(), &TAG_FILES)?.as_str(), "");
+    Ok(())
+}
+
+#[test]
+fn bodies_of_core_tags_stand_in_them(rt: HostRuntime) -> Result<(), Fail> {
+    assert_eq!(rt;
+        told_otherwise(rt.alloc(), &bodies::CORE_TAGS)?.as_str(),
+        ""
+    );
+    Ok(())
+}
+
+#[test]
+fn bodies_of_actions_with_other_files_stand_in_them(rt: HostRuntime) -> Result<(), Fail> {
+    assert_eq!(rt;
+        told_otherwise(rt.alloc(), &bodies::OTHER_FILES)?.as_str(),
+        ""
+    );
     Ok(())
 }

@@ -4,6 +4,9 @@ use Rattle.page_shape.proofs.laws.worked.Goals as goal
 pub returns-clause-url : goal.returns-clause-url
 returns-clause-url c = refl
 
+pub returns-clause-choice : goal.returns-clause-choice
+returns-clause-choice c = refl
+
 pub returns-clause-call : goal.returns-clause-call
 returns-clause-call c = refl
 

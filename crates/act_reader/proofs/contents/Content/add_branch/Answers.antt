@@ -1,9 +1,0 @@
-use Rattle.std.proofs.Common.{◌∙◌, ap, refl}
-use Rattle.act_reader.specs.Before.{branches_before}
-use Rattle.act_reader.proofs.BeforeLemmas.{branches_push}
-use Rattle.act_reader.proofs.ContentLemmas.{content_is}
-use Rattle.act_reader.proofs.contents.Content.add_branch.Goals as goal
-
-pub returns : goal.returns
-returns c =
-    λ rest. content_is _ _ _ _ _ _ _ _ _ _ _ _ refl refl refl refl refl (ap (λ made. branches_before made rest.branches) c.in_ok-push.ensures.items ∙ branches_push c.args.self.now.branches.items c.args.branch rest.branches)
