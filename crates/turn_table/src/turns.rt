@@ -13,13 +13,15 @@ use crate::{passes, seat, turn};
 use edges::Acted;
 use std::alloc::{AllocError, Global};
 use std::marker::Model;
-use std::sync::Wait;
+use std::sync::{Mutex, Wait};
 
 /// An object on which passes take turns. Contracts see which turns they are, how many passes they have, and the opening of
 /// the object.
 #[derive(Drop)]
 pub struct Turns<O: Object> {
     table: TurnTable<O>,
+    // One pass after the other comes to the table, so that the waiting is the lock's.
+    door: Mutex<()>,
 }
 
 impl<O: Object> Model for Turns<O> {
@@ -47,7 +49,8 @@ impl<O: Object> Turns<O> {
         let mut all = Vec::with_capacity(alloc, usize::from(passes))?;
         let (table, seat) = seat::start(alloc, object, passes)?;
         passes::make_all(&table, seat, passes, &mut all);
-        Ok((Turns { table }, all))
+        let door = Mutex::new(());
+        Ok((Turns { table, door }, all))
     }
 
     /// Gives the object back, once all passes are there.
@@ -56,7 +59,7 @@ impl<O: Object> Turns<O> {
         ensures opening { O.opening result ≡ self.opening }
         ensures passes { All (λ pass. Stays O.pass_of (O.legal self.opening) pass.number pass.seen (O.history result)) passes.items }
     {
-        let table = self.table;
+        let Turns { table, door: _ } = self;
         let seat = passes::take_back_all(&table, passes);
         seat::close(table, seat)
     }
@@ -76,6 +79,7 @@ impl<O: Object> Turns<O> {
         ensures surely { O.sure self.now.opening pass.old.seen pass.old.number (own O.pass_of pass.old.number pass.old.seen) op
             → IsDid result }
     {
+        let _inside = self.door.lock(rt);
         turn::act(rt, &self.table, &mut pass.seat, pass.number, op)
     }
 
