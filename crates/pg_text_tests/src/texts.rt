@@ -97,7 +97,7 @@ fn five_characters_are_escaped(rt: HostRuntime) -> Result<(), Fail> {
     Ok(())
 }
 
-fn listed(alloc: Global, texts: &[&str]) -> Result<Listed<Text>, AllocError> {
+fn texts_of(alloc: Global, texts: &[&str]) -> Result<Listed<Text>, AllocError> {
     let mut listed = Listed::empty(alloc);
     for text in texts {
         listed.push(Text::copy_of(alloc, text)?)?;
@@ -107,7 +107,7 @@ fn listed(alloc: Global, texts: &[&str]) -> Result<Listed<Text>, AllocError> {
 
 #[test]
 fn a_list_is_its_items(rt: HostRuntime) -> Result<(), Fail> {
-    let texts = listed(rt.alloc(), &["b", "a"])?;
+    let texts = texts_of(rt.alloc(), &["b", "a"])?;
     let copy = texts.copy()?;
     assert_eq!(rt; (copy.len(), copy.is_empty()), (2, false));
     for text in copy.as_slice() {
@@ -118,7 +118,7 @@ fn a_list_is_its_items(rt: HostRuntime) -> Result<(), Fail> {
 
 #[test]
 fn the_items_of_a_list_are_taken_out(rt: HostRuntime) -> Result<(), Fail> {
-    let texts = listed(rt.alloc(), &["b", "a"])?;
+    let texts = texts_of(rt.alloc(), &["b", "a"])?;
     let again = Listed::new(texts.into_vec());
     assert_eq!(rt; again.into_vec().len(), 2);
     Ok(())

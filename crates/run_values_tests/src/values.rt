@@ -22,7 +22,7 @@ fn text(alloc: Global, text: &str) -> Result<Value, AllocError> {
 }
 
 // Whether this is the value of a JSON text.
-fn is(alloc: Global, found: &Value, json: &str) -> Result<bool, Fail> {
+fn is_value(alloc: Global, found: &Value, json: &str) -> Result<bool, Fail> {
     Ok(*found == value(alloc, json)?)
 }
 
@@ -55,14 +55,14 @@ fn values_are_joined(rt: HostRuntime) -> Result<(), Fail> {
 #[test]
 fn a_record_is_made_of_names_and_values(rt: HostRuntime) -> Result<(), Fail> {
     let record = record_of(rt.alloc(), &parts(rt.alloc())?)?;
-    assert!(rt; is(rt.alloc(), &record, r#"{"": 1, "q": "1&2"}"#)?);
+    assert!(rt; is_value(rt.alloc(), &record, r#"{"": 1, "q": "1&2"}"#)?);
     Ok(())
 }
 
 #[test]
 fn a_list_is_made_of_values(rt: HostRuntime) -> Result<(), Fail> {
     let list = measured(list_of(rt.alloc(), &parts(rt.alloc())?)?)?;
-    assert!(rt; is(rt.alloc(), &list, r#"["q", "1&2", "", 1]"#)?);
+    assert!(rt; is_value(rt.alloc(), &list, r#"["q", "1&2", "", 1]"#)?);
     Ok(())
 }
 
@@ -91,7 +91,7 @@ fn a_fault_is_a_record(rt: HostRuntime) -> Result<(), Fail> {
     };
     let record = fault_record(rt.alloc(), RunFault::ZeroDivisor, &place)?;
     let wanted = r#"{"code": "X3", "message": "X3 ZeroDivisor /a.jsp:1:7"}"#;
-    assert!(rt; is(rt.alloc(), &record, wanted)?);
+    assert!(rt; is_value(rt.alloc(), &record, wanted)?);
     Ok(())
 }
 
@@ -109,7 +109,7 @@ fn parameters_change_properties(rt: HostRuntime) -> Result<(), Fail> {
     let bean = value(rt.alloc(), BEAN)?;
     let changed = measured_record(changed_all(rt.alloc(), &params, &bean)?)?;
     let wanted = r#"{"a": 5, "b": "old", "c": [1], "d": false}"#;
-    assert!(rt; is(rt.alloc(), &changed, wanted)?);
+    assert!(rt; is_value(rt.alloc(), &changed, wanted)?);
     Ok(())
 }
 
@@ -129,7 +129,7 @@ fn a_property_goes_where_null_takes_its_place(rt: HostRuntime) -> Result<(), Fai
     let bean = value(rt.alloc(), r#"{"a": 1, "b": "old"}"#)?;
     let name = Text::copy_of(rt.alloc(), "a")?;
     let rest = property_replaced(&name, &Value::Null, &bean)?;
-    assert!(rt; is(rt.alloc(), &rest, r#"{"b": "old"}"#)?);
+    assert!(rt; is_value(rt.alloc(), &rest, r#"{"b": "old"}"#)?);
     Ok(())
 }
 
@@ -197,7 +197,7 @@ fn a_page_sees_its_request(rt: HostRuntime) -> Result<(), Fail> {
     assert_eq!(rt; before_query(request.target.as_str()), "/a%20b.jsp");
     let seen = request_record(rt.alloc(), &request)?;
     let wanted = r#"{"contextPath":"","method":"GET","queryString":"x","requestURI":"/a%20b.jsp"}"#;
-    assert!(rt; is(rt.alloc(), &seen, wanted)?);
+    assert!(rt; is_value(rt.alloc(), &seen, wanted)?);
     Ok(())
 }
 
@@ -206,7 +206,7 @@ fn a_page_sees_the_cookies(rt: HostRuntime) -> Result<(), Fail> {
     let request = request(rt.alloc(), &[("cookie", "c=1; d=2\t;c=3;=x;e")])?;
     let seen = record(cookie_records(rt.alloc(), &request)?)?;
     let wanted = r#"{"c": {"name": "c", "value": "1"}, "d": {"name": "d", "value": "2"}}"#;
-    assert!(rt; is(rt.alloc(), &seen, wanted)?);
+    assert!(rt; is_value(rt.alloc(), &seen, wanted)?);
     Ok(())
 }
 
@@ -214,7 +214,7 @@ fn a_page_sees_the_cookies(rt: HostRuntime) -> Result<(), Fail> {
 fn a_page_sees_the_session(rt: HostRuntime) -> Result<(), Fail> {
     let id = Text::copy_of(rt.alloc(), "GET")?;
     let seen = session_value(rt.alloc(), Some(&id))?;
-    assert!(rt; is(rt.alloc(), &seen, r#"{"id": "GET"}"#)?);
+    assert!(rt; is_value(rt.alloc(), &seen, r#"{"id": "GET"}"#)?);
     Ok(())
 }
 
@@ -225,7 +225,7 @@ fn names_have_values(rt: HostRuntime) -> Result<(), Fail> {
     put(rt.alloc(), &mut all, "z", Value::Null)?;
     let seen = record(all)?;
     let wanted = r#"{"x": ["1", "3"], "y": ["2"], "z": null}"#;
-    assert!(rt; is(rt.alloc(), &seen, wanted)?);
+    assert!(rt; is_value(rt.alloc(), &seen, wanted)?);
     Ok(())
 }
 
@@ -244,6 +244,6 @@ fn a_field_is_found_in_any_case(rt: HostRuntime) -> Result<(), Fail> {
     let request = request(rt.alloc(), &FIELDS)?;
     let key = text(rt.alloc(), "ACCEPT")?;
     let found = header_entry(rt.alloc(), &request, HeaderObject::HeaderValues, &key)?;
-    assert!(rt; is(rt.alloc(), &found, r#"["a", "b"]"#)?);
+    assert!(rt; is_value(rt.alloc(), &found, r#"["a", "b"]"#)?);
     Ok(())
 }

@@ -30,7 +30,7 @@ enum Count {
     Committed,
 }
 
-fn count(ran: &Ran, what: Count) -> u64 {
+fn counted(ran: &Ran, what: Count) -> u64 {
     match what {
         Count::Visits => ran.around.visits as u64,
         Count::Charge => ran.around.charge,
@@ -70,7 +70,7 @@ fn runs_are_counted(rt: HostRuntime) -> Result<(), Fail> {
         (MORE_STEPS, 11_781, Count::Asked, 11_780),
     ] {
         let ran = run(rt.alloc(), text, nulls)?;
-        assert_eq!(rt; count(&ran, what), wanted);
+        assert_eq!(rt; counted(&ran, what), wanted);
     }
     Ok(())
 }
@@ -93,7 +93,10 @@ fn a_step_too_many_is_told(rt: HostRuntime) -> Result<(), Fail> {
 #[test]
 fn a_full_buffer_commits_nothing(rt: HostRuntime) -> Result<(), Fail> {
     let full = run(rt.alloc(), letters(rt.alloc(), 1_024, "")?.as_str(), 0)?;
-    let found = (count(&full, Count::Committed), count(&full, Count::Rest));
+    let found = (
+        counted(&full, Count::Committed),
+        counted(&full, Count::Rest),
+    );
     assert_eq!(rt; found, (0, 1_024));
     Ok(())
 }
