@@ -1,4 +1,4 @@
-//! Tests of the writer of a page run.
+//! Tests of the writer of responses, and of that of a page run.
 #![tactic(auto)]
 
 #[cfg(test)]
@@ -7,6 +7,8 @@ mod acts;
 mod committing;
 #[cfg(test)]
 mod keeping;
+#[cfg(test)]
+mod responses;
 #[cfg(test)]
 mod tests;
 #[cfg(test)]

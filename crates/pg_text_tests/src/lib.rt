@@ -1,7 +1,9 @@
-//! Tests of the words of texts, paths and faults.
+//! Tests of the words of texts, paths and faults, and of trees of files.
 #![tactic(auto)]
 
 #[cfg(test)]
 mod paths;
 #[cfg(test)]
 mod texts;
+#[cfg(test)]
+mod trees;

@@ -1,4 +1,4 @@
-//! Tests of the units of pages.
+//! Tests of pages and tag files that are read twice, and of the units of pages.
 #![tactic(auto)]
 
 #[cfg(test)]
@@ -12,6 +12,10 @@ mod pages;
 #[cfg(test)]
 mod places;
 #[cfg(test)]
+mod rooting;
+#[cfg(test)]
 mod show;
+#[cfg(test)]
+mod shown_root;
 #[cfg(test)]
 mod worked;

@@ -1,8 +1,10 @@
-//! Tests of values, their coercions, the operators and the scopes.
+//! Tests of values, their coercions, the operators, the functions and the scopes.
 #![tactic(auto)]
 
 #[cfg(test)]
 mod coercion;
+#[cfg(test)]
+mod functions;
 #[cfg(test)]
 mod json;
 #[cfg(test)]

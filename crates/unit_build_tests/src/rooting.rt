@@ -1,4 +1,4 @@
-use crate::show::{read, shown, tree_of};
+use crate::shown_root::{read, shown, tree_of};
 use std::alloc::Global;
 use std::test::Fail;
 

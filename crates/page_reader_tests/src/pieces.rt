@@ -1,4 +1,4 @@
-use crate::show::{setting, shown, start};
+use crate::shown_pieces::{setting, shown, start};
 use std::test::Fail;
 
 #[test]

@@ -1,4 +1,4 @@
-use crate::tag::told;
+use crate::core_tag::told;
 use std::test::Fail;
 
 #[test]

@@ -1,4 +1,4 @@
-use crate::show::{setting, shown};
+use crate::shown_pieces::{setting, shown};
 use page_pieces::could_end;
 use std::test::Fail;
 

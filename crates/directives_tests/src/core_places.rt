@@ -1,4 +1,4 @@
-use crate::tag::told;
+use crate::core_tag::told;
 use jstl_tags::{CoreName, Host};
 use std::test::Fail;
 

@@ -1,5 +1,0 @@
-//! Tests of the bytes of responses.
-#![tactic(auto)]
-
-#[cfg(test)]
-mod tests;

@@ -1,5 +1,0 @@
-//! Tests of the functions library.
-#![tactic(auto)]
-
-#[cfg(test)]
-mod functions;
