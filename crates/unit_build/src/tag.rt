@@ -64,7 +64,7 @@ fn standing_in<'r>(
     path: &Path,
     directives: Vec<Directive<'r>>,
 ) -> Result<Vec<Directive<'r>>, AllocError>
-    ensures { IfOk result (λ own. own.items ≡ filter (stands_in path.now) directives.items) }
+    ensures { IfOk result (λ own. own.items ≡ filter (stands_in path.now) directives.entry.items) }
 {
     let mut own = Vec::new(alloc);
     for directive in directives {

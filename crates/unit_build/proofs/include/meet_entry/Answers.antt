@@ -9,7 +9,7 @@ returns-in-Entered c =
 
 pub returns-in-Unread : goal.returns-in-Unread
 returns-in-Unread c =
-    subst (λ entry. (before : Before) → IsEntry c.args.found.now c.count_file.new.found before entry c.count_file.result.0 false) (sym c.in-Unread.is)
+    subst (λ entry. (before : Before) → IsEntry c.args.found.now c.count_file-in-Unread.new.found before entry c.count_file-in-Unread.result.0 false) (sym c.in-Unread.is)
     (λ before.
-    let entered = c.count_file.ensures before in
+    let entered = c.count_file-in-Unread.ensures before in
     record { faults = entered.faults; goes = refl; fault = entered.fault; names = entered.names; site = entered.site; state = entered.state })
