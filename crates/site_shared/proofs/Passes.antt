@@ -1,5 +1,5 @@
 -- The passes of a shared site at its start and at its end.
-use Rattle.std.proofs.Common.{◌≡◌, ℕ, ◌+◌, ◌<◌, List, [], length, get_or, map, None, true, sym, ap, subst, ◌∙◌, arith}
+use Rattle.std.proofs.Common.{◌≡◌, ℕ, ◌+◌, ◌<◌, List, [], length, get_or, None, true, sym, subst, ◌∙◌, arith}
 use Rattle.std.specs.Prelude.{All, ◌≤◌, nat_le}
 use Rattle.std.specs.List.{range_with_len}
 use Rattle.std.proofs.lemmas.List.{get_or-map, length-map}
@@ -10,7 +10,7 @@ use Rattle.site_words.specs.declared.words.Entry.{Entry}
 use Rattle.site_words.specs.declared.words.Opening.{Opening}
 use Rattle.site_words.specs.Invariants.{AllRest}
 use Rattle.site_words.specs.Law.{own, pass_of, run_of}
-use Rattle.site_words.specs.Opening.{is_sound, sound_app, sound_counts, sound_sessions, sound_tree}
+use Rattle.site_words.specs.Opening.{is_sound, sound_counts}
 use Rattle.site_words.proofs.Gifts.{closed_rests}
 use Rattle.site_words.proofs.Items.{and_left, and_right, le_of}
 use Rattle.turn_table.specs.Passes.{AreAll, Known, Origin, newcomer, newcomers}
