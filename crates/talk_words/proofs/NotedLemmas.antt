@@ -1,5 +1,5 @@
 -- What was said while a clock noted is said again over a clock that tells what was noted.
-use Rattle.std.proofs.Common.{◌≡◌, ◌<◌, ℕ, ◌+◌, ◌⊎◌, inl, inr, List, [], ◌∷◌, ◌++◌, length, Bool, true, false, Option, Some, None, refl, sym, ap, subst, ◌∙◌, append_assoc, arith}
+use Rattle.std.proofs.Common.{◌≡◌, ℕ, ◌⊎◌, inl, inr, List, [], ◌∷◌, ◌++◌, length, Bool, true, false, Option, Some, None, refl, sym, ap, subst, ◌∙◌, append_assoc, arith}
 use Rattle.std.specs.Bool.{MatchBool}
 use Rattle.std.specs.Prelude.{nat_lt}
 use Rattle.std.proofs.lemmas.Bool.{lt-ltb}
@@ -7,11 +7,10 @@ use Rattle.std.proofs.lemmas.List.{append-nil, append_cancel_left}
 use Rattle.conversation.proofs.Backward.{tells_back, walked_back}
 use Rattle.conversation.specs.Conversation.{Tells, WalkedBy}
 use Rattle.conversation.specs.Exchange.{Exchange}
-use Rattle.conversation.specs.declared.ended.Ended.{Ended}
 use Rattle.edges.specs.Clock.{Answers as Ticks, GoesNoted, Moments, ahead_after}
 use Rattle.http_in.specs.declared.request.Request.{Request}
-use Rattle.page_answers.specs.Answers.{Answers, IsAnswered, IsNotTaken, IsRefused, takes_method}
-use Rattle.page_answers.specs.Dropped.{Drops, IsDropped, IsUnbegun}
+use Rattle.page_answers.specs.Answers.{IsAnswered, IsNotTaken, IsRefused, takes_method}
+use Rattle.page_answers.specs.Dropped.{IsDropped, IsUnbegun}
 use Rattle.page_answers.specs.Standing.{AtMoment, Standing, standing_of}
 use Rattle.site_words.specs.Trees.{Needs}
 use Rattle.site_words.specs.declared.words.Opening.{Opening}
