@@ -1,10 +1,12 @@
 -- The run of a page from its beginning.
-use Rattle.std.proofs.Common.{◌≡◌, ℕ, Bool, true, false, List, [], ◌++◌, Option, Some, None, refl, sym, ap, subst, ◌∙◌, append-nil}
+use Rattle.std.proofs.Common.{◌≡◌, ℕ, Bool, true, false, List, [], ◌++◌, Option, Some, None, refl, sym, ap, subst, ◌∙◌, append-nil, arith}
 use Rattle.std.specs.Prelude.{Result, Ok, Err}
 use Rattle.http_in.specs.declared.params.Param.{Param}
 use Rattle.http_out.specs.declared.head.Head.{Head}
 use Rattle.http_out.specs.declared.status.Status.{Status}
-use Rattle.out_buffer.specs.Held.{Held}
+use Rattle.out_buffer.specs.Streamed.{HasTaken, so_far}
+use Rattle.out_buffer.specs.Writer.{Writer, empty_writer}
+use Rattle.out_buffer.specs.Held.{Held, Stands, fresh}
 use Rattle.page_machine.specs.Run.{StandsFor}
 use Rattle.page_made.specs.Made.{IsPageAt, IsProgramOf}
 use Rattle.page_answers.proofs.HeadLemmas.{no_head}
@@ -73,6 +75,20 @@ pub started_ordered : (origin : Origin) (scopes : ScopeState) (held : Held) (tak
     → StandsFor origin scopes held taken faults around asking s → IsOrdered (at_start page s)
 started_ordered origin scopes held taken faults around asking s page none stands =
     ordered_on s (at_start page s) refl ([], sym (append-nil s.writer.pieces ∙ none_committed origin scopes held taken faults around asking s none stands)) stands.ordered
+
+-- nor was anything sent, so that a writer at the start of a response stands for one that has written nothing
+
+unsent : (start : Option (List ℕ)) (before : ℕ) (failed : Bool) (taken : Option (List ℕ)) (faults : ℕ) → HasTaken start before [] failed taken faults → HasTaken start before [] false taken faults
+unsent start before false taken faults sent = sent
+unsent start before true taken faults sent = let within = sent.sent.1 in absurd (omega (arith, within))
+
+pub started_writer : (start : Option (List ℕ)) (before : ℕ) (held started : Held) (taken : Option (List ℕ)) (faults : ℕ) (writer : Writer) (head : Head) (size : Option ℕ) (autoflush shown : Bool) → held.committed ≡ false
+    → Stands start before held taken faults writer → started ≡ fresh head size autoflush shown → Stands start before started taken faults (empty_writer size autoflush)
+started_writer start before held started taken faults writer head size autoflush shown none stands is =
+    let no_pieces : writer.pieces ≡ [] = uncommitted writer.pieces (sym stands.committed ∙ none) in
+    let sent = subst (λ pieces. HasTaken start before (so_far held.head held.shown pieces) held.failed taken faults) no_pieces stands.streamed in
+    let begun : Stands start before (fresh head size autoflush shown) taken faults (empty_writer size autoflush) = record { holds = refl; committed = refl; streamed = unsent start before held.failed taken faults sent } in
+    subst (λ held. Stands start before held taken faults (empty_writer size autoflush)) (sym is) begun
 
 -- memory was wanting before the run began
 pub played_short : {E : Type 0} → ForwardsLeaveFewer → StepsAndPiecesGrow → (served : Served) (status : Status) (page : Page) (params : List Param) (left : ℕ) (stands : State → Type 0) (s : State) (answers : List Answer) (depth : ℕ) (held : Held) (e : E)

@@ -37,7 +37,6 @@ pub struct Way {
 }
 
 /// Begins the run of a page that isn't included: one empty frame, and a writer of its own. Nothing may have been committed.
-#[tactic(auto, using(crate::proofs::PlayedLemmas::started_ordered))]
 pub(crate) fn begin_page(
     alloc: Global,
     program: &Program,

@@ -2,7 +2,6 @@
 use Rattle.std.proofs.Common.{◌≡◌, ℕ, ◌+◌, List, [], ◌∷◌, ◌++◌, sym, ap, subst, ◌∙◌, Option, Some}
 use Rattle.std.specs.Prelude.{Result, Ok, Err}
 use Rattle.edges.specs.declared.acted.Acted.TheVariants.{Refused}
-use Rattle.editor.specs.Message.{message}
 use Rattle.editor.specs.Taking.{IsChanged, IsDrafted, Takes, changed, counted, fault_of}
 use Rattle.editor.specs.declared.answer.EditorAnswer.{EditorAnswer}
 use Rattle.editor.specs.declared.answer.EditorAnswer.TheVariants as answer

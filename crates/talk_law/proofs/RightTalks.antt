@@ -1,5 +1,5 @@
 -- A talk that is right and one that is run again.
-use Rattle.std.proofs.Common.{◌≡◌, ℕ, List, [], ◌∷◌, ◌++◌, Option, Some, refl, sym, ap, subst}
+use Rattle.std.proofs.Common.{ℕ, List, [], ◌∷◌, Option, Some, refl, ap, subst}
 use Rattle.conversation.specs.Conversation.{Tells}
 use Rattle.conversation.specs.declared.ended.Ended.{Ended}
 use Rattle.conversation.specs.declared.ended.Ended.TheVariants as ended
@@ -7,7 +7,7 @@ use Rattle.page_answers.specs.Standing.{standing_of}
 use Rattle.page_meaning.specs.Laws.{RequestsGoOn}
 use Rattle.talk_law.proofs.Talks.{talks_are_one}
 use Rattle.talk_law.specs.OneTalk.{IsByBytes}
-use Rattle.talk_law.specs.RightTalk.{IsRightTalk, Ran, RecordsAreRight, RunsAgain, RunsComeToIt, RunsShowIt, only, with_two}
+use Rattle.talk_law.specs.RightTalk.{RecordsAreRight, RunsComeToIt, RunsShowIt, only, with_two}
 use Rattle.talk_words.specs.Connection.{Connection, Stand, stand_of}
 use Rattle.talk_words.specs.Noted.{IsToldAgain, telling}
 use Rattle.talk_words.specs.Said.{IsLeft, IsSaid}

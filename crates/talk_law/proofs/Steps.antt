@@ -3,14 +3,14 @@ use Rattle.std.proofs.Common.{◌≡◌, ◌<◌, ◌≤◌, ℕ, ◌+◌, Bool,
 use Rattle.std.proofs.lemmas.List.{append_cancel_left, length-append, length_push}
 use Rattle.http_out.specs.Response.{Response}
 use Rattle.page_answers.proofs.TurnLemmas.{answers_join, steps_join}
-use Rattle.page_answers.specs.Turns.{Turn, answer_of, answers_of, hit, made, missed, step_of, stepped, steps_of, unoffered}
+use Rattle.page_answers.specs.Turns.{Turn, answers_of, hit, made, missed, step_of, stepped, steps_of, unoffered}
 use Rattle.page_meaning.specs.Growth.{Grows, takes_answer, with_more}
 use Rattle.page_meaning.specs.Laws.{RequestAsksOn, RequestGoesOn}
 use Rattle.page_meaning.specs.Response.{Answered, awaits, end_state, responds}
 use Rattle.page_meaning.specs.State.{State, with_asked}
 use Rattle.edges.specs.History.{IsFront}
 use Rattle.site_words.specs.Law.{Answer}
-use Rattle.site_words.specs.PageSteps.{Step, app, fresh, fetch}
+use Rattle.site_words.specs.PageSteps.{Step}
 
 -- how many of these steps have an answer
 

@@ -1,16 +1,14 @@
 -- Where one pass alone acts, the bytes have one talk.
-use Rattle.std.proofs.Common.{◌≡◌, ℕ, ◌+◌, Bool, List, [], ◌∷◌, ◌++◌, refl, sym, ap, subst, ◌∙◌, Option, Some, None}
+use Rattle.std.proofs.Common.{◌≡◌, ℕ, ◌+◌, Bool, List, [], ◌∷◌, ◌++◌, sym, ap, subst, ◌∙◌, Option, Some, None}
 use Rattle.std.specs.Io.KnownBytes.{Appends}
 use Rattle.conversation.proofs.OneConversation.{one_walk}
 use Rattle.conversation.specs.Conversation.{IsConversation, Tells, Walked, closes, last_words, outcome_of, texts}
 use Rattle.conversation.specs.Exchange.{Exchange}
 use Rattle.conversation.specs.declared.ended.Ended.{Ended}
 use Rattle.conversation.specs.declared.ended.Ended.TheVariants as ended
-use Rattle.http_in.specs.Requests.{Stop}
 use Rattle.talk_law.proofs.Exchanges.{IsGood, said_one, tells_said}
-use Rattle.talk_law.specs.OneTalk.{AreOneWay, IsAlone, IsByBytes, TalksAreOne, TellsMoments}
+use Rattle.talk_law.specs.OneTalk.{IsAlone, IsByBytes, TalksAreOne}
 use Rattle.page_meaning.specs.Laws.{RequestsGoOn}
-use Rattle.site_words.specs.Law.{Legal}
 use Rattle.talk_words.proofs.UseLemmas.{said_used}
 use Rattle.talk_words.specs.Connection.{Connection, Stand}
 use Rattle.talk_words.specs.Said.{IsLeft, IsSaid}

@@ -1,25 +1,21 @@
 -- Where one pass alone acts, a request has one list of turns.
-use Rattle.std.proofs.Common.{◌≡◌, ℕ, ◌+◌, Bool, true, false, List, [], ◌∷◌, ◌++◌, map, refl, sym, ap, subst, ◌∙◌, append_assoc, append-nil}
+use Rattle.std.proofs.Common.{◌≡◌, ℕ, ◌+◌, true, false, List, [], ◌∷◌, ◌++◌, refl, sym, ap, subst, ◌∙◌, append_assoc, append-nil}
 use Rattle.std.proofs.lemmas.List.{map-append}
 use Rattle.std.specs.List.{fold, list_all}
 use Rattle.edges.specs.declared.acted.Acted.{Acted}
 use Rattle.edges.specs.declared.acted.Acted.TheVariants.{Did}
 use Rattle.talk_law.proofs.Alone.{entries_by, entry_by}
 use Rattle.talk_law.proofs.Steps.{Ends, next_step, no_more}
-use Rattle.page_answers.specs.Turns.{Turn, all_calls, calls_of, hit, is_whole, made, missed, step_of, stepped, unoffered}
+use Rattle.page_answers.specs.Turns.{Turn, all_calls, calls_of, hit, is_whole, made, missed, step_of, stepped}
 use Rattle.page_meaning.specs.Laws.{RequestGoesOn}
 use Rattle.page_meaning.specs.Response.{Answered}
 use Rattle.site_words.proofs.Items.{and_left, and_right}
 use Rattle.site_words.proofs.Legal.{legal_rest}
 use Rattle.site_words.specs.Law.{Answer, LegalFrom}
-use Rattle.site_words.specs.PageSteps as asks
 use Rattle.site_words.specs.State.{State, moved}
 use Rattle.site_words.specs.Step.{step}
 use Rattle.site_words.specs.Trees.{Needs}
-use Rattle.site_words.specs.declared.words.AppReply.{AppReply}
-use Rattle.site_words.specs.declared.words.AppStep.{AppStep}
 use Rattle.site_words.specs.declared.words.Entry.{Entry}
-use Rattle.site_words.specs.declared.words.Op.{Op}
 use Rattle.site_words.specs.declared.words.Op.TheVariants as op
 use Rattle.site_words.specs.declared.words.Opening.{Opening}
 use Rattle.site_words.specs.declared.words.Refusal.{Refusal}
