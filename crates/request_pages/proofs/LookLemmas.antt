@@ -4,13 +4,19 @@ use Rattle.out_buffer.specs.Held.{Held}
 use Rattle.page_machine.specs.Run.{IsInOrder, StandsFor}
 use Rattle.page_meaning.specs.State.{State}
 use Rattle.page_meaning.specs.Work.{fetched}
+use Rattle.pg_text.specs.declared.place.PageFault.{PageFault}
+use Rattle.request_pages.specs.Looked.{looked_at}
 use Rattle.request_pages.specs.Played.{IsFunded, session_claim}
 use Rattle.run_stage.proofs.LookMoves.{look_claimed, page_claimed, page_steps}
 use Rattle.run_world.specs.Origin.{Origin}
 use Rattle.run_world.specs.declared.around.Around.{Around}
+use Rattle.run_world.specs.declared.program.Program.{Program}
 use Rattle.scopes.specs.Scopes.{ScopeState}
 use Rattle.site_words.specs.PageSteps.{fetch, page_charge}
-use Rattle.site_words.specs.Running.{Asking, HasLooked, IsPageFile, IsPlain, is_page, look_claim, look_steps, page_claim}
+use Rattle.site_words.specs.Running.{Asking, HasLooked, IsPageFile, IsPaged, IsPlain, is_page, look_claim, look_steps, page_claim}
+use Rattle.site_words.specs.declared.app_port.Paged.{Paged}
+use Rattle.site_words.specs.declared.app_port.Paged.TheVariants as found
+use Rattle.source_tree.specs.Edits.{file_at}
 use Rattle.source_tree.specs.declared.file.File.{File}
 use Rattle.page_meaning.proofs.Growing.{ordered_asked}
 
@@ -18,6 +24,11 @@ use Rattle.page_meaning.proofs.Growing.{ordered_asked}
 pub plain_free : (path : List ℕ) (file : Option File) (text : List ℕ) → IsPlain path file text → look_claim path file ≡ 0
 plain_free path None text is = refl
 plain_free path (Some file) text is = ap (λ b. if b then 160 + 2 * length path else 0) is.0
+
+-- nor is it asked for as a page
+plain_asks : (path : List ℕ) (file : Option File) (text : List ℕ) → IsPlain path file text → look_steps path file ≡ []
+plain_asks path None text is = refl
+plain_asks path (Some file) text is = ap (λ b. if b then fetch path ∷ [] else []) is.0
 
 -- a page takes what it is charged
 pub page_claims : (path : List ℕ) (file : Option File) → IsPageFile path file → look_claim path file ≤ page_charge path
@@ -50,6 +61,24 @@ page_stands origin scopes held taken faults around old new path file s charge so
   id = h.id;
   fresh = h.fresh;
 }
+
+-- what a run is charged for what it found: a page costs, and so does one with a fault
+abbrev pub charged : Paged Program → (charge : ℕ) → Around → Around
+charged (found.Page program) charge around = record around { charge = around.charge + charge }
+charged (found.Bad fault) charge around = record around { charge = around.charge + charge }
+charged (found.Plain text) charge around = around
+charged found.Absent charge around = around
+
+-- the rest stands behind a look, whatever was found
+pub found_stands : (made : Program → List File → List ℕ → Type 0) (faulty : PageFault → List File → List ℕ → Type 0) (tree : List File) (origin : Origin) (scopes : ScopeState) (held : Held) (taken : Option (List ℕ)) (faults : ℕ) (around : Around) (old new : Asking)
+    (path : List ℕ) (s : State) (charge : ℕ) → charge ≡ page_charge path → (what : Paged Program) → IsPaged made faulty tree path what → HasLooked old new path (file_at path tree) → StandsFor origin scopes held taken faults around old s
+    → StandsFor origin scopes held taken faults (charged what charge around) new (looked_at path what s)
+found_stands made faulty tree origin scopes held taken faults around old new path s charge so (found.Page program) is looked h = page_stands origin scopes held taken faults around old new path (file_at path tree) s charge so is.0 looked h
+found_stands made faulty tree origin scopes held taken faults around old new path s charge so (found.Bad fault) is looked h = page_stands origin scopes held taken faults around old new path (file_at path tree) s charge so is.0 looked h
+found_stands made faulty tree origin scopes held taken faults around old new path s charge so (found.Plain text) is looked h =
+    quiet_stands origin scopes held taken faults around old new path (file_at path tree) s (plain_asks path (file_at path tree) text is) looked h
+found_stands made faulty tree origin scopes held taken faults around old new path s charge so found.Absent is looked h =
+    quiet_stands origin scopes held taken faults around old new path (file_at path tree) s (ap (look_steps path) is) looked h
 
 -- the promise covers the rest behind a look
 pub look_funded : (around : Around) (old new : Asking) (path : List ℕ) (file : Option File) (charge : ℕ) → look_claim path file ≤ charge → HasLooked old new path file → IsFunded around old
