@@ -1,5 +1,5 @@
 -- The buffer of a page has bytes.
-use Rattle.std.proofs.Common.{◌≡◌, ◌+◌, ◌*◌, ◌≤◌, ◌<◌, ℕ, suc, Bool, true, false, List, [], ◌∷◌, Option, Some, None, refl, sym, ap, subst, ◌∙◌, arith, cond, take, drop, not, ◌&&◌, if◌then◌else◌, codes}
+use Rattle.std.proofs.Common.{◌≡◌, ◌+◌, ◌*◌, ◌≤◌, ◌<◌, ℕ, suc, Bool, true, false, List, [], ◌∷◌, Option, Some, None, refl, sym, ap, subst, ◌∙◌, arith, cond, take, length, drop, not, ◌&&◌, if◌then◌else◌, codes}
 use Rattle.std.proofs.lemmas.Bool.Decides.{nat_tests}
 use Rattle.std.specs.Char.{digit_value, is_ascii_digit}
 use Rattle.std.specs.List.{prefix_len}
@@ -24,6 +24,7 @@ use Rattle.unit_build.specs.Unit.{body_of}
 use Rattle.unit_source.specs.Files.{Files, text_in}
 use Rattle.unit_source.specs.First.{first_within, most_deep}
 use Rattle.unit_source.specs.Root.{Root, rooted}
+use Rattle.unit_source.specs.Volume.{one_file}
 
 after_least : (n : ℕ) (ds : List ℕ) → n ≤ digits_value_after 10 n ds
 after_least n [] = omega arith
@@ -92,7 +93,7 @@ buffer_above in_tag ds n is = decided_above _ n is
 
 root_above : (files : Files) (path text : List ℕ) → ForSome (rooted files false path text).settings.buffer (λ n. 0 < n)
 unfolding rooted
-root_above files path text = buffer_above false (first_within most_deep files [] 1 path text).directives
+root_above files path text = buffer_above false (first_within most_deep files [] (one_file (length text)) path text).directives
 
 body_settings : (root : Root) (reading : Reading) (fault : Option PageFault) (page : Page) → page_read (body_of root reading fault) ≡ Ok page → root.settings ≡ page.settings
 body_settings root reading (Some fault) page is = absurd (cc)
