@@ -1,5 +1,3 @@
-mod Resting
 mod ReadyLemmas
 mod VisitLemmas
-mod WordsCross
 mod SiteCross

@@ -32,11 +32,11 @@ pub fn worked<R: Threads + Wait + Sync>(
     passes: u8,
     cookie: &str,
     job: Job,
+    watch: &Watch,
 ) -> Result<Option<Site<Word>>, Failure<BadPath>> {
     let errand = errand(alloc, cookie)?;
-    let watch = Watch::new();
     match site_for(alloc, passes)? {
-        Some(site) => Ok(site_after(rt, alloc, site, &watch, &errand, job)?),
+        Some(site) => Ok(site_after(rt, alloc, site, watch, &errand, job)?),
         None => Ok(None),
     }
 }

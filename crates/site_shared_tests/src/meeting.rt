@@ -5,6 +5,7 @@ ghost use Rattle.site_shared_tests.specs.Visits.{IsIdle};
 
 use crate::visiting::{Errand, begin, finish, visit};
 use edges::Gate;
+use pg_text::Text;
 use site_words::{Compiled, Port};
 use std::alloc::Global;
 use std::sync::atomic::{AtomicU64, Ordering};
@@ -13,13 +14,21 @@ use std::thread;
 /// The most looks at a word before a thread goes on.
 const LOOKS: u32 = 10_000_000;
 
+/// The pass that asks without a session while four others wait for one.
+const VISITOR: u8 = 5;
+
+/// How many passes then wait.
+const WAITING: u64 = 4;
+
 /// Words that the threads of a meeting look at.
 #[derive(Drop)]
 pub struct Watch {
     /// 1 once pass 0 holds the session.
     pub held: AtomicU64,
-    /// How often pass 1 came to the gate.
+    /// How often the passes that wait for the session came to the gate.
     pub tries: AtomicU64,
+    /// 1 once the visitor without a session was answered.
+    pub answered: AtomicU64,
 }
 
 impl Watch {
@@ -27,11 +36,12 @@ impl Watch {
         Watch {
             held: AtomicU64::new(0),
             tries: AtomicU64::new(0),
+            answered: AtomicU64::new(0),
         }
     }
 }
 
-/// A gate that counts how often pass 1 comes to it.
+/// A gate that counts how often the passes come to it that wait for the session: those between 0 and the visitor.
 #[derive(Drop)]
 pub struct Counting<'a> {
     pub watch: &'a Watch,
@@ -39,7 +49,7 @@ pub struct Counting<'a> {
 
 impl<'a> Gate for Counting<'a> {
     fn pass(&self, point: u64) {
-        if point == 1 {
+        if point > 0 && point < u64::from(VISITOR) {
             self.watch.tries.fetch_add(1, Ordering::SeqCst);
         }
     }
@@ -50,8 +60,10 @@ impl<'a> Gate for Counting<'a> {
 pub enum Job {
     /// So many visits.
     Visits(u32),
-    /// Pass 0 holds the session until pass 1 came three times to the gate.
+    /// Pass 0 holds the session until another pass has asked for it.
     Meeting,
+    /// Pass 0 holds the session, for which four passes wait, until another visitor was answered.
+    Crowd,
 }
 
 /// Does the job of this pass.
@@ -69,7 +81,9 @@ pub fn work<P: Compiled, Q: Port<P>>(
 {
     match job {
         Job::Visits(times) => visit_often(alloc, port, errand, times),
-        Job::Meeting => meet(alloc, port, number, errand, watch),
+        Job::Meeting => meet(alloc, port, number, errand, watch, &watch.tries),
+        Job::Crowd if number == VISITOR => pass_by(alloc, port, watch),
+        Job::Crowd => meet(alloc, port, number, errand, watch, &watch.answered),
     }
 }
 
@@ -89,13 +103,14 @@ pub fn visit_often<P: Compiled, Q: Port<P>>(
     }
 }
 
-// Pass 0 holds the session while the others wait for it.
+// Pass 0 holds the session until the word is set, while the others wait for it.
 fn meet<P: Compiled, Q: Port<P>>(
     alloc: Global,
     port: &mut Q,
     number: u8,
     errand: &Errand,
     watch: &Watch,
+    until: &AtomicU64,
 )
     requires { IsIdle (Q.opening port.old) (Q.pass port.old) (Q.seen port.old) }
     ensures same { IsSamePort (Q.pass port.old) (Q.pass port.new) (Q.opening port.old) (Q.opening port.new) (Q.home port.old) (Q.home port.new) }
@@ -109,9 +124,26 @@ fn meet<P: Compiled, Q: Port<P>>(
     };
     if number == 0 {
         watch.held.store(1, Ordering::SeqCst);
-        wait_until(&watch.tries, 3);
+        wait_until(until, 1);
     }
     finish(alloc, port, begun);
+}
+
+// A request without a session, once the others wait for one.
+fn pass_by<P: Compiled, Q: Port<P>>(alloc: Global, port: &mut Q, watch: &Watch)
+    requires { IsIdle (Q.opening port.old) (Q.pass port.old) (Q.seen port.old) }
+    ensures same { IsSamePort (Q.pass port.old) (Q.pass port.new) (Q.opening port.old) (Q.opening port.new) (Q.home port.old) (Q.home port.new) }
+    ensures idle { IsIdle (Q.opening port.new) (Q.pass port.new) (Q.seen port.new) }
+{
+    wait_until(&watch.tries, WAITING);
+    let Ok(cookie) = Text::copy_of(alloc, "") else {
+        return;
+    };
+    let Some(begun) = begin(port, &cookie) else {
+        return;
+    };
+    finish(alloc, port, begun);
+    watch.answered.store(1, Ordering::SeqCst);
 }
 
 // Looks at the word until it is at least so great, or often enough.

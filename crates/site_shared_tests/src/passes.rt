@@ -1,6 +1,5 @@
 //! A site whose passes work in threads, each in its own.
-ghost use Rattle.std.specs.Prelude.{◌≡◌, true, All, IfOk, length};
-ghost use Rattle.site_words.specs.Invariants.{AllRest};
+ghost use Rattle.std.specs.Prelude.{◌≡◌, All, IfOk, length};
 ghost use Rattle.site_shared_tests.specs.Ready.{AreInPlace, IsReady};
 
 use crate::meeting::{Counting, Job, Watch, work};
@@ -8,7 +7,6 @@ use crate::visiting::Errand;
 use site_core::Site;
 use site_core_tests::Word;
 use site_shared::{SharedSite, SitePass, SitePasses, into_pass, start};
-use site_words::Compiled;
 use std::alloc::{AllocError, Global};
 use std::sync::Wait;
 use std::thread;
@@ -23,7 +21,7 @@ pub fn site_after<R: Threads + Wait + Sync>(
     errand: &Errand,
     job: Job,
 ) -> Result<Option<Site<Word>>, AllocError> {
-    if !rests(&site) {
+    if !site.at_rest() {
         return Ok(None);
     }
     let (shared, passes) = start(alloc, site, Counting { watch })?;
@@ -72,11 +70,4 @@ fn pass_after<'a, R: Wait>(
     let mut port = site.port(rt, pass);
     work(alloc, &mut port, number, errand, job, watch);
     into_pass(port)
-}
-
-/// Whether no request is under way.
-pub fn rests<P: Compiled>(site: &Site<P>) -> bool
-    ensures { result ≡ true → AllRest site.now.opening site.now.history }
-{
-    site.at_rest()
 }

@@ -5,7 +5,6 @@ ghost use Rattle.site_words.specs.Invariants.{AllRest};
 ghost use Rattle.site_shared_tests.specs.Visits.{IsIdle};
 
 use crate::meeting::visit_often;
-use crate::passes::rests;
 use crate::visiting::{Errand, visits};
 use pg_text::Text;
 use site_core::{Site, SoloPort, into_site, solo};
@@ -24,7 +23,7 @@ pub fn site_alone(
     errand: &Errand,
     times: u32,
 ) -> Option<(Site<Word>, i64)> {
-    if !rests(&site) {
+    if !site.at_rest() {
         return None;
     }
     let mut port = alone(site);

@@ -1,6 +1,7 @@
 use crate::accounts::{account, alone, visited, worked};
 use crate::journal::FIRST;
-use crate::meeting::Job;
+use crate::meeting::{Job, Watch};
+use std::sync::atomic::Ordering;
 use std::test::Fail;
 
 const ONE_SESSION: &str =
@@ -8,7 +9,7 @@ const ONE_SESSION: &str =
 
 #[test]
 fn two_threads_visit_one_session_a_thousand_times(rt: HostRuntime) -> Result<(), Fail> {
-    let site = worked(&rt, rt.alloc(), 2, FIRST, Job::Visits(500))?;
+    let site = worked(&rt, rt.alloc(), 2, FIRST, Job::Visits(500), &Watch::new())?;
     let lines = account(rt.alloc(), site, 2)?;
     assert_eq!(rt; lines.as_str(), ONE_SESSION);
     Ok(())
@@ -19,7 +20,7 @@ const NO_SESSION: &str =
 
 #[test]
 fn eight_threads_visit_a_thousand_times(rt: HostRuntime) -> Result<(), Fail> {
-    let site = worked(&rt, rt.alloc(), 8, "", Job::Visits(125))?;
+    let site = worked(&rt, rt.alloc(), 8, "", Job::Visits(125), &Watch::new())?;
     let lines = account(rt.alloc(), site, 8)?;
     assert_eq!(rt; lines.as_str(), NO_SESSION);
     Ok(())
@@ -27,12 +28,28 @@ fn eight_threads_visit_a_thousand_times(rt: HostRuntime) -> Result<(), Fail> {
 
 #[test]
 fn a_pass_waits_for_a_session_that_is_held(rt: HostRuntime) -> Result<(), Fail> {
-    let site = worked(&rt, rt.alloc(), 2, FIRST, Job::Meeting)?;
+    let site = worked(&rt, rt.alloc(), 2, FIRST, Job::Meeting, &Watch::new())?;
     let lines = visited(rt.alloc(), site, 5)?;
     assert_eq!(rt;
         lines.as_str(),
         "0 begun 1 1 0\n0 ended\n1 begun 2 1 0\n1 ended\n"
     );
+    Ok(())
+}
+
+// How often the four passes that wait come to the gate at most: for each of the twelve entries once, and to end.
+const MOST_TRIES: u64 = 52;
+
+#[test]
+fn another_visitor_is_answered_while_four_passes_wait_for_a_session(
+    rt: HostRuntime,
+) -> Result<(), Fail> {
+    let watch = Watch::new();
+    let site = worked(&rt, rt.alloc(), 6, FIRST, Job::Crowd, &watch)?;
+    let lines = visited(rt.alloc(), site, 5)?;
+    let first = "0 begun 1 1 0\n5 begun 2 1 -\n5 dropped\n0 ended\n";
+    assert_eq!(rt; lines.as_str().starts_with(first), true);
+    assert_eq!(rt; watch.tries.load(Ordering::SeqCst) <= MOST_TRIES, true);
     Ok(())
 }
 

@@ -2,7 +2,8 @@ use denote.Param.Send.{arg_send, param_send}
 use mir.Syntax.{named}
 use Rattle.turn_table.proofs.pass.Pass.TheSendSync as pass
 use Rattle.site_core_tests.proofs.word.Word.TheSendSync as word
-use Rattle.site_shared_tests.proofs.SiteCross.{heap_sync, job_sync, seated_send, words_sync}
+use Rattle.site_shared.proofs.SharedCross.{seated_send}
+use Rattle.site_shared_tests.proofs.SiteCross.{heap_sync, job_sync, words_sync}
 use Rattle.site_shared_tests.proofs.meeting.Watch.TheSendSync as watch
 use Rattle.site_shared_tests.proofs.visiting.Errand.TheSendSync as errand
 use Rattle.site_shared_tests.proofs.passes.all_after.Goals as goal
