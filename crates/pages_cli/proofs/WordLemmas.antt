@@ -6,6 +6,7 @@ use Rattle.pages_check.specs.Words.{path_asked}
 use Rattle.pages_cli.specs.Words.{first_is}
 use Rattle.pages_load.specs.Load.{number_asked}
 use Rattle.pages_talk.specs.Play.{seed_asked}
+use Rattle.serve_words.specs.Words.{settings_asked}
 
 -- no other word is the first
 pub other_first : (name other : List ℕ) (words : List (List ℕ)) → bytes_eq name other ≡ false → first_is name words ≡ true → first_is other words ≡ false
@@ -30,3 +31,7 @@ no_path [] is = refl
 no_path (word ∷ []) is = refl
 no_path (word ∷ path ∷ []) is = rw is refl
 no_path (word ∷ path ∷ next ∷ words) is = refl
+
+pub no_settings : (words : List (List ℕ)) → first_is (codes "serve") words ≡ false → settings_asked words ≡ None
+no_settings [] is = refl
+no_settings (word ∷ words) is = rw is refl

@@ -1,11 +1,15 @@
-//! The program `pages`: a page container over standard input and output.
+//! The program `pages`: a page container, over standard input and output and over two ports of this machine.
 //!
+//! `pages serve --port P --editor-port E --workers W [--seed HEX] [--idle SECONDS]` serves a site without files at 127.0.0.1: W
+//! workers answer readers on P, and one answers editors on E. An option and its value may also stand in one word, as `--port=80`. Its
+//! status is 7 where a port can't be had, and 8 where the workers can't have a thread each; otherwise it isn't meant to end.
 //! `pages play [--seed HEX]` answers the requests that it reads from standard input, and writes the answers to standard output. Its
 //! status is 0 where the input ended between requests, a request asked to close, a response broke off or 65,536 requests were answered, 2 where
 //! the input shows a fault.
 //! `pages check PATH` reads the text of a page, and writes `ok` or the line of its fault: status 0 or 6. `pages load N` talks with a
-//! generated site of N pages in memory, and writes five numbers of that. For other words the status is 1; where reading or writing failed
-//! 3 and 4, and where memory was wanting 5.
+//! generated site of N pages in memory, and writes five numbers of that. `pages --help` says how the commands are called, and `pages
+//! --version` which version this is. For other words the status is 1, and how each is called goes to standard error; where reading or
+//! writing failed the status is 3 and 4, and where memory was wanting 5.
 #![tactic(auto)]
 
 ghost use Rattle.std.specs.Prelude.{◌≡◌, ◌≢◌, ◌<◌, None, map, string_bytes};
@@ -13,29 +17,74 @@ ghost use Rattle.pages_check.specs.Words.{path_asked};
 ghost use Rattle.pages_cli.specs.Words.{first_is};
 ghost use Rattle.pages_load.specs.Load.{number_asked};
 ghost use Rattle.pages_talk.specs.Play.{seed_asked};
+ghost use Rattle.serve_words.specs.Words.{settings_asked};
 
 mod wall_clock;
 
-use crate::wall_clock::WallClock;
+use crate::wall_clock::{WallClock, WallClocks};
 use edges::{ReadSource, Steps, Unseen, WriteSink};
 use pages_check::check;
 use pages_load::load;
+use pages_serve::serve;
 use pages_talk::play;
+use pages_usage::{help, usage};
 use std::io::ErrorKind;
 use std::marker::Brand;
 use std::process::ExitCode;
+use std::sync::Wait;
 use std::sync::ledger::{Blank, Ledger};
+use std::thread::Threads;
 use std::{env, io};
+use tcp_edges::TcpBind;
+
+/// Which version of the program this is.
+const VERSION: &str = "pages 1.0.0";
 
 fn main(rt: HostRuntime) -> ExitCode {
     let status = match words(&rt) {
-        Ok(words) => run::<Brand>(&rt, &words, Blank::new(1)),
+        Ok(words) if is_alone(&words, "--help") => shown(&rt),
+        Ok(words) if is_alone(&words, "--version") => versioned(&rt),
+        Ok(words) => run::<Brand, _>(&rt, &rt, &words, Blank::new(1)),
         Err(status) => status,
     };
     if status != 0 {
         let _ = eprintln!(rt; "pages: status {status}");
     }
+    if status == 1 {
+        refuse(&rt);
+    }
     ExitCode::from(status)
+}
+
+// Whether this is the only word.
+fn is_alone(words: &[String], name: &str) -> bool {
+    words.len() == 1 && first_is(words, name)
+}
+
+// Says on standard output how the commands are called, and answers the status.
+fn shown(rt: &HostRuntime) -> u8 {
+    let Ok(text) = help(rt.alloc()) else {
+        return 5;
+    };
+    let text = text.as_str();
+    if print!(rt; "{text}").is_err() { 4 } else { 0 }
+}
+
+// Says on standard output which version this is, and answers the status.
+fn versioned(rt: &HostRuntime) -> u8 {
+    if println!(rt; "{VERSION}").is_err() {
+        4
+    } else {
+        0
+    }
+}
+
+// Says on standard error how the commands are called, where there is memory for that.
+fn refuse(rt: &HostRuntime) {
+    if let Ok(text) = usage(rt.alloc()) {
+        let text = text.as_str();
+        let _ = eprint!(rt; "{text}");
+    }
 }
 
 // The words of the command, without the program's name; or else the status: 5 where memory was wanting, 1 where one of them is no text.
@@ -54,13 +103,18 @@ fn words(rt: &HostRuntime) -> Result<Vec<String>, u8> {
     Ok(words)
 }
 
-// Runs the command that the first word names over standard input and output, and answers the program's status.
-fn run<N: Ledger>(rt: &HostRuntime, words: &[String], blank: Blank) -> u8
+// Runs the command that the first word names, and answers the program's status. The workers of a server run in `threads`.
+fn run<N: Ledger, R: Threads + Wait + Sync>(
+    rt: &HostRuntime,
+    threads: &R,
+    words: &[String],
+    blank: Blank,
+) -> u8
     requires name { blank.name ≡ N.name }
     requires parts { blank.parts ≡ N.parts }
     requires some { 0 < N.parts }
-    ensures refused { seed_asked (map string_bytes words.now) ≡ None → path_asked (map string_bytes words.now) ≡ None → number_asked (map string_bytes words.now) ≡ None → result ≢ 5 → result ≡ 1 }
-    ensures only_refused { result ≡ 1 → (seed_asked (map string_bytes words.now) ≡ None) × (path_asked (map string_bytes words.now) ≡ None) × (number_asked (map string_bytes words.now) ≡ None) }
+    ensures refused { seed_asked (map string_bytes words.now) ≡ None → path_asked (map string_bytes words.now) ≡ None → number_asked (map string_bytes words.now) ≡ None → settings_asked (map string_bytes words.now) ≡ None → result ≢ 5 → result ≡ 1 }
+    ensures only_refused { result ≡ 1 → (seed_asked (map string_bytes words.now) ≡ None) × (path_asked (map string_bytes words.now) ≡ None) × (number_asked (map string_bytes words.now) ≡ None) × (settings_asked (map string_bytes words.now) ≡ None) }
 {
     let mut source = ReadSource::new(rt.reader());
     let mut sink = WriteSink::new(io::writer(rt));
@@ -71,6 +125,9 @@ fn run<N: Ledger>(rt: &HostRuntime, words: &[String], blank: Blank) -> u8
     if first_is(words, "load") {
         return load(rt.alloc(), words, &mut sink, &mut steps);
     }
+    if first_is(words, "serve") {
+        return served(rt, threads, words);
+    }
     let mut clock = WallClock::new(rt);
     play(
         rt.alloc(),
@@ -79,6 +136,21 @@ fn run<N: Ledger>(rt: &HostRuntime, words: &[String], blank: Blank) -> u8
         &mut sink,
         &mut clock,
         &mut steps,
+    )
+}
+
+// Serves over TCP, and says on standard error where.
+fn served<R: Threads + Wait + Sync>(rt: &HostRuntime, threads: &R, words: &[String]) -> u8
+    ensures words { settings_asked (map string_bytes words.now) ≡ None → result ≡ 1 }
+    ensures only_words { result ≡ 1 → settings_asked (map string_bytes words.now) ≡ None }
+{
+    serve(
+        threads,
+        rt.alloc(),
+        words,
+        &mut TcpBind::new(rt, rt.alloc()),
+        &WallClocks { rt },
+        &mut WriteSink::new(rt.stderr()),
     )
 }
 

@@ -1,6 +1,6 @@
 ghost use Rattle.std.specs.Prelude.{◌≡◌};
 
-use edges::Clock;
+use edges::{Clock, Clocks};
 use std::time::{SystemTime, UNIX_EPOCH};
 
 /// The clock of the system, in seconds since 1970. Where it can't be read, the moment is the one before; at first that is 0.
@@ -26,6 +26,20 @@ impl<'a> Clock for WallClock<'a> {
             self.last = moment;
         }
         self.last
+    }
+}
+
+/// Makes clocks of the system.
+#[derive(Drop)]
+pub(crate) struct WallClocks<'a> {
+    pub(crate) rt: &'a HostRuntime,
+}
+
+impl<'a> Clocks for WallClocks<'a> {
+    type Of = WallClock<'a>;
+
+    fn clock(&self) -> WallClock<'a> {
+        WallClock::new(self.rt)
     }
 }
 

@@ -1,0 +1,115 @@
+ghost use Rattle.std.specs.Prelude.{◌≡◌, ◌≢◌, ◌≤◌, ◌+◌, None, OnErr, IfOk, map, string_bytes};
+ghost use Rattle.edges.specs.Faults.{Rose};
+ghost use Rattle.site_words.specs.Invariants.{AllRest};
+ghost use Rattle.serve_words.specs.Words.{settings_asked};
+
+use crate::notice::announce;
+use crate::pages::Pages;
+use crate::threads::can_run;
+use edges::{Accept, Bind, Clocks, Failed, OpenGate, Sink};
+use page_made::Made;
+use pages_talk::Role;
+use pg_value::Attrs;
+use serve_words::{Settings, settings_asked};
+use site_core::{Site, start};
+use site_rounds::{Listeners, Talks, round};
+use source_tree::Tree;
+use std::alloc::{AllocError, Global};
+use std::sync::Wait;
+use std::thread::Threads;
+
+/// The greatest weight of the journal.
+const JOURNAL_LIMIT: u64 = 2_147_483_648;
+
+/// Serves a new site without files on two ports: to readers by as many workers as the words say, and by one more to editors. The answer
+/// is the program's status: 1 for other words, 7 where a listener can't be had, 8 where the workers can't have a thread each, 5 where
+/// memory was wanting. Otherwise it isn't meant to end. What it has to say at the start goes to `notices`.
+pub fn serve<R: Threads + Wait + Sync, B: Bind, W: Clocks + Sync, K: Sink>(
+    rt: &R,
+    alloc: Global,
+    words: &[String],
+    bind: &mut B,
+    clocks: &W,
+    notices: &mut K,
+) -> u8
+    ensures words { settings_asked (map string_bytes words.now) ≡ None → result ≡ 1 }
+    ensures only_words { result ≡ 1 → settings_asked (map string_bytes words.now) ≡ None }
+    ensures silent { result ≡ 1 → (bind.new ≡ bind.old) × (notices.new ≡ notices.old) }
+    ensures bound { result ≡ 7 → Rose (B.faults bind.old) (B.faults bind.new) }
+    ensures statuses { result ≢ 1 → result ≢ 7 → result ≢ 8 → result ≡ 5 }
+{
+    let Some(settings) = settings_asked(words) else {
+        return 1;
+    };
+    let Ok(listeners) = listeners_of(bind, &settings) else {
+        return 7;
+    };
+    if !can_run(rt, usize::from(settings.workers)) {
+        return 8;
+    }
+    let Ok(site) = site_of(alloc, &settings) else {
+        return 5;
+    };
+    announce(alloc, &settings, JOURNAL_LIMIT, notices);
+    rounds(rt, alloc, site, listeners, clocks)
+}
+
+// Serves one round after the other. It ends where memory is wanting.
+fn rounds<R: Threads + Wait + Sync, A: Accept + Sync + Drop, W: Clocks + Sync>(
+    rt: &R,
+    alloc: Global,
+    mut site: Site<Made>,
+    mut listeners: Listeners<A>,
+    clocks: &W,
+) -> u8
+    requires { AllRest site.opening site.history }
+    ensures { result ≡ 5 }
+{
+    let talks = Talks {
+        readers: Pages {
+            alloc,
+            role: Role::Reader,
+        },
+        editors: Pages {
+            alloc,
+            role: Role::Both,
+        },
+    };
+    for _ in rt.forever() {
+        match round(rt, alloc, site, OpenGate, &talks, &listeners, clocks) {
+            Ok(after) => site = after,
+            Err(AllocError) => return 5,
+        }
+        listeners.readers.renew();
+        listeners.editors.renew();
+    }
+    unreachable!()
+}
+
+// Both listeners.
+fn listeners_of<B: Bind>(bind: &mut B, settings: &Settings) -> Result<Listeners<B::On>, Failed>
+    ensures { OnErr result (Rose (B.faults bind.old) (B.faults bind.new)) }
+{
+    let readers = bind.bind(settings.port, None)?;
+    let editors = bind.bind(settings.editor_port, None)?;
+    Ok(Listeners { readers, editors })
+}
+
+// The site: it has no files.
+fn site_of(alloc: Global, settings: &Settings) -> Result<Site<Made>, AllocError>
+    requires { settings.now.workers ≤ 63 }
+    ensures rest { IfOk result (λ site. AllRest site.opening site.history) }
+    ensures passes { IfOk result (λ site. site.opening.passes ≡ settings.now.workers + 1) }
+{
+    let app = Attrs::empty(alloc);
+    let tree = Tree::new(alloc);
+    start(
+        alloc,
+        settings.seed,
+        app,
+        tree,
+        JOURNAL_LIMIT,
+        settings.workers + 1,
+        settings.idle,
+    )
+}

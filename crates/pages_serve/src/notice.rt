@@ -1,0 +1,31 @@
+use edges::Sink;
+use http_out::write;
+use serve_words::Settings;
+use std::alloc::{AllocError, Global};
+
+/// What the journal takes at the most for a request: its Begin with the longest cookie, and all that it is promised.
+const GREATEST_REQUEST: u64 = 4_325_504;
+
+/// What it takes for a page of twelve letters that keeps a number in a session: its Begin with the session's cookie, a Fetch, and the
+/// session's attributes.
+const COUNTER_REQUEST: u64 = 333;
+
+/// Says where the site is, and how long its journal lasts; or nothing where there is no memory for that.
+pub(crate) fn announce<K: Sink>(alloc: Global, settings: &Settings, limit: u64, notices: &mut K) {
+    if let Ok(line) = line(alloc, settings, limit) {
+        write(notices, &mut false, line.as_bytes());
+    }
+}
+
+fn line(alloc: Global, settings: &Settings, limit: u64) -> Result<String, AllocError> {
+    let port = settings.port;
+    let editor_port = settings.editor_port;
+    let least = limit / GREATEST_REQUEST;
+    let counters = limit / COUNTER_REQUEST;
+    let mut line = String::new(alloc);
+    write!(
+        line,
+        "pages: readers at http://127.0.0.1:{port}/, editors at http://127.0.0.1:{editor_port}/; room for {least} requests at least, {counters} of a page that counts in a session\n"
+    )?;
+    Ok(line)
+}

@@ -1,0 +1,61 @@
+ghost use Rattle.std.specs.Prelude.{◌≡◌, ◌<◌};
+ghost use Rattle.pass_course.specs.Course.{IsIdle};
+ghost use Rattle.site_words.specs.Answers.{IsSamePort};
+
+use edges::{Clock, Sink, Source, Steps, Unseen};
+use page_made::Made;
+use pages_talk::{Role, talk};
+use site_rounds::Talk;
+use site_words::Port;
+use std::alloc::Global;
+use std::marker::Brand;
+use std::sync::ledger;
+use std::sync::ledger::Blank;
+
+/// Answers connections by the pages of a site, which they may change or not.
+#[derive(Clone, Copy, Drop)]
+pub struct Pages {
+    pub alloc: Global,
+    pub role: Role,
+}
+
+impl Talk<Made> for Pages {
+    fn talk<Q: Port<Made>, S: Source, K: Sink, C: Clock>(
+        &self,
+        port: &mut Q,
+        source: &mut S,
+        sink: &mut K,
+        clock: &mut C,
+    ) {
+        talk_uncounted::<Brand, _, _, _, _>(
+            self.alloc,
+            port,
+            self.role,
+            source,
+            sink,
+            clock,
+            Blank::new(1),
+        );
+    }
+}
+
+// Answers a connection, without a count of what its pages read. How it ended is nobody's concern.
+fn talk_uncounted<N: ledger::Ledger, P: Port<Made>, S: Source, K: Sink, C: Clock>(
+    alloc: Global,
+    port: &mut P,
+    role: Role,
+    source: &mut S,
+    sink: &mut K,
+    clock: &mut C,
+    blank: Blank,
+)
+    requires name { blank.name ≡ N.name }
+    requires parts { blank.parts ≡ N.parts }
+    requires some { 0 < N.parts }
+    requires idle { IsIdle (P.opening port.old) (P.pass port.old) (P.seen port.old) }
+    ensures same { IsSamePort (P.pass port.old) (P.pass port.new) (P.opening port.old) (P.opening port.new) (P.home port.old) (P.home port.new) }
+    ensures idle { IsIdle (P.opening port.new) (P.pass port.new) (P.seen port.new) }
+{
+    let mut steps = Steps::<Unseen<N>>::unseen(blank);
+    talk(alloc, port, role, source, sink, clock, &mut steps);
+}

@@ -1,0 +1,110 @@
+//! What comes of connections that a site serves for one round.
+ghost use Rattle.std.specs.Prelude.{◌≡◌, IfOk};
+ghost use Rattle.site_words.specs.Invariants.{AllRest};
+
+use crate::wires::{HeldGate, Wire, WireAccept};
+use edges::StillClock;
+use page_made::Made;
+use pages_serve::Pages;
+use pages_talk::Role;
+use site_core::Site;
+use site_rounds::{Listeners, Talks, round};
+use std::alloc::Global;
+use std::sync::Wait;
+use std::sync::atomic::{AtomicU64, Ordering};
+use std::test::Fail;
+use std::thread::Threads;
+
+/// A text for each connection: to readers, and to editors.
+#[derive(Clone, Copy)]
+pub struct Said<'a> {
+    pub readers: &'a [&'a str],
+    pub editors: &'a [&'a str],
+}
+
+/// What was written to each connection, and whether the gate gave up.
+#[derive(Drop)]
+pub struct Came {
+    pub readers: Vec<Vec<u8>>,
+    pub editors: Vec<Vec<u8>>,
+    pub gave_up: bool,
+}
+
+/// Serves each of these connections once. The gate holds the first operation until something is written to a reader, where it is to.
+pub fn come_of<R: Threads + Wait + Sync>(
+    rt: &R,
+    alloc: Global,
+    site: Site<Made>,
+    said: Said<'_>,
+    is_held: bool,
+) -> Result<Came, Fail> {
+    let readers = wires_of(alloc, said.readers)?;
+    let editors = wires_of(alloc, said.editors)?;
+    let gave_up = AtomicU64::new(0);
+    let gate = HeldGate {
+        wires: readers.as_slice(),
+        passed: AtomicU64::new(if is_held { 0 } else { 1 }),
+        gave_up: &gave_up,
+    };
+    serve_once(
+        rt,
+        alloc,
+        site,
+        gate,
+        readers.as_slice(),
+        editors.as_slice(),
+    )?;
+    let gave_up = gave_up.load(Ordering::SeqCst) > 0;
+    Ok(Came {
+        readers: taken_of(alloc, readers)?,
+        editors: taken_of(alloc, editors)?,
+        gave_up,
+    })
+}
+
+fn wires_of(alloc: Global, texts: &[&str]) -> Result<Vec<Wire>, Fail> {
+    let mut wires = Vec::new(alloc);
+    for text in texts {
+        wires.push(Wire::new(alloc, text)?)?;
+    }
+    Ok(wires)
+}
+
+fn taken_of(alloc: Global, wires: Vec<Wire>) -> Result<Vec<Vec<u8>>, Fail> {
+    let mut taken = Vec::new(alloc);
+    for wire in wires {
+        taken.push(wire.into_taken())?;
+    }
+    Ok(taken)
+}
+
+// One round.
+fn serve_once<R: Threads + Wait + Sync>(
+    rt: &R,
+    alloc: Global,
+    site: Site<Made>,
+    gate: HeldGate<'_>,
+    readers: &[Wire],
+    editors: &[Wire],
+) -> Result<(), Fail> {
+    if !site.at_rest() {
+        return Err(Fail::new("a request is under way"));
+    }
+    let listeners = Listeners {
+        readers: WireAccept::new(rt, alloc, readers),
+        editors: WireAccept::new(rt, alloc, editors),
+    };
+    let talks = Talks {
+        readers: Pages {
+            alloc,
+            role: Role::Reader,
+        },
+        editors: Pages {
+            alloc,
+            role: Role::Both,
+        },
+    };
+    let clocks = StillClock { moment: 0 };
+    round(rt, alloc, site, gate, &talks, &listeners, &clocks)?;
+    Ok(())
+}

@@ -1,0 +1,6 @@
+//! How the commands of the program are called, as `clap` renders it. The words themselves are read by hand.
+#![tactic(auto)]
+
+mod commands;
+
+pub use commands::{help, usage};
