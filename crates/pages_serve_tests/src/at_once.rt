@@ -22,6 +22,14 @@ const PUBLISHED: &str =
 const NOT_FOUND: &str =
     "HTTP/1.1 404 Not Found\r\nContent-Type: text/plain;charset=UTF-8\r\nContent-Length: 9\r\n\r\nNotFound\n";
 
+// Whether the connection of this number was answered so, and with nothing else.
+fn is_answer(answers: &[Vec<u8>], number: usize, wanted: &str) -> bool {
+    match answers.get(number) {
+        Some(answer) => answer.as_slice() == wanted.as_bytes(),
+        None => false,
+    }
+}
+
 // One thread for all would answer nobody while it is held, and so would a lock that is held over a request.
 #[test]
 fn two_requests_are_answered_at_once(rt: HostRuntime) -> Result<(), Fail> {
@@ -32,8 +40,8 @@ fn two_requests_are_answered_at_once(rt: HostRuntime) -> Result<(), Fail> {
     };
     let came = come_of(&rt, rt.alloc(), site, said, true)?;
     assert!(rt; !came.gave_up);
-    assert_eq!(rt; came.readers[0].as_slice(), TO_ANN.as_bytes());
-    assert_eq!(rt; came.readers[1].as_slice(), TO_BOB.as_bytes());
+    assert!(rt; is_answer(came.readers.as_slice(), 0, TO_ANN));
+    assert!(rt; is_answer(came.readers.as_slice(), 1, TO_BOB));
     Ok(())
 }
 
@@ -45,7 +53,7 @@ fn readers_cannot_edit(rt: HostRuntime) -> Result<(), Fail> {
         editors: &[PUBLISH],
     };
     let came = come_of(&rt, rt.alloc(), site, said, false)?;
-    assert_eq!(rt; came.readers[0].as_slice(), NOT_FOUND.as_bytes());
-    assert_eq!(rt; came.editors[0].as_slice(), PUBLISHED.as_bytes());
+    assert!(rt; is_answer(came.readers.as_slice(), 0, NOT_FOUND));
+    assert!(rt; is_answer(came.editors.as_slice(), 0, PUBLISHED));
     Ok(())
 }
