@@ -14,6 +14,7 @@ import time
 
 HERE = os.path.dirname(os.path.abspath(__file__))
 sys.path.insert(0, HERE)
+sys.dont_write_bytecode = True
 
 from messages import publish  # noqa: E402
 from server import DIES_WITH_ITS_PARENT, HOST, Server, Tally, free_ports  # noqa: E402

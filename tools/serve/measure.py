@@ -11,6 +11,7 @@ import time
 
 HERE = os.path.dirname(os.path.abspath(__file__))
 sys.path.insert(0, HERE)
+sys.dont_write_bytecode = True
 
 from messages import Connection, publish  # noqa: E402
 from server import HOST, Server  # noqa: E402

@@ -11,6 +11,7 @@ import sys
 
 HERE = os.path.dirname(os.path.abspath(__file__))
 sys.path.insert(0, HERE)
+sys.dont_write_bytecode = True
 
 from by_curl import try_curl  # noqa: E402
 from by_hard_clients import try_hard_clients  # noqa: E402
