@@ -6,6 +6,7 @@ mod compiled;
 mod copies;
 mod ids;
 pub mod laws;
+mod limits;
 mod port;
 mod weights;
 mod words;
@@ -15,8 +16,14 @@ pub use compiled::Compiled;
 pub use copies::{copy_op, copy_reply, copy_step};
 pub use edges::Acted;
 pub use ids::word;
+pub use limits::{
+    COUNT_END, END_WEIGHT, MAX_ATTRIBUTES_WEIGHT, MAX_COOKIE_BYTES, MAX_PASSES, MAX_SESSIONS,
+    PROMISE,
+};
 pub use port::{Begun, Fresh, Port, Published, Snapped};
-pub use weights::{entry_weight, is_over, op_weight, publishing_weight, reply_weight};
+pub use weights::{
+    answer_weight, entry_weight, is_over, op_weight, publishing_weight, reply_weight, step_weight,
+};
 pub use words::{
     AppReply, AppStep, Entry, KeptSession, KeptSessions, Op, Opening, Refusal, Reply, Run,
 };

@@ -55,7 +55,8 @@ pub fn publishing_weight(edits: &Edits, dirty: &Names) -> Option<u64>
         .checked_add(names_weight(dirty)?)
 }
 
-fn step_weight(step: &AppStep) -> u64
+/// The weight of a step, which stops at the greatest `u64`. The entry of a step weighs 64 more, and its answer.
+pub fn step_weight(step: &AppStep) -> u64
     ensures { result ≡ capped (step_weight step.now) }
 {
     match step {
@@ -96,7 +97,8 @@ pub fn op_weight(op: &Op) -> u64
     }
 }
 
-fn answer_weight(answer: &AppReply) -> u64
+/// The weight of what a step is told, which stops at the greatest `u64`.
+pub fn answer_weight(answer: &AppReply) -> u64
     ensures { result ≡ capped (answer_weight answer.now) }
 {
     match answer {

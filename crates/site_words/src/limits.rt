@@ -1,0 +1,22 @@
+//! The limits of a site.
+
+/// The most passes of a site.
+pub const MAX_PASSES: u8 = 64;
+
+/// How many sessions a site has at most.
+pub const MAX_SESSIONS: usize = 4_096;
+
+/// The first number that a version, a count of requests or a count of sessions of an opening doesn't reach.
+pub const COUNT_END: u64 = 1 << 63;
+
+/// The most bytes of a cookie.
+pub const MAX_COOKIE_BYTES: usize = 48;
+
+/// The greatest weight of a session's attributes.
+pub const MAX_ATTRIBUTES_WEIGHT: u64 = 65_536;
+
+/// The weight that a request is promised when it begins.
+pub const PROMISE: u64 = 4_325_376;
+
+/// The weight that is kept of a promise for the request's end.
+pub const END_WEIGHT: u64 = 65_600;
