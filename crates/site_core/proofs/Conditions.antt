@@ -4,9 +4,7 @@ use Rattle.std.specs.Prelude.{◌&&◌, ◌||◌, ◌==◌, nat_lt, nat_le, slic
 use Rattle.pg_text.specs.Names.{AreInOrder}
 use Rattle.source_tree.specs.declared.edit.Edit.{Edit}
 use Rattle.source_tree.specs.declared.file.File.{File}
-use Rattle.source_tree.specs.declared.fault.TreeFault.{TreeFault}
 use Rattle.source_tree.specs.Edits.{after_edits}
-use Rattle.source_tree.specs.Limits.{tree_fault}
 use Rattle.site_words.specs.declared.words.Entry.{Entry}
 use Rattle.site_words.specs.declared.words.KeptSession.{KeptSession}
 use Rattle.site_words.specs.declared.words.Op.{Op}
@@ -16,7 +14,7 @@ use Rattle.site_words.specs.declared.words.Reply.{Reply}
 use Rattle.site_words.specs.Fits.{asks, finds, rests}
 use Rattle.site_words.specs.Invariants.{HasTree, HeldIn, has_number}
 use Rattle.site_words.specs.Law.{Finds, Legal, May, latest_of, own, run_of, trees_of}
-use Rattle.site_words.specs.Opening.{are_distinct, is_sound, no_fault, sound_app, sound_counts, sound_sessions, sound_tree}
+use Rattle.site_words.specs.Opening.{are_distinct, is_sound, sound_app, sound_counts, sound_sessions, sound_tree}
 use Rattle.site_words.specs.Runs.{UnderWay, promised, run_at, run_in, session_in, tree_in, under_at}
 use Rattle.site_words.specs.Sessions.{most_sessions}
 use Rattle.site_words.specs.State.{State, after, start_of}
@@ -209,14 +207,6 @@ module _ {P : Type 0} (needs : Needs) (made : P → List File → List ℕ → T
         held = λ number is. sym (named_has number x.sessions history parts.sessions) ∙ step.held number is;
         unused = sym (named_has parts.freshes x.sessions history parts.sessions) ∙ step.unused;
       }
-
-none_of : (fault : Option TreeFault) → no_fault fault ≡ true → fault ≡ None
-none_of None is = refl
-none_of (Some fault) is = absurd (cc)
-
--- the tree of a sound opening keeps its limits
-pub opened_tree : (x : Opening) → is_sound x ≡ true → tree_fault x.tree ≡ None
-opened_tree x can = none_of (tree_fault x.tree) (and_left (no_fault (tree_fault x.tree)) _ (opened x can).tree)
 
 -- no two sessions of a sound opening have one number
 pub opened_apart : (x : Opening) → is_sound x ≡ true → are_distinct x.sessions ≡ true

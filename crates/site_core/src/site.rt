@@ -4,7 +4,7 @@ ghost use Rattle.site_words.specs.Fits.{at_rest, fits};
 ghost use Rattle.site_words.specs.Ids.{id_of};
 ghost use Rattle.site_words.specs.Invariants.{AllRest};
 ghost use Rattle.site_words.specs.Law.{Legal, May, Sure, own, run_of};
-ghost use Rattle.site_words.specs.Opening.{is_sound};
+ghost use Rattle.site_words.specs.Opening.{is_sound, next_opening};
 ghost use Rattle.site_words.specs.State.{after};
 ghost use Rattle.site_state.specs.Gifts.{IsMade, value_in};
 ghost use Rattle.site_core.specs.Applies.{Applies};
@@ -135,6 +135,13 @@ impl<P: Compiled> Site<P> {
         ensures answer { result ≡ at_rest (after P.needs self.now.opening self.now.history).runs }
     {
         condition::at_rest(&self.held.runs)
+    }
+
+    /// The opening that goes on from here.
+    pub fn next_opening(&self) -> Result<Opening, AllocError>
+        ensures { IfOk result (λ next. next ≡ next_opening self.now.opening (after P.needs self.now.opening self.now.history)) }
+    {
+        self.held.next_opening(&self.opening, &self.history)
     }
 
     /// Whether the operation meets the condition of a step. It takes no memory.

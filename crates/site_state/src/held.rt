@@ -2,6 +2,7 @@ mod app;
 mod begin;
 mod end;
 mod fresh;
+mod next;
 mod publish;
 mod snapshot;
 mod start;

@@ -1,12 +1,15 @@
-ghost use Rattle.std.specs.Prelude.{◌≡◌, ◌<◌, ◌^◌, ◌∷◌, ◌++◌, [], true, false, map, All, OnOk, OnErr};
+ghost use Rattle.std.specs.Prelude.{◌≡◌, ◌<◌, ◌^◌, ◌∷◌, ◌++◌, [], true, false, map, All, IfOk, OnOk, OnErr};
 ghost use Rattle.site_state.specs.Parts.{under_in};
 ghost use Rattle.site_state.specs.Ranks.{AreListed, HasSpare, session_in};
+ghost use Rattle.site_state.specs.Sources.{sessions_of};
 ghost use Rattle.site_state.specs.ReadSessions.{first_unheld, has_named, named, others, roomy, touched};
 
+use crate::attributes::attributes;
 use crate::ranks::{Key, Row, append, place_of, take_out};
 use crate::request::Request;
 use crate::session::Session;
 use crate::sessions::holder_of;
+use site_words::{Entry, KeptSession};
 use std::alloc::{AllocError, Global};
 use std::marker::Model;
 
@@ -53,6 +56,18 @@ impl SessionList {
             Some(at) => Some(self.rows[at].session),
             None => None,
         }
+    }
+
+    /// The sessions with their attributes.
+    pub(crate) fn kept(
+        &self,
+        alloc: Global,
+        opened: &[KeptSession],
+        history: &[Entry],
+    ) -> Result<Vec<KeptSession>, AllocError>
+        ensures { IfOk result (λ kept. kept.items ≡ sessions_of opened.now history.now self.now) }
+    {
+        kept_of(alloc, opened, history, &self.rows)
     }
 
     /// The session with this number is used at this moment, and stays where it is.
@@ -141,4 +156,29 @@ fn first_free(runs: &[Option<Request>], rows: &[Row]) -> Option<u64>
         }
     }
     None
+}
+
+// The sessions of these rows with their attributes.
+fn kept_of(
+    alloc: Global,
+    opened: &[KeptSession],
+    history: &[Entry],
+    rows: &[Row],
+) -> Result<Vec<KeptSession>, AllocError>
+    ensures { IfOk result (λ kept. kept.items ≡ sessions_of opened.now history.now (map session_in rows.now)) }
+{
+    let mut kept = Vec::with_capacity(alloc, rows.len())?;
+    for row in rows {
+        let Session {
+            number,
+            used,
+            source,
+        } = row.session;
+        kept.push(KeptSession {
+            number,
+            used,
+            attrs: attributes(alloc, opened, history, source)?,
+        })?;
+    }
+    Ok(kept)
 }

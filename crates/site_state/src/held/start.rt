@@ -1,6 +1,5 @@
 ghost use Rattle.std.specs.Prelude.{◌≡◌, None, [], true, replicate, IfOk};
 ghost use Rattle.site_words.specs.Opening.{are_distinct};
-ghost use Rattle.source_tree.specs.Limits.{tree_fault};
 ghost use Rattle.site_words.specs.State.{start_of};
 ghost use Rattle.site_state.specs.Parts.{parts_of, state_of};
 ghost use Rattle.site_state.specs.Sources.{AreThere, sessions_of};
@@ -9,18 +8,15 @@ use crate::held::Held;
 use crate::request::Request;
 use crate::session::{Session, Source};
 use crate::session_list::SessionList;
-use pg_text::Failure;
 use program_store::Store;
 use site_words::{Compiled, KeptSession, Opening};
-use source_tree::{Edits, Tree};
 use std::alloc::{AllocError, Global};
 use std::sync::Arc;
 
 impl<P: Compiled> Held<P> {
     /// What an opening begins with.
     pub fn start(alloc: Global, opening: &Opening) -> Result<Self, AllocError>
-        requires fault { tree_fault opening.now.tree ≡ None }
-        requires distinct { are_distinct opening.now.sessions ≡ true }
+        requires { are_distinct opening.now.sessions ≡ true }
         ensures state { IfOk result (λ held. state_of opening.now [] (parts_of held) ≡ start_of opening.now) }
         ensures kept { IfOk result (λ held. (parts_of held).kept ≡ []) }
         ensures there { IfOk result (λ held. AreThere 0 (parts_of held).sessions) }
@@ -28,7 +24,7 @@ impl<P: Compiled> Held<P> {
         let sessions = opened_sessions(alloc, opening.sessions.as_slice())?;
         let runs = no_runs(alloc, opening.passes)?;
         let app = opening.app.copy()?;
-        let tree = Arc::new(alloc, same_tree(alloc, &opening.tree)?)?;
+        let tree = Arc::new(alloc, opening.tree.copy()?)?;
         Ok(Held {
             alloc,
             tree,
@@ -42,18 +38,6 @@ impl<P: Compiled> Held<P> {
             moment: opening.moment,
             weight: 0,
         })
-    }
-}
-
-// An equal tree, which shares the files' texts.
-fn same_tree(alloc: Global, tree: &Tree) -> Result<Tree, AllocError>
-    requires { tree_fault tree.now ≡ None }
-    ensures { IfOk result (λ same. same ≡ tree.now) }
-{
-    match tree.apply(&Edits::new(alloc), 0) {
-        Ok(same) => Ok(same),
-        Err(Failure::NoMemory) => Err(AllocError),
-        Err(Failure::Fault(_)) => unreachable!(),
     }
 }
 

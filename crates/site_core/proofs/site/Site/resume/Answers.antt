@@ -1,14 +1,11 @@
 use Rattle.std.specs.Vec.{vec_capacity, vec_len}
 use Rattle.site_state.specs.Parts.{parts_of}
-use Rattle.site_core.proofs.Conditions.{opened_apart, opened_tree}
+use Rattle.site_core.proofs.Conditions.{opened_apart}
 use Rattle.site_core.proofs.Next.{starts}
 use Rattle.site_core.proofs.site.Site.resume.Goals as goal
 
-pub start-requires-clause-fault : goal.start-requires-clause-fault
-start-requires-clause-fault g c = opened_tree c.args.opening c.requires
-
-pub start-requires-clause-distinct : goal.start-requires-clause-distinct
-start-requires-clause-distinct g c = opened_apart c.args.opening c.requires
+pub start-requires : goal.start-requires
+start-requires g c = opened_apart c.args.opening c.requires
 
 pub invariant_of-result : goal.invariant_of-result
 invariant_of-result g c =

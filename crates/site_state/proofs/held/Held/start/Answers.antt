@@ -11,7 +11,7 @@ none_under (suc n) = ap (λ (l : List (Option UnderWay)). None ∷ l) (none_unde
 
 pub returns-clause-state : goal.returns-clause-state
 returns-clause-state g c =
-    let tree = c.in_ok-tree.ensures.ok ∙ c.in_ok-same_tree.ensures in
+    let tree = c.in_ok-tree.ensures.ok ∙ c.in_ok-copy.ensures in
     let sessions = subst (λ o. sessions_of o [] c.in_ok-sessions.sessions ≡ o) c.as_slice.ensures c.in_ok-sessions.ensures.sessions in
     let runs = ap (λ l. map under_in l) c.in_ok-runs.ensures ∙ none_under c.args.opening.now.passes in
     let ready = ap (λ l. map kept_path l) c.new-2.ensures in
