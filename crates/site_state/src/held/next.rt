@@ -8,11 +8,7 @@ use std::alloc::AllocError;
 
 impl<P: Compiled> Held<P> {
     /// The opening that goes on from what is held.
-    pub fn next_opening(
-        &self,
-        opening: &Opening,
-        history: &[Entry],
-    ) -> Result<Opening, AllocError>
+    pub fn next_opening(&self, opening: &Opening, history: &[Entry]) -> Result<Opening, AllocError>
         ensures { IfOk result (λ next. next ≡ next_opening opening.now (state_of opening.now history.now (parts_of self.now))) }
     {
         let opened = opening.sessions.as_slice();
