@@ -129,7 +129,8 @@ id_front seed n cookie is = go (bytes_eq (hex_digits 16 n) (take 16 cookie)) ref
     go true e = refl
     go false e = let h = rw e at is in absurd (cc)
 
-hex_length : (count n : ℕ) → length (hex_digits count n) ≡ count
+-- there are as many digits as are asked for
+pub hex_length : (count n : ℕ) → length (hex_digits count n) ≡ count
 hex_length zero n = refl
 hex_length (suc count) n = length_push (hex_digits count (n / 16)) (slice_index (codes "0123456789abcdef") (n % 16)) ∙ (let more = hex_length count (n / 16) in omega arith)
 

@@ -11,3 +11,4 @@ pub mod Arms
 pub mod RankLemmas
 pub mod RowLemmas
 pub mod HeldCross
+pub mod Spelling

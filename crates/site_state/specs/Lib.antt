@@ -7,3 +7,4 @@ pub mod Spare
 pub mod ReadDone
 pub mod Works
 pub mod Conditions
+pub mod Spelled

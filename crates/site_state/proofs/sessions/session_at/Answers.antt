@@ -10,14 +10,14 @@ returns-in_default c =
     none_either (is_id c.args.seed number c.args.cookie.now) (named number c.args.sessions.now) c.in_default.ensures.session
     ∙ found_by c.args.seed c.args.cookie.now number c.args.sessions.now c.get.ensures.numbers (c.number_in_id-number.ensures c.args.seed)
 
-pub returns-then-branch : goal.returns-then-branch
-returns-then-branch c =
+pub returns-then-is_id : goal.returns-then-is_id
+returns-then-is_id c =
     let number = c.number_in_id-number.result in
-    some_if (is_id c.args.seed number c.args.cookie.now) c.in_ok-is_id.field-0 (Some c.in-Some.session) (named number c.args.sessions.now) c.in_ok-is_id.ensures c.if-branch.true c.in-Some.ensures.session
+    some_if (is_id c.args.seed number c.args.cookie.now) c.is_id.result (Some c.in-Some.session) (named number c.args.sessions.now) c.is_id.ensures c.if-is_id.true c.in-Some.ensures.session
     ∙ found_by c.args.seed c.args.cookie.now number c.args.sessions.now c.get.ensures.numbers (c.number_in_id-number.ensures c.args.seed)
 
-pub returns-else-branch : goal.returns-else-branch
-returns-else-branch c =
+pub returns-else-is_id : goal.returns-else-is_id
+returns-else-is_id c =
     let number = c.number_in_id-number.result in
-    none_if (is_id c.args.seed number c.args.cookie.now) c.in_ok-is_id.field-0 (named number c.args.sessions.now) c.in_ok-is_id.ensures c.if-branch.false
+    none_if (is_id c.args.seed number c.args.cookie.now) c.is_id.result (named number c.args.sessions.now) c.is_id.ensures c.if-is_id.false
     ∙ found_by c.args.seed c.args.cookie.now number c.args.sessions.now c.get.ensures.numbers (c.number_in_id-number.ensures c.args.seed)
