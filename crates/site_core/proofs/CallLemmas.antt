@@ -35,7 +35,7 @@ use Rattle.site_words.proofs.Legal.{after_push, legal_front}
 use Rattle.site_words.proofs.RunTree.{to_run_tree}
 use Rattle.site_words.proofs.Trees.{trees_are}
 use Rattle.site_state.specs.declared.gift.Gift.{Gift}
-use Rattle.site_state.specs.declared.gift.Gift.TheVariants.{Nothing, Start, Made, Id, Picture}
+use Rattle.site_state.specs.declared.gift.Gift.TheVariants.{Nothing, Start, Made, Id, Picture, Old}
 use Rattle.site_state.specs.declared.gift.Given.{Given}
 use Rattle.site_state.specs.Gifts.{FitsFetch, FitsHit, IsId, IsStart}
 use Rattle.site_core.specs.Answered.{Answered, IsGiven, reply_in}
@@ -93,6 +93,7 @@ module _ {P : Type 0} (needs : Needs) (made : P → List File → List ℕ → T
       go (Made v) is = absurd is
       go (Id i) is = absurd is
       go (Picture t a b) is = absurd is
+      go (Old t values) is = absurd is
 
   -- a request starts with what stands at the front before its entry, and after it
   pub begins : (x : Opening) (pass : ℕ) (old new : List Entry) (cookie : List ℕ) (moment : ℕ) (given : Given P) (begun : Begun) → Answered needs made x pass old new (op.Begin cookie moment) (Did given) → IsBegunBy given.reply given.gift begun
@@ -122,6 +123,7 @@ module _ {P : Type 0} (needs : Needs) (made : P → List File → List ℕ → T
       go (Made v) is told = absurd is
       go (Id i) is told = absurd is
       go (Picture t a b) is told = absurd is
+      go (Old t values) is told = absurd is
 
   -- a session that is made
 
@@ -134,6 +136,7 @@ module _ {P : Type 0} (needs : Needs) (made : P → List File → List ℕ → T
       go (Made v) is = absurd is
       go (Start t a) is = absurd is
       go (Picture t a b) is = absurd is
+      go (Old t values) is = absurd is
 
   pub names : (x : Opening) (pass : ℕ) (old new : List Entry) (request : ℕ) (given : Given P) (fresh : Fresh) → Answered needs made x pass old new (op.Fresh request) (Did given) → IsFreshBy given.reply given.gift fresh
       → fresh.id ≡ id_of x.seed fresh.session
@@ -145,6 +148,7 @@ module _ {P : Type 0} (needs : Needs) (made : P → List File → List ℕ → T
       go (Made v) is told = absurd is
       go (Start t a) is told = absurd is
       go (Picture t a b) is told = absurd is
+      go (Old t values) is told = absurd is
 
   -- a Fetch gives what is made from the tree of the request
 
@@ -164,6 +168,7 @@ module _ {P : Type 0} (needs : Needs) (made : P → List File → List ℕ → T
       go true (Start t a) fits = fits
       go true (Id i) fits = fits
       go true (Picture t a b) fits = fits
+      go true (Old t values) fits = fits
 
   get_index : {A : Type 0} (xs : List A) (i : ℕ) (a d : A) → slice_get xs i ≡ Some a → slice_index_or xs i d ≡ a
   get_index [] i a d h = absurd (cc)
@@ -194,6 +199,7 @@ module _ {P : Type 0} (needs : Needs) (made : P → List File → List ℕ → T
       of_hit true (Start t a) tree fits told = absurd fits
       of_hit true (Id i) tree fits told = absurd fits
       of_hit true (Picture t a b) tree fits told = absurd fits
+      of_hit true (Old t values) tree fits told = absurd fits
 
       of_reply : (r : Reply) (g : Gift P) (tree : List File) → FitsFetch made tree path r g → IsFoundBy r g (Some v) → made (arc_value v) tree path
       of_reply (reply.Fetched hit) g tree fits told = of_hit hit g tree fits told

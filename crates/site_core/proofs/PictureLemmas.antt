@@ -16,7 +16,7 @@ use Rattle.site_words.specs.Trees.{Needs}
 use Rattle.site_words.proofs.Gifts.{found_numbered}
 use Rattle.site_words.proofs.Legal.{after_push}
 use Rattle.site_state.specs.declared.gift.Gift.{Gift}
-use Rattle.site_state.specs.declared.gift.Gift.TheVariants.{Nothing, Start, Made, Id, Picture}
+use Rattle.site_state.specs.declared.gift.Gift.TheVariants.{Nothing, Start, Made, Id, Picture, Old}
 use Rattle.site_state.specs.declared.gift.Given.{Given}
 use Rattle.site_state.specs.Gifts.{IsPicture}
 use Rattle.site_core.specs.Answered.{Answered}
@@ -44,6 +44,7 @@ module _ {P : Type 0} (needs : Needs) (made : P → List File → List ℕ → T
       go (Made v) is = absurd is
       go (Id i) is = absurd is
       go (Start t a) is = absurd is
+      go (Old t values) is = absurd is
 
   pub shows : (x : Opening) (pass : ℕ) (old new : List Entry) (cookie : List ℕ) (given : Given P) (snapped : Snapped) → Answered needs made x pass old new (op.Snapshot cookie) (Did given) → IsSnappedBy given.reply given.gift snapped
       → Shows (after needs x new) (Did snapped)
@@ -67,3 +68,4 @@ module _ {P : Type 0} (needs : Needs) (made : P → List File → List ℕ → T
       go (Made v) is told = absurd is
       go (Id i) is told = absurd is
       go (Start t a) is told = absurd is
+      go (Old t values) is told = absurd is

@@ -33,7 +33,7 @@ fn refused(alloc: Global, refusal: &Refusal) -> Result<String, AllocError> {
 fn done(alloc: Global, given: &Given<Word>) -> Result<String, AllocError> {
     let mut line = replied(alloc, &given.reply)?;
     match &given.gift {
-        Gift::Nothing => {}
+        Gift::Nothing | Gift::Old(_, _) => {}
         Gift::Made(_) => line.push_str(" made")?,
         Gift::Id(id) => {
             line.push_str(" ")?;

@@ -23,7 +23,7 @@ use Rattle.site_words.specs.Trees.{Needs}
 use Rattle.site_words.specs.Weights.{capped, op_weight, weight_with}
 use Rattle.site_state.specs.declared.gift.Done.{Done}
 use Rattle.site_state.specs.declared.gift.Gift.{Gift}
-use Rattle.site_state.specs.declared.gift.Gift.TheVariants.{Nothing, Start, Made, Id, Picture}
+use Rattle.site_state.specs.declared.gift.Gift.TheVariants.{Nothing, Start, Made, Id, Picture, Old}
 use Rattle.site_state.specs.declared.session.Session.{Session}
 use Rattle.site_state.specs.Conditions.{CanWork}
 use Rattle.site_state.specs.Gifts.{IsPicture}
@@ -74,6 +74,7 @@ module _ {P : Type 0} (needs : Needs) (made : P → List File → List ℕ → T
   picture_gift (Made v) x history old cookie session is gift = absurd gift
   picture_gift (Id i) x history old cookie session is gift = absurd gift
   picture_gift (Start t a) x history old cookie session is gift = absurd gift
+  picture_gift (Old t values) x history old cookie session is gift = absurd gift
 
   pub snapshot_done : (x : Opening) (history : List Entry) (old new : Parts P) (pass w sum : ℕ) (cookie : List ℕ) (session : Option Session) (done : Done P)
       → CanWork needs made x history old pass (op.Snapshot cookie) None → refusal_of needs x (state_of x history old) pass (op.Snapshot cookie) ≡ None

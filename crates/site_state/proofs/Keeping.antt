@@ -26,7 +26,7 @@ use Rattle.site_words.proofs.OneHistory.{same_path}
 use Rattle.site_words.proofs.StoreLaw.{agrees_after, unchanged}
 use Rattle.site_state.specs.declared.gift.Done.{Done}
 use Rattle.site_state.specs.declared.gift.Gift.{Gift}
-use Rattle.site_state.specs.declared.gift.Gift.TheVariants.{Nothing, Start, Made, Id, Picture}
+use Rattle.site_state.specs.declared.gift.Gift.TheVariants.{Nothing, Start, Made, Id, Picture, Old}
 use Rattle.site_state.specs.Gifts.{FitsFetch, IsMadeGift}
 use Rattle.site_state.specs.ReadDone.{IsFound, IsGiftOf}
 use Rattle.site_state.specs.Works.{AreKept}
@@ -165,6 +165,7 @@ module _ {P : Type 0} (needs : Needs) (made : P → List File → List ℕ → T
       gift (Start t a) is m = absurd is
       gift (Id i) is m = absurd is
       gift (Picture t a b) is m = absurd is
+      gift (Old t values) is m = absurd is
       gift (Made v) is m = subst (λ w. made w tree path) (sym is) m
 
       found : (b : Bool) → agrees (needs latest path) tree ≡ b → made k.1 latest path → IsFound (if b then Some k.1 else None) done → (done.reply ≡ reply.Fetched b) × (done.given.reply ≡ done.reply) × FitsFetch made tree path done.given.reply done.given.gift

@@ -17,7 +17,7 @@ use Rattle.site_words.specs.Trees.{Needs}
 use Rattle.site_words.specs.Weights.{capped, op_weight, promise}
 use Rattle.site_state.specs.declared.gift.Done.{Done}
 use Rattle.site_state.specs.declared.gift.Gift.{Gift}
-use Rattle.site_state.specs.declared.gift.Gift.TheVariants.{Nothing, Start, Made, Id, Picture}
+use Rattle.site_state.specs.declared.gift.Gift.TheVariants.{Nothing, Start, Made, Id, Picture, Old}
 use Rattle.site_state.specs.declared.session.Session.{Session}
 use Rattle.site_state.specs.declared.session.Source.{Source}
 use Rattle.site_state.specs.declared.session.Source.TheVariants.{Nowhere, Ended}
@@ -159,6 +159,7 @@ module _ {P : Type 0} (needs : Needs) (made : P → List File → List ℕ → T
   start_gift (Made v) x history old cookie now session is gift = absurd gift
   start_gift (Id i) x history old cookie now session is gift = absurd gift
   start_gift (Picture t a b) x history old cookie now session is gift = absurd gift
+  start_gift (Old t values) x history old cookie now session is gift = absurd gift
 
   pub begin_done : (x : Opening) (history : List Entry) (old new : Parts P) (pass w sum moment now : ℕ) (cookie : List ℕ) (found session : Option Session) (done : Done P) (sessions : List Session) (runs : List (Option UnderWay))
       → CanWork needs made x history old pass (op.Begin cookie moment) None → refusal_of needs x (state_of x history old) pass (op.Begin cookie moment) ≡ None
