@@ -5,21 +5,12 @@ ghost use Rattle.site_words.specs.Runs.{run_at, run_in, under_at};
 ghost use Rattle.site_words.specs.Weights.{capped};
 ghost use Rattle.site_state.specs.Parts.{parts_of, state_of, under_in};
 
-use pg_value::{Value, is_too_large};
+use pg_value::{MAX_WEIGHT, Value, is_too_large};
 use site_state::{Held, Request};
-use site_words::{AppStep, Compiled, Op, Opening, Run, op_weight};
-
-/// The most bytes of a cookie.
-const MAX_COOKIE: usize = 48;
-
-/// The greatest weight of a value that a step is told.
-const MAX_VALUE_WEIGHT: u64 = 1_048_576;
-
-/// What is kept of a promise for the request's end.
-const END_WEIGHT: u64 = 65_600;
-
-/// The greatest weight of a session's attributes.
-const MAX_ATTRIBUTES_WEIGHT: u64 = 65_536;
+use site_words::{
+    AppStep, Compiled, END_WEIGHT, MAX_ATTRIBUTES_WEIGHT, MAX_COOKIE_BYTES, Op, Opening, Run,
+    op_weight,
+};
 
 /// Whether no request is under way.
 pub(crate) fn at_rest(runs: &[Option<Request>]) -> bool
@@ -59,9 +50,9 @@ fn asks(run: Option<Run>, op: &Op) -> bool
 {
     match op {
         Op::Publish { .. } => true,
-        Op::Begin { cookie, moment: _ } => run.is_none() && cookie.len() <= MAX_COOKIE,
+        Op::Begin { cookie, moment: _ } => run.is_none() && cookie.len() <= MAX_COOKIE_BYTES,
         Op::App { request, step } => {
-            has_run(run, *request, op_weight(op), MAX_VALUE_WEIGHT + END_WEIGHT) && fits_step(step)
+            has_run(run, *request, op_weight(op), MAX_WEIGHT + END_WEIGHT) && fits_step(step)
         }
         Op::Fresh { request } => {
             has_run(run, *request, op_weight(op), END_WEIGHT) && !has_session(run)
@@ -74,7 +65,7 @@ fn asks(run: Option<Run>, op: &Op) -> bool
                 && (has_session(run) || attrs.is_empty())
         }
         Op::Abandon { request } => is_run(run, *request),
-        Op::Snapshot { cookie } => cookie.len() <= MAX_COOKIE,
+        Op::Snapshot { cookie } => cookie.len() <= MAX_COOKIE_BYTES,
         Op::Roll => true,
     }
 }

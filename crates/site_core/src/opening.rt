@@ -8,20 +8,10 @@ ghost use Rattle.site_words.specs.Trees.{every};
 
 use pg_text::Text;
 use pg_value::{Value, is_too_large};
-use site_words::{KeptSession, Opening};
+use site_words::{
+    COUNT_END, KeptSession, MAX_ATTRIBUTES_WEIGHT, MAX_PASSES, MAX_SESSIONS, Opening,
+};
 use source_tree::Tree;
-
-/// The most passes of a site.
-pub const MAX_PASSES: u8 = 64;
-
-/// The first number that a version, a count of requests or a count of sessions of an opening doesn't reach.
-const COUNT_END: u64 = 1 << 63;
-
-/// How many sessions there are at most.
-const MAX_SESSIONS: usize = 4_096;
-
-/// The greatest weight of a session's attributes.
-const MAX_ATTRIBUTES_WEIGHT: u64 = 65_536;
 
 /// Whether a site may have the opening. It takes no memory.
 pub fn sound(opening: &Opening) -> bool

@@ -9,12 +9,9 @@ use crate::ranks::{Key, Row, append, place_of, take_out};
 use crate::request::Request;
 use crate::session::Session;
 use crate::sessions::holder_of;
-use site_words::{Entry, KeptSession};
+use site_words::{Entry, KeptSession, MAX_SESSIONS};
 use std::alloc::{AllocError, Global};
 use std::marker::Model;
-
-/// How many sessions there are at most.
-const MAX_SESSIONS: usize = 4_096;
 
 /// The sessions in their order, and an index of them by number. Contracts see the list of sessions.
 #[derive(Drop)]
