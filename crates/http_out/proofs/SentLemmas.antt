@@ -39,3 +39,7 @@ sent_after old mid new front text true was wrote = record { count = wrote.0; wit
 -- three parts behind a text
 pub three_behind : (text first second third : List ℕ) → ((text ++ first) ++ second) ++ third ≡ text ++ ((first ++ second) ++ third)
 three_behind text first second third = ap (λ front. front ++ third) (append_assoc text first second) ∙ append_assoc text (first ++ second) third
+
+-- two parts behind a front and a text, of which the first is joined with the front
+pub joined_behind : (text front first second : List ℕ) → (text ++ (front ++ first)) ++ second ≡ text ++ (front ++ (first ++ second))
+joined_behind text front first second = append_assoc text (front ++ first) second ∙ ap (λ rest. text ++ rest) (append_assoc front first second)

@@ -1,9 +1,12 @@
-ghost use Rattle.std.specs.Prelude.{◌≡◌, false, None, Some, codes, IfOk};
-ghost use Rattle.http_out.specs.Head.{plain_head};
+ghost use Rattle.std.specs.Prelude.{◌≡◌, IfOk};
+ghost use Rattle.http_out.specs.Head.{head_of, plain_head};
 
 use crate::Status;
 use pg_text::Text;
 use std::alloc::{AllocError, Global};
+
+/// The type of a plain answer.
+pub const PLAIN_TYPE: &str = "text/plain;charset=UTF-8";
 
 /// What the head of a response says, beside the length of its body.
 #[derive(Drop)]
@@ -20,17 +23,28 @@ pub struct Head {
 }
 
 impl Head {
+    /// A head that says its status alone. What it says beside is set in it.
+    pub fn of(status: Status, close: bool) -> Self
+        ensures { result ≡ head_of status close }
+    {
+        Head {
+            status,
+            content_type: None,
+            set_cookie: None,
+            location: None,
+            allow: false,
+            close,
+        }
+    }
+
     /// The head of a plain answer, which is text. It names the methods where the method was not one of them.
     pub fn plain(alloc: Global, status: Status, close: bool) -> Result<Self, AllocError>
         ensures { IfOk result (λ head. head ≡ plain_head status close) }
     {
         Ok(Head {
-            status,
-            content_type: Some(Text::copy_of(alloc, "text/plain;charset=UTF-8")?),
-            set_cookie: None,
-            location: None,
+            content_type: Some(Text::copy_of(alloc, PLAIN_TYPE)?),
             allow: status == Status::MethodNotAllowed,
-            close,
+            ..Head::of(status, close)
         })
     }
 }

@@ -5,8 +5,10 @@
 #![tactic(auto)]
 
 mod chunk;
+mod full;
 mod head;
 mod law;
+mod methods;
 mod no_memory;
 mod sending;
 mod status;
@@ -14,9 +16,11 @@ mod text;
 mod whole;
 
 pub use chunk::{write_chunk, write_end};
-pub use head::Head;
+pub use full::full_line;
+pub use head::{Head, PLAIN_TYPE};
 pub use law::parts_join;
+pub use methods::{shows_body, takes_method};
 pub use no_memory::write_no_memory;
 pub use sending::write;
 pub use status::Status;
-pub use whole::{write_head, write_plain, write_whole};
+pub use whole::{tell_plain, write_head, write_plain, write_whole};

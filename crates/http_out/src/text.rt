@@ -1,13 +1,14 @@
-ghost use Rattle.std.specs.Prelude.{◌≡◌, ◌++◌, [], codes, decimal, OnOk, IfOk, if◌then◌else◌};
-ghost use Rattle.http_out.specs.Head.{field, head_text, sized};
+ghost use Rattle.std.specs.Prelude.{◌≡◌, ◌++◌, [], OnOk, IfOk, if◌then◌else◌};
+ghost use Rattle.http_out.specs.Head.{field, head_text, measured};
 
 use crate::Head;
+use crate::methods::ALLOW;
 use itoa::Buffer;
 use pg_text::Text;
 use std::alloc::{AllocError, Global};
 
-/// The field that says that the body comes in chunks.
-pub(crate) const CHUNKED: &[u8] = b"Transfer-Encoding: chunked\r\n";
+/// Room for a head without a location, with a session that begins.
+const HEAD_BYTES: usize = 256;
 
 const LINE_END: &[u8] = b"\r\n";
 
@@ -15,32 +16,40 @@ const SESSION_ID: &[u8] = b"Set-Cookie: JSESSIONID=";
 
 const SESSION_END: &[u8] = b"; Path=/; HttpOnly\r\n";
 
-/// The head of a response, with this field for its length.
+/// The head of a response, with the length of its body where that is known before. It has room for so many bytes behind it.
 #[tactic(auto, unfolding(crate::specs::Head::head_text))]
-pub(crate) fn head_text(alloc: Global, head: &Head, length: &[u8]) -> Result<Vec<u8>, AllocError>
-    ensures { IfOk result (λ text. text.items ≡ head_text head.now length.now) }
+pub(crate) fn head_text(
+    alloc: Global,
+    head: &Head,
+    length: Option<usize>,
+    room: usize,
+) -> Result<Vec<u8>, AllocError>
+    ensures { IfOk result (λ text. text.items ≡ head_text head.now (measured length)) }
 {
-    let mut text = Vec::from_slice(alloc, b"HTTP/1.1 ")?;
+    let mut text = Vec::with_capacity(alloc, HEAD_BYTES.saturating_add(room))?;
+    text.extend_from_slice(b"HTTP/1.1 ")?;
     text.extend_from_slice(head.status.as_str().as_bytes())?;
     text.extend_from_slice(LINE_END)?;
     add_field(&mut text, b"Content-Type: ", &head.content_type, LINE_END)?;
     add_field(&mut text, SESSION_ID, &head.set_cookie, SESSION_END)?;
     add_field(&mut text, b"Location: ", &head.location, LINE_END)?;
-    text.extend_from_slice(where_set(head.allow, b"Allow: GET, HEAD, POST\r\n"))?;
-    text.extend_from_slice(length)?;
+    text.extend_from_slice(where_set(head.allow, ALLOW))?;
+    add_length(&mut text, length)?;
     text.extend_from_slice(where_set(head.close, b"Connection: close\r\n"))?;
     text.extend_from_slice(b"\r\n")?;
     Ok(text)
 }
 
-/// The field that gives the length of the body.
-pub(crate) fn length_field(alloc: Global, length: usize) -> Result<Vec<u8>, AllocError>
-    ensures { IfOk result (λ text. text.items ≡ sized length) }
+// Adds the field for the length of the body.
+fn add_length(text: &mut Vec<u8>, length: Option<usize>) -> Result<(), AllocError>
+    ensures { OnOk result (text.new.items ≡ text.old.items ++ measured length) }
 {
-    let mut text = Vec::from_slice(alloc, b"Content-Length: ")?;
+    let Some(length) = length else {
+        return text.extend_from_slice(b"Transfer-Encoding: chunked\r\n");
+    };
+    text.extend_from_slice(b"Content-Length: ")?;
     text.extend_from_slice(Buffer::new().format(length).as_bytes())?;
-    text.extend_from_slice(b"\r\n")?;
-    Ok(text)
+    text.extend_from_slice(b"\r\n")
 }
 
 // Adds a field where it has a value.
