@@ -36,22 +36,25 @@ fn requests(alloc: Global, targets: &[&str]) -> Result<String, AllocError> {
     Ok(input)
 }
 
+// The second of three requests, the writes that fail, how the conversation ends, and what it writes.
+const MIDDLES: [(&str, &[u64], Ended, &str); 8] = [
+    ("/b", &[], Ended::Done, "</a></b></c>"),
+    ("/broken", &[], Ended::Done, "</a></broken"),
+    ("/starved", &[], Ended::NoMemory, "</a></starved"),
+    ("/b", &[3], Ended::WriteFault, "</a>"),
+    ("/b", &[4], Ended::WriteFault, "</a><"),
+    ("/b", &[5], Ended::WriteFault, "</a></b"),
+    ("/broken", &[4], Ended::WriteFault, "</a><"),
+    ("/starved", &[4], Ended::NoMemory, "</a><"),
+];
+
 #[test]
 fn a_response_ends_in_the_middle(rt: HostRuntime) -> Result<(), Fail> {
-    for (second, write_fails, ended, output) in [
-        ("/b", [].as_slice(), Ended::Done, "</a></b></c>"),
-        ("/broken", [].as_slice(), Ended::Done, "</a></broken"),
-        ("/starved", [].as_slice(), Ended::NoMemory, "</a></starved"),
-        ("/b", [3].as_slice(), Ended::WriteFault, "</a>"),
-        ("/b", [4].as_slice(), Ended::WriteFault, "</a><"),
-        ("/b", [5].as_slice(), Ended::WriteFault, "</a></b"),
-        ("/broken", [4].as_slice(), Ended::WriteFault, "</a><"),
-        ("/starved", [4].as_slice(), Ended::NoMemory, "</a><"),
-    ] {
+    for &(second, write_fails, ended, output) in &MIDDLES {
         let input = requests(rt.alloc(), &["/a", second, "/c"])?;
         let (found, text) = walked(rt.alloc(), input.as_bytes(), &[], write_fails)?;
-        assert_eq!(rt; found, ended, "{second}");
-        assert_eq!(rt; text.as_slice(), output.as_bytes(), "{second}");
+        assert_eq!(rt; found, ended);
+        assert_eq!(rt; text.as_slice(), output.as_bytes());
     }
     // The first read gives two requests and the front of the third.
     let input = requests(rt.alloc(), &["/a", "/b", "/c"])?;
@@ -98,7 +101,7 @@ const FAULTS: [(&str, HttpFault, &str, &str); 6] = [
 
 #[test]
 fn a_fault_is_answered_and_ends_the_conversation(rt: HostRuntime) -> Result<(), Fail> {
-    for (behind, fault, status, body) in FAULTS {
+    for &(behind, fault, status, body) in &FAULTS {
         let mut input = requests(rt.alloc(), &["/a"])?;
         input.push_str(behind)?;
         let (ended, text) = walked(rt.alloc(), input.as_bytes(), &[], &[])?;
@@ -111,8 +114,8 @@ fn a_fault_is_answered_and_ends_the_conversation(rt: HostRuntime) -> Result<(), 
             )?
         };
         let wanted = format!(in rt.alloc(); "</a>{answer}")?;
-        assert_eq!(rt; ended, Ended::Refused(fault), "{behind}");
-        assert_eq!(rt; text.as_slice(), wanted.as_bytes(), "{behind}");
+        assert_eq!(rt; ended, Ended::Refused(fault));
+        assert_eq!(rt; text.as_slice(), wanted.as_bytes());
     }
     let long = "GET / HTTP/1.1\r\nX: ".repeat(rt.alloc(), 1_024)?;
     let (ended, text) = walked(rt.alloc(), long.as_bytes(), &[], &[])?;

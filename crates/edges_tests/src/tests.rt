@@ -16,7 +16,7 @@ fn a_source_in_memory_gives_pieces_and_fails_by_number(rt: HostRuntime) -> Resul
     let bytes = b"abc".to_vec(rt.alloc())?;
     let mut source = MemSource::new(bytes, 2, vec![in rt.alloc(); 1]?);
     let mut piece = [0u8; 8];
-    for wanted in [Ok(2), Err(Failed), Ok(1), Ok(0)] {
+    for &wanted in &[Ok(2), Err(Failed), Ok(1), Ok(0)] {
         assert_eq!(rt; source.read(&mut piece), wanted);
     }
     Ok(())
@@ -25,7 +25,7 @@ fn a_source_in_memory_gives_pieces_and_fails_by_number(rt: HostRuntime) -> Resul
 #[test]
 fn a_sink_in_memory_takes_all_and_fails_by_number(rt: HostRuntime) -> Result<(), Fail> {
     let mut sink = MemSink::new(rt.alloc(), vec![in rt.alloc(); 1]?);
-    for wanted in [Ok(2), Err(Failed), Ok(2)] {
+    for &wanted in &[Ok(2), Err(Failed), Ok(2)] {
         assert_eq!(rt; sink.write(b"hi"), wanted);
     }
     assert_eq!(rt; sink.taken(), b"hihi".as_slice());
@@ -85,7 +85,7 @@ fn errors_and_pieces_that_are_not_taken_are_failures(rt: HostRuntime) {
     assert_eq!(rt; source.read(&mut piece), Err(Failed));
     assert_eq!(rt; source.read(&mut piece), Ok(0));
     let mut sink = WriteSink::new(Halting { failed: false });
-    for (piece, wanted) in [
+    for &(piece, wanted) in &[
         (b"ab".as_slice(), Err(Failed)),
         (b"ab", Err(Failed)),
         (b"", Ok(0)),
@@ -97,7 +97,7 @@ fn errors_and_pieces_that_are_not_taken_are_failures(rt: HostRuntime) {
 #[test]
 fn a_clock_in_memory_keeps_its_last_moment(rt: HostRuntime) -> Result<(), Fail> {
     let mut clock = MemClock::new(Vec::from_array(rt.alloc(), [5, 3])?);
-    for wanted in [5, 3, 3] {
+    for &wanted in &[5, 3, 3] {
         assert_eq!(rt; clock.now(), wanted);
     }
     assert_eq!(rt; clock.left(), 1);
@@ -110,7 +110,7 @@ fn a_clock_notes_what_another_answers(rt: HostRuntime) -> Result<(), Fail> {
     let moments = Vec::from_array(rt.alloc(), [5, 3])?;
     let mut clock = NotedClock::new(rt.alloc(), MemClock::new(moments));
     assert!(rt; matches!(clock.noted(), Some([])));
-    for wanted in [5, 3, 3] {
+    for &wanted in &[5, 3, 3] {
         assert_eq!(rt; clock.now(), wanted);
     }
     assert!(rt; matches!(clock.noted(), Some([5, 3, 3])));
@@ -178,7 +178,7 @@ fn is_quiet<B: Bind>(ports: &mut B, port: u16) -> Result<bool, Failed> {
 #[test]
 fn a_listener_gives_its_mark(rt: HostRuntime) {
     let mut ports = Ports { faults: 0 };
-    for (port, wanted) in [(80, Ok(true)), (0, Err(Failed))] {
+    for &(port, wanted) in &[(80, Ok(true)), (0, Err(Failed))] {
         assert_eq!(rt; is_quiet(&mut ports, port), wanted);
     }
 }

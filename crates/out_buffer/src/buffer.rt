@@ -12,6 +12,9 @@ use pg_text::Failure;
 use pg_value::RunFault;
 use std::alloc::AllocError;
 
+/// The most bytes of a buffer's first room: all of a buffer that has the size of those whose page names none.
+const FIRST_ROOM: usize = 8_192;
+
 /// The buffer of a page, with its settings.
 #[derive(Drop)]
 pub(crate) struct Buffer {
@@ -45,7 +48,7 @@ impl Buffer {
         };
         let size = size as usize;
         if bytes.len() <= size - self.bytes.len() {
-            self.bytes.extend_from_slice(bytes)?;
+            keep(&mut self.bytes, size, bytes)?;
             return Ok(());
         }
         if !self.autoflush {
@@ -54,6 +57,18 @@ impl Buffer {
         overflow(&mut self.bytes, size, stream, sink, bytes)?;
         Ok(())
     }
+}
+
+// Puts bytes behind those of a buffer of this size, which they fit. The first take room for more at once.
+fn keep(buffer: &mut Vec<u8>, size: usize, bytes: &[u8]) -> Result<(), AllocError>
+    ensures items { OnOk result (buffer.new.items ≡ buffer.old.items ++ bytes.now) }
+    ensures len { OnOk result (length buffer.new.items ≡ length buffer.old.items + length bytes.now) }
+    ensures err { OnErr result (buffer.new.items ≡ buffer.old.items) }
+{
+    if buffer.capacity() == 0 {
+        buffer.reserve(size.min(FIRST_ROOM))?;
+    }
+    buffer.extend_from_slice(bytes)
 }
 
 // Commits what is over the buffer in pieces of its size. What is left of the bytes is the only part of them that is copied, but

@@ -1,5 +1,4 @@
-use Rattle.std.proofs.Common.{◌≡◌, ◌++◌, [], ℕ, List, Option, ap, ◌∙◌, length, subst}
-use Rattle.std.specs.Prelude.{if◌then◌else◌}
+use Rattle.std.proofs.Common.{◌++◌, ℕ, List, ap, ◌∙◌, length, subst}
 use Rattle.http_out.specs.Head.{head_text, sized}
 use Rattle.http_out.specs.Response.{whole}
 use Rattle.http_out.specs.Sent.{Sent}

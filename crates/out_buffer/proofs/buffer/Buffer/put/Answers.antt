@@ -16,12 +16,12 @@ returns-then-bytes-size-clause-comes g c = λ start before pieces count kept was
     let w : Writer = writer_at c.args.self.now pieces count kept in
     let bytes : List ℕ = c.args.bytes.now in
     let total : List ℕ = w.buffer ++ bytes in
-    let after : Writer = record w { buffer = c.extend_from_slice.new.self.items } in
+    let after : Writer = record w { buffer = c.keep.new.buffer.items } in
     let within = rw c.in-Some.is at c.requires in
     let is_short : length total ≤ c.in-Some.size = omega (arith, length-append w.buffer bytes, within.1, c.len.ensures, c.if-bytes-size.true) in (
       after,
       ap (λ (size : Option ℕ). written size bytes w) c.in-Some.is ∙ fits c.in-Some.size total w is_short
-          ∙ ap (λ (items : List ℕ). let put : Result Writer RunFault = Ok (record w { buffer = items }) in put) (sym c.in_ok-extend_from_slice.ensures.items),
+          ∙ ap (λ (items : List ℕ). let put : Result Writer RunFault = Ok (record w { buffer = items }) in put) (sym c.in_ok-keep.ensures.items),
       (refl, was),
     )
 
