@@ -2,7 +2,8 @@ ghost use Rattle.std.specs.Prelude.{◌≡◌, ◌<◌, IfOk};
 
 use edges::{
     Accept, Accepted, Bind, Clock, Clocks, Counting, Failed, Gate, MemClock, MemSink, MemSource,
-    NotedClock, OpenGate, ReadSource, Sink, Source, Steps, StillClock, Unseen, WriteSink,
+    NotedClock, OpenGate, ReadSource, Sink, Source, Steps, StillClock, Unseen, WallClocks,
+    WriteSink,
 };
 use std::alloc::AllocError;
 use std::io;
@@ -125,6 +126,13 @@ fn first_moment<W: Clocks>(clocks: &W) -> u64 {
 #[test]
 fn a_clock_that_stands_makes_such_clocks(rt: HostRuntime) {
     assert_eq!(rt; first_moment(&StillClock { moment: 7 }), 7);
+}
+
+// The first moment is in one of the years 2024 to 2099.
+#[test]
+fn the_clock_of_the_system_tells_seconds_since_1970(rt: HostRuntime) {
+    let moment = first_moment(&WallClocks { rt: &rt });
+    assert!(rt; (1_704_067_200..4_102_444_800).contains(&moment));
 }
 
 // A listener whose rounds are over at once.

@@ -19,10 +19,7 @@ ghost use Rattle.pages_load.specs.Load.{number_asked};
 ghost use Rattle.pages_talk.specs.Play.{seed_asked};
 ghost use Rattle.serve_words.specs.Words.{settings_asked};
 
-mod wall_clock;
-
-use crate::wall_clock::{WallClock, WallClocks};
-use edges::{ReadSource, Steps, Unseen, WriteSink};
+use edges::{ReadSource, Steps, Unseen, WallClock, WallClocks, WriteSink};
 use pages_check::check;
 use pages_load::load;
 use pages_serve::serve;
