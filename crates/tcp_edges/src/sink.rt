@@ -18,6 +18,9 @@ const MOST_HELD: usize = 65_536;
 pub struct TcpSink {
     link: Shared,
     held: Vec<u8>,
+
+    /// Whether the socket took a part alone of what came last. Then what comes next is the rest of it.
+    in_part: bool,
     faults: u64,
 }
 
@@ -27,6 +30,7 @@ impl TcpSink {
         TcpSink {
             link,
             held: Vec::new(alloc),
+            in_part: false,
             faults: 0,
         }
     }
@@ -36,9 +40,11 @@ impl TcpSink {
         ensures bound { WritesAtMost result from.now }
         ensures faults { self.new.faults ≡ self.old.faults }
     {
-        let is_held = !self.held.is_empty() || is_first_line(from);
+        let is_held = !self.held.is_empty() || !self.in_part && is_first_line(from);
         if !is_held {
-            return sent(&self.link.stream, from);
+            let count = sent(&self.link.stream, from)?;
+            self.in_part = count < from.len();
+            return Ok(count);
         }
         if self.held.extend_from_slice(from).is_err() {
             self.let_go()?;
