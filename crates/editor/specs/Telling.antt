@@ -1,5 +1,6 @@
 -- How what an editor's message comes to is told.
 use Rattle.std.specs.Prelude.{ℕ, List, ◌++◌, codes, decimal, flat_map}
+use Rattle.http_out.specs.Full.{full_line}
 use Rattle.http_out.specs.declared.status.Status.{Status}
 use Rattle.http_out.specs.declared.status.Status.TheVariants as status
 use Rattle.source_tree.specs.declared.fault.TreeFault.{TreeFault}
@@ -45,5 +46,5 @@ fault_text fault.DraftTooLarge = codes "DraftTooLarge"
 fault_text fault.NotUtf8 = codes "NotUtf8"
 fault_text (fault.Stale latest) = codes "Stale " ++ decimal latest
 fault_text (fault.TreeTooLarge reason) = codes "TreeTooLarge " ++ tree_fault_name reason
-fault_text (fault.JournalFull weight promised) = ((codes "JournalFull " ++ decimal weight) ++ codes " ") ++ decimal promised
+fault_text (fault.JournalFull weight promised) = full_line weight promised
 fault_text fault.BadMessage = codes "BadMessage"

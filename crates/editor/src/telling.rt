@@ -2,6 +2,7 @@ ghost use Rattle.std.specs.Prelude.{◌≡◌, ◌++◌, codes, decimal, flat_ma
 ghost use Rattle.editor.specs.Telling.{answer_text, fault_text, on_line, on_lines, tree_fault_name};
 
 use crate::{EditorAnswer, EditorFault};
+use http_out::full_line;
 use pg_text::Path;
 use source_tree::TreeFault;
 use std::alloc::{AllocError, Global};
@@ -34,12 +35,7 @@ pub fn fault_text(alloc: Global, fault: EditorFault) -> Result<Vec<u8>, AllocErr
             text.extend_from_slice(tree_fault_name(fault))?;
             Ok(text)
         }
-        EditorFault::JournalFull { weight, promised } => {
-            let mut text = numbered(alloc, b"JournalFull ", weight)?;
-            text.extend_from_slice(b" ")?;
-            text.extend_from_slice(promised.to_string(alloc)?.as_bytes())?;
-            Ok(text)
-        }
+        EditorFault::JournalFull { weight, promised } => full_line(alloc, weight, promised),
         EditorFault::BadMessage => Vec::from_slice(alloc, b"BadMessage"),
     }
 }
