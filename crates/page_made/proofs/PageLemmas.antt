@@ -4,7 +4,8 @@ use Rattle.std.specs.Arc.{arc_value}
 use Rattle.std.specs.Option.{option_map}
 use Rattle.std.specs.Prelude.{Result, Ok, Err}
 use Rattle.page_made.specs.Made.{IsFaultOf, IsPageAt, TellsPages}
-use Rattle.page_made.specs.Pages.{found_as, page_at, page_read, paged_at, stored_at, unit_in}
+use Rattle.page_made.specs.Pages.{found_as, page_at, page_read, paged_at, unit_in}
+use Rattle.page_made.specs.Stored.{stored_at}
 use Rattle.page_lowering.specs.Programs as lowering
 use Rattle.page_meaning.specs.Context.{Paged, absent, plain, bad, good}
 use Rattle.page_meaning.specs.Page.{Page}

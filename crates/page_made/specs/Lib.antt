@@ -1,4 +1,5 @@
 pub mod Made
 pub mod MadeLaws
 pub mod Pages
+pub mod Stored
 pub mod UnitLaws

@@ -1,11 +1,9 @@
 -- What stands at each path of a tree: the unit of a page, and the page as its meaning reads it.
 use Rattle.std.specs.Prelude.{ℕ, Bool, true, false, List, [], Option, Some, None, Result, Ok, Err}
 use Rattle.std.specs.Option.{option_map}
-use Rattle.page_lowering.specs.Programs.{stored_of}
 use Rattle.page_meaning.specs.Context.{Paged, absent, plain, bad, good}
 use Rattle.page_meaning.specs.Page.{Page}
 use Rattle.page_shape.specs.Shape.{page_of}
-use Rattle.page_table.specs.Program.{Stored}
 use Rattle.pg_text.specs.declared.place.PageFault.{PageFault}
 use Rattle.site_words.specs.Running.{is_page}
 use Rattle.source_tree.specs.Edits.{file_at}
@@ -57,7 +55,3 @@ found_as false page file = found_file file
 -- what stands at a path of a tree
 abbrev pub paged_at : List File → (path : List ℕ) → Paged
 paged_at tree path = found_as (is_page path) (page_at tree path) (file_at path tree)
-
--- the same with a page as its program
-abbrev pub stored_at : List File → (path : List ℕ) → Stored
-stored_at tree path = stored_of (paged_at tree path)

@@ -7,7 +7,8 @@ use Rattle.page_lowering.specs.Programs.{program_of, stored_of}
 use Rattle.page_machine.specs.Run.{IsServed, Serves}
 use Rattle.page_made.proofs.PageLemmas.{page_there, told_stands}
 use Rattle.page_made.specs.Made.{IsFaultOf, IsProgramOf, TellsPages}
-use Rattle.page_made.specs.Pages.{found_as, paged_at, stored_at}
+use Rattle.page_made.specs.Pages.{found_as, paged_at}
+use Rattle.page_made.specs.Stored.{stored_at}
 use Rattle.page_meaning.specs.Context.{Paged, absent, plain, bad, good}
 use Rattle.page_meaning.specs.Page.{Page}
 use Rattle.page_table.specs.Checked.{ProgramFits}
