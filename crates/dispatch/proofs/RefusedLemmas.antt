@@ -5,10 +5,11 @@ use Rattle.conversation.specs.Served.{IsServed, IsServedInPart, IsStarved}
 use Rattle.dispatch.proofs.ServedLemmas.{answers_taken, drops_taken, starves_silently}
 use Rattle.dispatch.specs.Refused.{IsTurnedAway}
 use Rattle.http_in.specs.declared.request.Request.{Request}
+use Rattle.http_out.specs.Full.{full_line}
 use Rattle.http_out.specs.Response.{plain}
 use Rattle.http_out.specs.Sent.{Sent}
 use Rattle.http_out.specs.declared.status.Status.TheVariants as status
-use Rattle.page_answers.specs.Answers.{Answers, full_line, shows_body, takes_method}
+use Rattle.page_answers.specs.Answers.{Answers, shows_body, takes_method}
 use Rattle.page_answers.specs.Dropped.{Drops}
 use Rattle.page_answers.specs.Standing.{Standing}
 use Rattle.site_words.specs.Answers.{IsFull}

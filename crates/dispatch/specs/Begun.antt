@@ -1,5 +1,6 @@
 -- What a request keeps when it has just begun.
 use Rattle.std.specs.Prelude.{◌≡◌, ℕ, Bool, true, false, List, Option, None, option_map}
+use Rattle.http_out.specs.Head.{head_of}
 use Rattle.http_out.specs.declared.head.Head.{Head}
 use Rattle.http_out.specs.declared.status.Status.TheVariants as status
 use Rattle.out_buffer.specs.Held.{fresh}
@@ -10,7 +11,7 @@ use Rattle.scopes.specs.Scopes.{starting}
 
 -- the head of the writer before any page runs
 abbrev pub empty_head : (close : Bool) → Head
-empty_head close = record { status = status.Ok; content_type = None; set_cookie = None; location = None; allow = false; close = close }
+empty_head close = head_of status.Ok close
 
 -- what is kept across the pages of a request that found a session with this cookie, or none
 abbrev pub around_of : (cookie : List ℕ) → (session : Option ℕ) → Around

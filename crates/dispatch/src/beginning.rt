@@ -1,6 +1,6 @@
 // What a request keeps when it has just begun.
-ghost use Rattle.std.specs.Prelude.{◌≡◌, IfOk};
-ghost use Rattle.dispatch.specs.Begun.{IsBegun, empty_head};
+ghost use Rattle.std.specs.Prelude.{IfOk};
+ghost use Rattle.dispatch.specs.Begun.{IsBegun};
 
 use http_out::{Head, Status};
 use out_buffer::Writer;
@@ -28,7 +28,7 @@ pub(crate) fn begin_course(
     };
     Ok(Course {
         scopes: Scopes::new(alloc, attrs)?,
-        writer: Writer::new(alloc, empty_head(close), None, true, shown),
+        writer: Writer::new(alloc, Head::of(Status::Ok, close), None, true, shown),
         around: Around {
             depth: 0,
             visits: 0,
@@ -38,18 +38,4 @@ pub(crate) fn begin_course(
             exception: None,
         },
     })
-}
-
-// The head of the writer before any page runs.
-fn empty_head(close: bool) -> Head
-    ensures { result ≡ empty_head close }
-{
-    Head {
-        status: Status::Ok,
-        content_type: None,
-        set_cookie: None,
-        location: None,
-        allow: false,
-        close,
-    }
 }

@@ -1,11 +1,10 @@
 // Plain answers to requests that aren't begun.
-ghost use Rattle.std.specs.Prelude.{◌≡◌, ◌≤◌, ℕ, true, false, IfOk, OnErr};
+ghost use Rattle.std.specs.Prelude.{◌≡◌, ◌≤◌, ℕ, true, false, IfOk};
 ghost use Rattle.conversation.specs.Served.{Served};
 ghost use Rattle.dispatch.specs.Refused.{IsTurnedAway};
 ghost use Rattle.edges.specs.Faults.{Rose};
-ghost use Rattle.http_out.specs.Response.{plain};
-ghost use Rattle.http_out.specs.Sent.{Sent};
-ghost use Rattle.page_answers.specs.Answers.{Answers, full_line, shows_body, takes_method};
+ghost use Rattle.http_out.specs.Full.{full_line};
+ghost use Rattle.page_answers.specs.Answers.{Answers, shows_body, takes_method};
 ghost use Rattle.page_answers.specs.Dropped.{Drops};
 ghost use Rattle.page_answers.specs.Standing.{Standing};
 ghost use Rattle.site_words.specs.Answers.{IsFull};
@@ -15,7 +14,7 @@ ghost use Rattle.site_words.specs.declared.words.Opening.{Opening};
 use conversation::Outcome;
 use edges::Sink;
 use http_in::Request;
-use http_out::{Status, write_plain};
+use http_out::{Status, full_line, tell_plain};
 use site_words::Refusal;
 use std::alloc::{AllocError, Global};
 
@@ -33,7 +32,7 @@ pub(crate) fn not_taken<K: Sink>(
     ensures failed { result ≡ Outcome.WriteFault → Rose (K.faults sink.old) (K.faults sink.new) }
 {
     let shown = shows_body(request);
-    match tell(
+    match tell_plain(
         alloc,
         sink,
         Status::MethodNotAllowed,
@@ -63,54 +62,30 @@ pub(crate) fn full<K: Sink>(
     ensures failed { result ≡ Outcome.WriteFault → Rose (K.faults sink.old) (K.faults sink.new) }
 {
     let shown = shows_body(request);
-    let Ok(line) = full_line(alloc, refusal) else {
+    let Ok(line) = line_of(alloc, refusal) else {
         return Outcome::NoMemory;
     };
-    match tell(alloc, sink, Status::ServiceUnavailable, close, &line, shown) {
+    match tell_plain(alloc, sink, Status::ServiceUnavailable, close, &line, shown) {
         Ok(false) => Outcome::Whole,
         Ok(true) => Outcome::WriteFault,
         Err(AllocError) => Outcome::NoMemory,
     }
 }
 
-// The line that tells a full journal.
-fn full_line(alloc: Global, refusal: &Refusal) -> Result<Vec<u8>, AllocError>
+// The line of a refusal that tells a full journal.
+fn line_of(alloc: Global, refusal: &Refusal) -> Result<Vec<u8>, AllocError>
     requires full { IsFull refusal.now }
     ensures line { (weight promised : ℕ) → refusal.now ≡ Refusal.JournalFull weight promised → IfOk result (λ line. line.items ≡ full_line weight promised) }
 {
     let Refusal::JournalFull { weight, promised } = refusal else {
         unreachable!()
     };
-    let mut line = Vec::from_slice(alloc, b"JournalFull ")?;
-    line.extend_from_slice(weight.to_string(alloc)?.as_bytes())?;
-    line.extend_from_slice(b" ")?;
-    line.extend_from_slice(promised.to_string(alloc)?.as_bytes())?;
-    Ok(line)
-}
-
-// Writes a plain answer of one line, and says whether the sink failed.
-fn tell<K: Sink>(
-    alloc: Global,
-    sink: &mut K,
-    status: Status,
-    close: bool,
-    line: &[u8],
-    shown: bool,
-) -> Result<bool, AllocError>
-    ensures sent { IfOk result (λ failed. Sent (K.taken sink.old) (K.taken sink.new) (plain status close line.now shown) failed) }
-    ensures err { OnErr result (sink.new ≡ sink.old) }
-    ensures later { K.faults sink.old ≤ K.faults sink.new }
-    ensures rose { IfOk result (λ failed. failed ≡ true → Rose (K.faults sink.old) (K.faults sink.new)) }
-{
-    let mut failed = false;
-    write_plain(alloc, sink, &mut failed, status, close, line, shown)?;
-    Ok(failed)
+    full_line(alloc, *weight, *promised)
 }
 
 // The body of the response is shown.
-#[tactic(auto, unfolding(page_answers::specs::Answers::shows_body))]
 pub(crate) fn shows_body(request: &Request) -> bool
     ensures { result ≡ shows_body request.now }
 {
-    request.method.as_bytes() != b"HEAD".as_slice()
+    http_out::shows_body(request.method.as_bytes())
 }

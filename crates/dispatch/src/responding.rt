@@ -51,10 +51,8 @@ pub fn respond<Q: Port<Made>, K: Sink, C: Clock, L: Ledger>(
 }
 
 // Whether the method is one of those that a page takes.
-#[tactic(auto, unfolding(page_answers::specs::Answers::takes_method))]
 fn takes_method(request: &Request) -> bool
     ensures { result ≡ takes_method request.now.method }
 {
-    let method = request.method.as_bytes();
-    method == b"GET".as_slice() || method == b"HEAD".as_slice() || method == b"POST".as_slice()
+    http_out::takes_method(request.method.as_bytes())
 }

@@ -1,11 +1,12 @@
 -- What a request is answered, and the entries that it uses.
-use Rattle.std.specs.Prelude.{◌≡◌, ◌⊎◌, ◌||◌, not, ℕ, ◌+◌, Bool, true, false, List, [], ◌∷◌, ◌++◌, codes, decimal}
+use Rattle.std.specs.Prelude.{◌≡◌, ◌⊎◌, ℕ, ◌+◌, Bool, true, false, List, [], ◌∷◌, ◌++◌, codes}
 use Rattle.std.specs.Bool.{MatchBool}
 use Rattle.std.specs.List.{list_all}
 use Rattle.std.specs.Option.{unwrap_or}
-use Rattle.std.specs.Str.{bytes_eq}
 use Rattle.edges.specs.declared.acted.Acted.TheVariants.{Refused}
 use Rattle.http_in.specs.declared.request.Request.{Request}
+use Rattle.http_out.specs.Full.{full_line}
+use Rattle.http_out.specs.Methods as methods
 use Rattle.http_out.specs.Response.{Response, plain, wire}
 use Rattle.http_out.specs.declared.status.Status.TheVariants as status
 use Rattle.page_meaning.specs.Respond.{respond}
@@ -26,17 +27,13 @@ use Rattle.page_made.specs.Pages.{paged_at}
 use Rattle.page_answers.specs.Standing.{Standing, AtMoment, Begins, session_found, tree_at}
 use Rattle.page_answers.specs.Turns.{Turn, all_bytes, all_calls, answers_of, is_whole, steps_of}
 
--- the method is one of those that a page takes
-unfoldable pub takes_method : List ℕ → Bool
-takes_method method = bytes_eq method (codes "GET") || (bytes_eq method (codes "HEAD") || bytes_eq method (codes "POST"))
+-- a page takes the method
+abbrev pub takes_method : List ℕ → Bool
+takes_method method = methods.takes_method method
 
--- the body of the response is shown: it is to every request but one of HEAD
-unfoldable pub shows_body : Request → Bool
-shows_body request = not (bytes_eq request.method (codes "HEAD"))
-
--- the line that tells a full journal
-abbrev pub full_line : (weight promised : ℕ) → List ℕ
-full_line weight promised = codes "JournalFull " ++ decimal weight ++ codes " " ++ decimal promised
+-- the body of the response is shown
+abbrev pub shows_body : Request → Bool
+shows_body request = methods.shows_body request.method
 
 -- the session's attributes where a request ends, none where it has no session
 abbrev pub attrs_left : State → List (List ℕ × Datum)

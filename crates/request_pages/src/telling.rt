@@ -1,27 +1,26 @@
 // Replies of which nothing is committed before they are written.
 ghost use Rattle.std.specs.Prelude.{◌≡◌, ◌++◌, Some, None, codes, decimal, IfOk, OnOk};
+ghost use Rattle.http_out.specs.Head.{plain_type};
 ghost use Rattle.page_meaning.specs.Faults.{page_fault_line, place_text, run_fault_line};
 ghost use Rattle.page_meaning.specs.Response.{file_type};
 ghost use Rattle.run_world.specs.Seats.{raise_of};
 
 use crate::reply::Reply;
 use fault_line::page_fault_line;
-use http_out::Status;
+use http_out::{PLAIN_TYPE, Status};
 use pg_text::{Bytes, PageFault, Path, Place, Text};
 use run_world::Raise;
 use std::alloc::{AllocError, Global};
 
-const PLAIN: &str = "text/plain;charset=UTF-8";
-
 /// A plain answer of one line.
 pub(crate) fn plain(alloc: Global, status: Status, line: &[u8]) -> Result<Reply, AllocError>
-    ensures { IfOk result (λ told. told ≡ Reply.Whole status (Some (codes "text/plain;charset=UTF-8")) None (line.now ++ codes "\n")) }
+    ensures { IfOk result (λ told. told ≡ Reply.Whole status (Some plain_type) None (line.now ++ codes "\n")) }
 {
     let mut body = Vec::from_slice(alloc, line)?;
     body.extend_from_slice(b"\n")?;
     Ok(Reply::Whole {
         status,
-        content_type: Some(Text::copy_of(alloc, PLAIN)?),
+        content_type: Some(Text::copy_of(alloc, PLAIN_TYPE)?),
         location: None,
         body: Bytes::new(body),
     })
@@ -29,7 +28,7 @@ pub(crate) fn plain(alloc: Global, status: Status, line: &[u8]) -> Result<Reply,
 
 /// The answer where no file is found.
 pub(crate) fn not_found(alloc: Global) -> Result<Reply, AllocError>
-    ensures { IfOk result (λ told. told ≡ Reply.Whole Status.NotFound (Some (codes "text/plain;charset=UTF-8")) None (codes "NotFound" ++ codes "\n")) }
+    ensures { IfOk result (λ told. told ≡ Reply.Whole Status.NotFound (Some plain_type) None (codes "NotFound" ++ codes "\n")) }
 {
     plain(alloc, Status::NotFound, b"NotFound")
 }
@@ -65,13 +64,13 @@ fn file_type(path: &Path) -> &'static str
     } else if bytes.ends_with(b".json") {
         "application/json;charset=UTF-8"
     } else {
-        PLAIN
+        PLAIN_TYPE
     }
 }
 
 /// The line of a page's fault.
 pub(crate) fn page_fault(alloc: Global, fault: &PageFault) -> Result<Reply, AllocError>
-    ensures { IfOk result (λ told. told ≡ Reply.Whole Status.InternalServerError (Some (codes "text/plain;charset=UTF-8")) None (page_fault_line fault.now ++ codes "\n")) }
+    ensures { IfOk result (λ told. told ≡ Reply.Whole Status.InternalServerError (Some plain_type) None (page_fault_line fault.now ++ codes "\n")) }
 {
     let line = page_fault_line(alloc, fault)?;
     plain(alloc, Status::InternalServerError, &line)
@@ -79,7 +78,7 @@ pub(crate) fn page_fault(alloc: Global, fault: &PageFault) -> Result<Reply, Allo
 
 /// The line of a fault that a run raised.
 pub(crate) fn run_fault(alloc: Global, raise: &Raise) -> Result<Reply, AllocError>
-    ensures { IfOk result (λ told. told ≡ Reply.Whole Status.InternalServerError (Some (codes "text/plain;charset=UTF-8")) None (run_fault_line (raise_of raise.now) ++ codes "\n")) }
+    ensures { IfOk result (λ told. told ≡ Reply.Whole Status.InternalServerError (Some plain_type) None (run_fault_line (raise_of raise.now) ++ codes "\n")) }
 {
     let line = run_fault_line(alloc, raise)?;
     plain(alloc, Status::InternalServerError, &line)

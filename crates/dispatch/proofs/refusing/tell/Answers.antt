@@ -1,6 +1,0 @@
-use Rattle.std.proofs.Common.{[]}
-use Rattle.dispatch.proofs.refusing.tell.Goals as goal
-use Rattle.http_out.proofs.SentLemmas.{sent_none}
-
-pub returns-clause-sent : goal.returns-clause-sent
-returns-clause-sent g c = c.in_ok-write_plain.ensures.sent (g.K.Sink.taken c.args.sink.now) [] (sent_none (g.K.Sink.taken c.args.sink.now))
