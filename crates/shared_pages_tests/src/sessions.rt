@@ -47,9 +47,9 @@ fn come_of<N: Ledger>(alloc: Global, blank: Blank) -> Result<Vec<Told>, Fail>
 fn a_session_ends_once_it_was_idle_too_long(rt: HostRuntime) -> Result<(), Fail> {
     let all = come_of::<Brand>(rt.alloc(), Blank::new(1))?;
     assert_eq!(rt; all.len(), ANSWERS.len());
-    for (told, answer) in all.iter().zip(ANSWERS) {
-        assert_eq!(rt; told.outcome, Outcome::Whole, "{answer}");
-        assert_eq!(rt; told.text.as_slice(), answer.as_bytes(), "{answer}");
+    for (told, &answer) in all.iter().zip(&ANSWERS) {
+        assert_eq!(rt; told.outcome, Outcome::Whole);
+        assert_eq!(rt; told.text.as_slice(), answer.as_bytes());
     }
     Ok(())
 }
