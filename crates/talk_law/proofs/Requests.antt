@@ -8,13 +8,14 @@ use Rattle.edges.specs.Clock.{Answers as Told, Moments, ahead_after}
 use Rattle.edges.specs.declared.acted.Acted.{Acted}
 use Rattle.edges.specs.declared.acted.Acted.TheVariants.{Did, Refused}
 use Rattle.http_in.specs.declared.request.Request.{Request}
+use Rattle.http_out.specs.Full.{full_line}
 use Rattle.http_out.specs.Response.{Response, plain, wire}
 use Rattle.http_out.specs.declared.status.Status.TheVariants as status
 use Rattle.talk_law.proofs.Alone.{acts_did, acts_is, done_follows, done_is, entries_by, entry_by, stays_is}
 use Rattle.talk_law.proofs.Steps.{Ends}
 use Rattle.talk_law.proofs.Turns.{one_course, one_reply}
 use Rattle.talk_law.specs.OneTalk.{TellsMoments}
-use Rattle.page_answers.specs.Answers.{IsAnswered, IsNotTaken, IsRefused, attrs_left, full_line, shows_body}
+use Rattle.page_answers.specs.Answers.{IsAnswered, IsNotTaken, IsRefused, attrs_left, shows_body}
 use Rattle.page_answers.specs.Standing.{AtMoment, Standing, session_found, tree_at}
 use Rattle.page_answers.specs.Turns.{Turn, all_bytes, all_calls, answers_of, is_whole, steps_of}
 use Rattle.page_made.specs.Pages.{paged_at}
