@@ -1,16 +1,18 @@
-"""Messages to the program, its answers, and what a check counts. Each check's first word is the folder that `build` made."""
+"""Messages to the program, its answers, and what a check counts. Each check's first word is the folder that `build` made, or a program
+`pages` where it needs no other."""
 import os
 import re
 import subprocess
 import sys
 from urllib.parse import quote
 
-if len(sys.argv) < 2 or not os.path.isfile(f"{sys.argv[1]}/pages"):
-    sys.exit(f"{sys.modules['__main__'].__doc__}\nThe first word is the folder that tools/build made.")
-
-FOLDER = sys.argv[1]
-NUMBERS = [int(word) for word in sys.argv[2:]]
-PAGES, FAILING, CHECKED = f"{FOLDER}/pages", f"{FOLDER}/pages-failing", f"{FOLDER}/pages-checked"
+GIVEN = os.path.abspath(sys.argv[1]) if len(sys.argv) > 1 else ""
+PAGES = GIVEN if os.path.isfile(GIVEN) else f"{GIVEN}/pages"
+FOLDER = os.path.dirname(PAGES)
+if not os.path.isfile(PAGES):
+    sys.exit(f"{sys.modules['__main__'].__doc__}\nThe first word is the folder that tools/build made, or a program.")
+NUMBERS = [int(word) for word in sys.argv[2:] if word.isdigit()]
+FAILING, CHECKED = f"{FOLDER}/pages-failing", f"{FOLDER}/pages-checked"
 PLAIN, HTML = "text/plain;charset=UTF-8", "text/html;charset=UTF-8"
 NO_SESSION = '<%@ page session="false" %>'
 CORE = '<%@ taglib prefix="c" uri="jakarta.tags.core" %>'

@@ -1,0 +1,98 @@
+#!/usr/bin/env python3
+"""Measures `pages serve` without wrk: `tools/serve/memory.py [PROGRAM [REQUESTS]]`. It says how long it takes from the start of the
+program to its line and to the first answer (the middle one and the greatest of twenty starts), and its memory at rest and behind a
+million requests, half of them of a page that counts in a session. Every answer is compared. Ends by itself in five minutes at the most."""
+
+import os
+import signal
+import sys
+import time
+from statistics import median
+
+HERE = os.path.dirname(os.path.abspath(__file__))
+sys.path.insert(0, HERE)
+sys.dont_write_bytecode = True
+
+from messages import Connection, publish, request  # noqa: E402
+from server import Server, Tally  # noqa: E402
+
+BUILT = os.path.join(HERE, "../../crates/pages_cli/out/pages_cli")
+MOST_SECONDS = 300
+STARTS = 20
+AT_ONCE = 500
+OF_A_CONNECTION = 60_000
+FILES = {
+    "/hello.jsp": '<%@ page session="false" %>Hi ${param.n}!',
+    "/count.jsp": '<%@ taglib prefix="c" uri="jakarta.tags.core" %>'
+    '<c:set var="n" value="${sessionScope.n + 1}" scope="session"/>${n}',
+}
+
+
+def try_starts(program, tally):
+    """From the start to the line on standard error, and to an answer that nothing is there."""
+    lines, firsts = [], []
+    for _ in range(STARTS):
+        begun = time.perf_counter()
+        with Server(program, workers=16) as server:
+            lines.append(server.seconds_to_start * 1e3)
+            with Connection(server.port) as connection:
+                right = connection.ask("GET", "/hello.jsp").status == 404
+            firsts.append((time.perf_counter() - begun) * 1e3)
+        if not right:
+            tally.check("the first answer", False)
+    for name, seen in (("its line", lines), ("the first answer", firsts)):
+        tally.note(f"from the start to {name}: {median(seen):.1f} ms, at most {max(seen):.1f} ms")
+
+
+def hello(server, count):
+    """Whether so many requests of the page are answered rightly, many sent without waiting."""
+    sent, wanted = request("GET", "/hello.jsp?n=Bo") * AT_ONCE, b"Hi Bo!"
+    with Connection(server.port) as connection:
+        for _ in range(count // AT_ONCE):
+            connection.send(sent)
+            if any(connection.answer().body != wanted for _ in range(AT_ONCE)):
+                return False
+    return True
+
+
+def counted(server, count):
+    """Whether a session's counter counts so many requests."""
+    with Connection(server.port) as connection:
+        cookie = connection.ask("GET", "/count.jsp").fields["set-cookie"].split(";")[0]
+        sent = request("GET", "/count.jsp", f"Cookie: {cookie}\r\n") * AT_ONCE
+        for turn in range(count // AT_ONCE):
+            connection.send(sent)
+            seen = [connection.answer().body for _ in range(AT_ONCE)]
+            if seen != [str(turn * AT_ONCE + place + 2).encode() for place in range(AT_ONCE)]:
+                return False
+    return True
+
+
+def try_memory(program, requests, tally):
+    with Server(program, workers=16) as server:
+        tally.note(f"at rest: {server.memory()} KiB")
+        publish(server.editor_port, FILES)
+        done, is_right = 0, True
+        while requests - done >= 2 * AT_ONCE and is_right:
+            part = min(OF_A_CONNECTION, (requests - done) // 2)
+            is_right = hello(server, part) and counted(server, part)
+            done += 2 * part
+        tally.check(f"{done:,} answers are right", is_right)
+        memory = server.memory()
+        user, system = server.processor_seconds()
+        tally.note(f"behind them: {memory} KiB; {(user + system) / done * 1e6:.1f} us of processor time each, sent without waiting")
+
+
+def main():
+    program = os.path.abspath(sys.argv[1] if len(sys.argv) > 1 else BUILT)
+    requests = int(sys.argv[2]) if len(sys.argv) > 2 else 1_000_000
+    signal.alarm(MOST_SECONDS)
+    tally = Tally()
+    try_starts(program, tally)
+    try_memory(program, requests, tally)
+    print(f"{tally.held} held, {tally.failed} failed")
+    return 1 if tally.failed else 0
+
+
+if __name__ == "__main__":
+    sys.exit(main())
