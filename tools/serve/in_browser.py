@@ -1,6 +1,6 @@
 #!/usr/bin/env python3
-"""Shows `pages serve` to a browser: `tools/serve/in_browser.py [PROGRAM [PICTURE]]`. It wants chromium, which asks nobody but this
-machine, ends by itself in three minutes at the most, and leaves no process. The picture is of a page with a form and a style sheet."""
+"""Shows `pages serve` with the shop of examples/ to a browser: `tools/serve/in_browser.py [PROGRAM [PICTURE]]`. It wants chromium, which
+asks nobody but this machine, ends by itself in four minutes at the most, and leaves no process. The picture is of the shop's list."""
 
 import os
 import signal
@@ -16,24 +16,33 @@ from messages import publish  # noqa: E402
 from server import HOST, Server, Tally  # noqa: E402
 
 BUILT = os.path.join(HERE, "../../crates/pages_cli/out/pages_cli")
-MOST_SECONDS = 180
+SHOP = os.path.join(HERE, "../../examples/shop")
+MOST_SECONDS = 240
 CORE = '<%@ taglib prefix="c" uri="jakarta.tags.core" %>'
-HEAD = '<%@ include file="head.jspf" %>'
+PAGE = '<!DOCTYPE html><html><head><meta charset="UTF-8"></head><body>'
+# Pages that a browser runs, beside those of the shop.
 FILES = {
-    "/style.css": "body { font-family: sans-serif; margin: 2em; color: #234 }\nh1 { border-bottom: 3px solid #c63 }\n"
-    ".card { background: #f6efe6; padding: 1em; width: 24em }\n",
-    "/head.jspf": '<!DOCTYPE html><html><head><meta charset="UTF-8"><title>Shop</title>'
-    '<link rel="stylesheet" href="/style.css"></head><body><h1>Shop</h1>',
-    "/form.jsp": CORE + HEAD + '<div class="card"><form method="post" action="/form.jsp">Name <input name="who"> '
-    '<button>Say</button></form><c:if test="${not empty param.who}"><p id="hello">Hello <c:out value="${param.who}"/>!</p>'
-    "</c:if></div></body></html>",
-    "/send.jsp": HEAD + '<form id="f" method="post" action="/form.jsp"><input name="who" value="Zoë &amp; &lt;Co&gt;"></form>'
+    "/try/hello.jsp": CORE + PAGE + '<p id="hello">Hello <c:out value="${param.who}"/>!</p></body></html>',
+    "/try/say.jsp": PAGE + '<form id="f" method="post" action="hello.jsp"><input name="who" value="Zoë &amp; &lt;Co&gt;"></form>'
     '<script>document.getElementById("f").submit()</script></body></html>',
-    "/count.jsp": CORE + '<c:set var="n" value="${sessionScope.n + 1}" scope="session"/>${n}',
-    "/clicks.jsp": HEAD + '<p id="seen"></p><script>(async () => { const seen = []; for (let i = 0; i < 3; i++)'
-    ' seen.push((await (await fetch("/count.jsp")).text()).trim());'
+    "/try/buy.jsp": PAGE + '<form id="f" method="post" action="/add.jsp"><input name="id" value="pot"><input name="count" value="2"></form>'
+    '<script>document.getElementById("f").submit()</script></body></html>',
+    "/try/count.jsp": CORE + '<c:set var="n" value="${sessionScope.n + 1}" scope="session"/>${n}',
+    "/try/clicks.jsp": PAGE + '<p id="seen"></p><script>(async () => { const seen = []; for (let i = 0; i < 3; i++)'
+    ' seen.push((await (await fetch("count.jsp")).text()).trim());'
     ' document.getElementById("seen").textContent = "counted " + seen.join(" "); })()</script></body></html>',
 }
+
+
+def shop():
+    """The files of the shop, by their paths in the site."""
+    files = {}
+    for folder, _, names in os.walk(SHOP):
+        for name in names:
+            place = os.path.join(folder, name)
+            with open(place) as text:
+                files["/" + os.path.relpath(place, SHOP)] = text.read()
+    return files
 
 
 def browse(url, *words):
@@ -50,15 +59,19 @@ def main():
     signal.alarm(MOST_SECONDS)
     tally = Tally()
     with tempfile.TemporaryDirectory() as folder, Server(program, workers=16) as server:
-        picture = os.path.abspath(sys.argv[2]) if len(sys.argv) > 2 else os.path.join(folder, "form.png")
-        publish(server.editor_port, FILES)
+        picture = os.path.abspath(sys.argv[2]) if len(sys.argv) > 2 else os.path.join(folder, "shop.png")
+        publish(server.editor_port, shop() | FILES)
         here = f"http://{HOST}:{server.port}"
-        page = browse(f"{here}/clicks.jsp", "--dump-dom")
+        page = browse(f"{here}/try/clicks.jsp", "--dump-dom")
         tally.check("a counter by the browser's cookie", "counted 1 2 3" in page, page)
-        page = browse(f"{here}/send.jsp", "--dump-dom")
+        page = browse(f"{here}/try/say.jsp", "--dump-dom")
         tally.check("a form is sent and answered", "Hello Zoë &amp; &lt;Co&gt;!" in page, page)
-        browse(f"{here}/form.jsp?who=Ann", f"--screenshot={picture}", "--window-size=640,360")
-        tally.check("a picture of the page", os.path.exists(picture) and os.path.getsize(picture) > 2_000)
+        page = browse(f"{here}/try/buy.jsp", "--dump-dom")
+        tally.check("two pots are in the cart behind a redirect", "<td>2</td><td>A pot</td>" in page and "60.00" in page, page)
+        page = browse(f"{here}/index.jsp", "--dump-dom")
+        tally.check("the shop's list", "Plum jam" in page and "3 things to buy; 1 times" in page, page)
+        browse(f"{here}/index.jsp", f"--screenshot={picture}", "--window-size=720,400")
+        tally.check("a picture of it", os.path.exists(picture) and os.path.getsize(picture) > 2_000)
     print(f"{tally.held} held, {tally.failed} failed")
     return 1 if tally.failed else 0
 

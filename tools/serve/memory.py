@@ -1,7 +1,8 @@
 #!/usr/bin/env python3
 """Measures `pages serve` without wrk: `tools/serve/memory.py [PROGRAM [REQUESTS]]`. It says how long it takes from the start of the
-program to its line and to the first answer (the middle one and the greatest of twenty starts), and its memory at rest and behind a
-million requests, half of them of a page that counts in a session. Every answer is compared. Ends by itself in five minutes at the most."""
+program to its line and to the first answer, and from the message that publishes an include to the right answer on another connection (of
+twenty the middle one and the greatest), and its memory at rest and behind a million requests, half of them of a page that counts in a
+session. Every answer is compared. Ends by itself in five minutes at the most."""
 
 import os
 import signal
@@ -13,12 +14,12 @@ HERE = os.path.dirname(os.path.abspath(__file__))
 sys.path.insert(0, HERE)
 sys.dont_write_bytecode = True
 
-from messages import Connection, publish, request  # noqa: E402
+from messages import Connection, publish, put, request  # noqa: E402
 from server import Server, Tally  # noqa: E402
 
 BUILT = os.path.join(HERE, "../../crates/pages_cli/out/pages_cli")
 MOST_SECONDS = 300
-STARTS = 20
+TIMES = 20
 AT_ONCE = 500
 OF_A_CONNECTION = 60_000
 FILES = {
@@ -31,7 +32,7 @@ FILES = {
 def try_starts(program, tally):
     """From the start to the line on standard error, and to an answer that nothing is there."""
     lines, firsts = [], []
-    for _ in range(STARTS):
+    for _ in range(TIMES):
         begun = time.perf_counter()
         with Server(program, workers=16) as server:
             lines.append(server.seconds_to_start * 1e3)
@@ -42,6 +43,24 @@ def try_starts(program, tally):
             tally.check("the first answer", False)
     for name, seen in (("its line", lines), ("the first answer", firsts)):
         tally.note(f"from the start to {name}: {median(seen):.1f} ms, at most {max(seen):.1f} ms")
+
+
+def try_publishings(program, tally):
+    """From the message that publishes an include to the right answer on another connection."""
+    took, right = [], True
+    with Server(program, workers=16) as server:
+        publish(server.editor_port, {"/part.jspf": "0", "/all.jsp": '<%@ page session="false" %><%@ include file="part.jspf" %>'})
+        with Connection(server.editor_port) as editor, Connection(server.port) as reader:
+            for version in range(1, TIMES + 1):
+                reader.ask("GET", "/all.jsp")
+                put(editor, "/part.jspf", str(version))
+                begun = time.perf_counter()
+                editor.ask("POST", "/_editor/publish")
+                body = reader.ask("GET", "/all.jsp").body
+                took.append((time.perf_counter() - begun) * 1e3)
+                right &= body == str(version).encode()
+    tally.check("behind its publishing an include is new on another connection", right)
+    tally.note(f"from the message that publishes it to that answer: {median(took):.2f} ms, at most {max(took):.2f} ms")
 
 
 def hello(server, count):
@@ -89,6 +108,7 @@ def main():
     signal.alarm(MOST_SECONDS)
     tally = Tally()
     try_starts(program, tally)
+    try_publishings(program, tally)
     try_memory(program, requests, tally)
     print(f"{tally.held} held, {tally.failed} failed")
     return 1 if tally.failed else 0
