@@ -14,7 +14,7 @@ use Rattle.site_words.specs.Opening.{is_sound, sound_counts}
 use Rattle.site_words.proofs.Gifts.{closed_rests}
 use Rattle.site_words.proofs.Items.{and_left, and_right, le_of}
 use Rattle.turn_table.specs.Passes.{AreAll, Known, Origin, newcomer, newcomers}
-use Rattle.site_shared.specs.Idle.{IsIdle}
+use Rattle.pass_course.specs.Course.{IsIdle}
 
 -- a sound opening has 1 to 64 passes
 pub passes_few : (x : Opening) → is_sound x ≡ true → (1 ≤ x.passes) × (x.passes ≤ 64)

@@ -3,7 +3,7 @@ ghost use Rattle.site_words.specs.Calls.{Stays};
 ghost use Rattle.site_words.specs.Invariants.{AllRest};
 ghost use Rattle.site_words.specs.Law.{own, run_of};
 ghost use Rattle.turn_table.specs.Passes.{AreAll, IsPassOf, newcomers};
-ghost use Rattle.site_shared.specs.Idle.{IsIdle};
+ghost use Rattle.pass_course.specs.Course.{IsIdle};
 
 use crate::seated::{Seated, SitePass, SitePasses};
 use crate::turn::{SharedPort, Turn};
