@@ -1,3 +1,2 @@
 mod ReadyLemmas
 mod VisitLemmas
-mod SiteCross

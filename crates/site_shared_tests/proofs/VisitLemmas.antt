@@ -19,7 +19,8 @@ use Rattle.site_words.specs.Runs.{run_after}
 use Rattle.site_words.specs.Trees.{Needs}
 use Rattle.site_words.specs.Weights.{op_weight, reply_weight}
 use Rattle.site_words.proofs.Items.{fold-push}
-use Rattle.site_shared_tests.specs.Visits.{IsIdle, IsServing, Serves}
+use Rattle.pass_course.specs.Course.{IsIdle}
+use Rattle.site_shared_tests.specs.Visits.{IsServing, Serves}
 
 module _ (needs : Needs) (x y : Opening) (pass k : ℕ) (old new : List Entry) where
   run_next : (o : Op) (r : Reply) → Calls needs x pass old new o (Did r) → run_of (own pass new) ≡ run_after (run_of (own pass old)) o r

@@ -2,7 +2,7 @@
 use Rattle.std.specs.Prelude.{◌≡◌, ℕ, ◌<◌, List, length, slice_index_or}
 use Rattle.site_words.specs.declared.words.Entry.{Entry}
 use Rattle.site_words.specs.declared.words.Opening.{Opening}
-use Rattle.site_shared_tests.specs.Visits.{IsIdle}
+use Rattle.pass_course.specs.Course.{IsIdle}
 use Rattle.turn_table.specs.Passes.{IsPassOf, Known, Origin}
 
 -- a pass of these turns that has no request under way

@@ -1,14 +1,11 @@
 -- A pass between its requests, and while one is under way.
 use Rattle.std.specs.Prelude.{◌≡◌, ℕ, ◌<◌, ◌≤◌, List, Option, Some, None}
+use Rattle.pass_course.specs.Course.{IsIdle}
 use Rattle.site_words.specs.declared.port.Begun.{Begun}
 use Rattle.site_words.specs.declared.words.Entry.{Entry}
 use Rattle.site_words.specs.declared.words.Opening.{Opening}
 use Rattle.site_words.specs.declared.words.Run.{Run}
 use Rattle.site_words.specs.Law.{own, run_of}
-
--- the number is that of a pass, which has no request under way by what it has seen
-abbrev pub IsIdle : Opening → ℕ → List Entry → Type 0
-IsIdle x pass seen = (pass < x.passes) × (run_of (own pass seen) ≡ None)
 
 -- by these entries of a pass a request of this number is under way, with this session, and so much at least is left of its promise
 pub record Serves (entries : List (ℕ × Entry)) (request : ℕ) (session : Option ℕ) (left : ℕ) : Type 0 where

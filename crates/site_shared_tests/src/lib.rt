@@ -1,18 +1,17 @@
 //! Tests of a site that many passes share: visits in threads, the journal done again on a second site, and a pass that waits.
 #![tactic(auto)]
 
+#[cfg(test)]
 mod accounts;
+#[cfg(test)]
 mod journal;
+#[cfg(test)]
 mod meeting;
+#[cfg(test)]
 mod passes;
+#[cfg(test)]
 mod single;
 #[cfg(test)]
 mod thread_cases;
+#[cfg(test)]
 mod visiting;
-
-pub use accounts::{account, alone, visited, worked};
-pub use journal::{FIRST, agreeing, entries, errand, hits, prepare};
-pub use meeting::{Counting, Job, Watch, work};
-pub use passes::site_after;
-pub use single::site_alone;
-pub use visiting::{Errand, begin, finish, visit, visits};

@@ -1,7 +1,7 @@
 //! What a pass does in its thread: many visits, or one in which a pass waits for the session that another one holds.
 ghost use Rattle.std.specs.Prelude.{◌≡◌};
 ghost use Rattle.site_words.specs.Answers.{IsSamePort};
-ghost use Rattle.site_shared_tests.specs.Visits.{IsIdle};
+ghost use Rattle.pass_course.specs.Course.{IsIdle};
 
 use crate::visiting::{Errand, begin, finish, visit};
 use edges::Gate;

@@ -2,7 +2,7 @@
 ghost use Rattle.std.specs.Prelude.{◌≡◌};
 ghost use Rattle.site_words.specs.Answers.{IsSamePort};
 ghost use Rattle.site_words.specs.Invariants.{AllRest};
-ghost use Rattle.site_shared_tests.specs.Visits.{IsIdle};
+ghost use Rattle.pass_course.specs.Course.{IsIdle};
 
 use crate::meeting::visit_often;
 use crate::visiting::{Errand, visits};

@@ -1,6 +1,7 @@
 //! A pass visits a site: its request counts itself in its session, publishes, looks for a path and sets an attribute.
 ghost use Rattle.site_words.specs.Answers.{IsSamePort};
-ghost use Rattle.site_shared_tests.specs.Visits.{HasBegun, IsIdle, IsServing};
+ghost use Rattle.pass_course.specs.Course.{IsIdle};
+ghost use Rattle.site_shared_tests.specs.Visits.{HasBegun, IsServing};
 
 use pg_text::{Path, Text};
 use pg_value::{Attrs, Value};

@@ -1,5 +1,5 @@
 use Rattle.site_words.specs.Answers.{IsSamePort}
-use Rattle.site_shared_tests.specs.Visits.{IsIdle}
+use Rattle.pass_course.specs.Course.{IsIdle}
 use Rattle.site_shared_tests.proofs.meeting.visit_often.Given as goal
 
 abbrev pub invariant-loop : goal.invariant-loop

@@ -1,12 +1,31 @@
-use denote.Param.Send.{arg_send, param_send}
+use denote.Ref.{NamedLft}
+use denote.Param.Send.{IsSync, arg_send, param_send, sendable}
+use Rattle.std.proofs.Crossing.{crosses}
+use Rattle.std.specs.contracts.alloc.Global as Heap
+use Rattle.site_shared.specs.contracts.shared.SharedSite as SharedSite
+use Rattle.site_shared.proofs.SharedCross.{shared_sync}
+use Rattle.site_core_tests.proofs.word.Word.TheSendSync as word
+use Rattle.site_core_tests.specs.contracts.word.Word as Word
+use Rattle.site_core_tests.specs.contracts.word.WordCompiled.TheImpl as compiled
+use Rattle.site_shared_tests.proofs.meeting.Counting.TheSendSync as counting
+use Rattle.site_shared_tests.specs.contracts.meeting.Counting as Counting
+use Rattle.site_shared_tests.specs.contracts.meeting.Job as Job
 use mir.Syntax.{named}
 use Rattle.turn_table.proofs.pass.Pass.TheSendSync as pass
-use Rattle.site_core_tests.proofs.word.Word.TheSendSync as word
 use Rattle.site_shared.proofs.SharedCross.{seated_send}
-use Rattle.site_shared_tests.proofs.SiteCross.{heap_sync, job_sync, words_sync}
 use Rattle.site_shared_tests.proofs.meeting.Watch.TheSendSync as watch
 use Rattle.site_shared_tests.proofs.visiting.Errand.TheSendSync as errand
 use Rattle.site_shared_tests.proofs.passes.all_after.Goals as goal
+
+-- the site of the tests, whose gate counts
+words_sync : (a : NamedLft) → IsSync (SharedSite.the_row Word.the_row (Counting.the_row a) compiled.ghosts)
+words_sync a = shared_sync Word.the_row (Counting.the_row a) compiled.ghosts word.the_send word.the_sync (counting.the_sync a)
+
+heap_sync : IsSync Heap.the_row
+heap_sync = search sendable depth 20
+
+job_sync : IsSync Job.the_row
+job_sync = search (crosses, sendable) depth 20
 
 pub map_vec-requires-send-J : goal.map_vec-requires-send-J
 map_vec-requires-send-J g c κs = search (pass.the_send, seated_send, word.the_send, word.the_sync, arg_send, param_send)
