@@ -1,0 +1,4 @@
+pub mod Apart
+pub mod DatumApart
+pub mod WordsApart
+pub mod Written
