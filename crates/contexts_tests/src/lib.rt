@@ -1,0 +1,5 @@
+//! Tests of several contexts.
+#![tactic(auto)]
+
+#[cfg(test)]
+mod names;
