@@ -7,11 +7,8 @@ use edges::Sink;
 use site_core::Site;
 use site_journal::{Talk, write_journal};
 use site_words::laws::rollover;
-use site_words::{Compiled, Opening};
+use site_words::{COUNT_END, Compiled, Opening};
 use std::alloc::Global;
-
-/// The first number that a version, a count of requests or a count of sessions of an opening doesn't reach.
-const COUNT_END: u64 = 1 << 63;
 
 /// What a rollover came to: a new site, or the old one as it was.
 #[derive(Drop)]
@@ -25,8 +22,8 @@ pub enum Rolled<P: Compiled> {
     NoMemory(Site<P>),
 }
 
-/// Writes the journal of a site on which no request is under way, with the talk where one connection made it, and goes on as a new site. All
-/// memory is taken before the first byte goes out.
+/// Writes the journal of a site on which no request is under way, with the talk where one connection made it, and goes on as a
+/// new site. All memory is taken before the first byte goes out.
 pub fn roll<P: Compiled, K: Sink>(
     alloc: Global,
     site: Site<P>,
