@@ -1,0 +1,4 @@
+pub mod Each
+pub mod Several
+pub mod Shares
+pub mod Told
