@@ -1,4 +1,4 @@
-ghost use Rattle.std.specs.Prelude.{◌≡◌, ◌==◌, ◌<◌, ◌++◌, ◌∷◌, [], length, vec_len, OnOk, OnErr, option_to_list};
+ghost use Rattle.std.specs.Prelude.{◌≡◌, ◌==◌, ◌++◌, ◌∷◌, [], length, OnOk, OnErr, option_to_list};
 
 use std::alloc::{AllocError, Global};
 
@@ -47,12 +47,5 @@ impl<P> PortList<P> {
         ensures { self.old.ports.items ≡ self.new.ports.items ++ option_to_list result }
     {
         self.ports.pop()
-    }
-
-    /// The port of a context.
-    pub fn get_mut(&mut self, context: u8) -> &mut P
-        requires { context < vec_len self.old.ports }
-    {
-        &mut self.ports[context as usize]
     }
 }
