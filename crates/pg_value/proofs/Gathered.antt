@@ -68,7 +68,8 @@ untied Less = refl
 untied Equal = refl
 untied Greater = refl
 
-ties_by : (o : Ordering) (k l : List ℕ) → order k l ≡ o → not (is_lt (order k l)) && not (is_lt (order l k)) ≡ bytes_eq k l
+-- what ties with a key is what has it
+pub ties_by : (o : Ordering) (k l : List ℕ) → order k l ≡ o → not (is_lt (order k l)) && not (is_lt (order l k)) ≡ bytes_eq k l
 ties_by o k l h =
     ap (λ p. not (is_lt p) && not (is_lt (order l k))) h
     ∙ ap (λ p. not (is_lt o) && not (is_lt p)) (turned k l o h)
