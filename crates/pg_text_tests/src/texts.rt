@@ -1,14 +1,15 @@
 use pg_text::{
-    Bytes, Listed, PageFault, Place, Text, TranslationFault, decimal, escape_xml, resolve,
-    whole_number,
+    Bytes, Listed, PageFault, Place, Text, TranslationFault, decimal, escape_xml, is_plain_xml,
+    push_decimal, resolve, whole_number,
 };
 use std::alloc::{AllocError, Global};
 use std::test::Fail;
 
 #[test]
 fn a_number_is_written(rt: HostRuntime) -> Result<(), Fail> {
-    let least = decimal(rt.alloc(), i64::MIN)?;
-    assert_eq!(rt; least.as_str(), "-9223372036854775808");
+    let mut written = decimal(rt.alloc(), i64::MIN)?;
+    push_decimal(&mut written, 10)?;
+    assert_eq!(rt; written.as_str(), "-922337203685477580810");
     Ok(())
 }
 
@@ -89,10 +90,16 @@ fn a_text_is_taken_out(rt: HostRuntime) -> Result<(), Fail> {
 fn five_characters_are_escaped(rt: HostRuntime) -> Result<(), Fail> {
     for &(text, written) in &[
         ("<'\"&>", "&lt;&#039;&#034;&amp;&gt;"),
+        ("", ""),
         ("J\u{e4}m 2 \u{20ac}", "J\u{e4}m 2 \u{20ac}"),
+        (
+            "\u{e4} < \u{20ac} && b",
+            "\u{e4} &lt; \u{20ac} &amp;&amp; b",
+        ),
     ] {
         let escaped = escape_xml(rt.alloc(), text)?;
         assert_eq!(rt; escaped.as_str(), written);
+        assert!(rt; is_plain_xml(text) == (text == written));
     }
     Ok(())
 }
