@@ -20,7 +20,8 @@ pub fn to_text(alloc: Global, value: &Value) -> Result<Text, Failure<RunFault>>
     match value {
         Value::Null => Ok(Text::new(String::new(alloc))?),
         Value::Text(text) => Ok(text.copy()?),
-        Value::Bool(_) | Value::Int(_) => Ok(Text::new(inner_text(alloc, value)?)?),
+        Value::Bool(_) => Ok(Text::new(inner_text(alloc, value)?)?),
+        Value::Int(number) => Ok(Text::new(decimal(alloc, *number)?)?),
         Value::List(_) | Value::Rec(_) => made_text(inner_text(alloc, value)?),
     }
 }

@@ -9,3 +9,8 @@ pub returns-in_ok-new-in-Bool-clause-reads_back : goal.returns-in_ok-new-in-Bool
 returns-in_ok-new-in-Bool-clause-reads_back c =
     let answers : Answers (text_of (datum_of c.args.value.now)) (Ok c.in_ok-new-in-Bool.field-0) = search rules in
     reads_back c.args.value.now (Ok c.in_ok-new-in-Bool.field-0) answers
+
+pub returns-in_ok-new-in-Int-clause-reads_back : goal.returns-in_ok-new-in-Int-clause-reads_back
+returns-in_ok-new-in-Int-clause-reads_back c =
+    let answers : Answers (text_of (datum_of c.args.value.now)) (Ok c.in_ok-new-in-Int.field-0) = search rules in
+    reads_back c.args.value.now (Ok c.in_ok-new-in-Int.field-0) answers
