@@ -79,7 +79,7 @@ by_value true true text all first others some e = first_or text others (some ref
 by_value true false text all first others some e = e
 by_value false c text all first others some e = e
 
-decided-append : (table : Table) (name : List ℕ) (xs ys : List Attribute) → decided table name (xs ++ ys) ≡ or_else (decided table name xs) (decided table name ys)
+pub decided-append : (table : Table) (name : List ℕ) (xs ys : List Attribute) → decided table name (xs ++ ys) ≡ or_else (decided table name xs) (decided table name ys)
 decided-append table name [] ys = refl
 decided-append table name (a ∷ xs) ys =
     by_value (bytes_eq a.name name) (is_good (by_row (row_of name table) a)) (plain_text a.parts) (decided table name (xs ++ ys)) (decided table name xs) (decided table name ys)
@@ -100,3 +100,8 @@ pub decided_at : (table : Table) (giver name : List ℕ) (ds : List Directive) (
 decided_at table giver name ds i d value within is e =
     ap (λ (ds : List Directive). decided table name (given giver ds)) (item_at ds i d within is)
     ∙ (decided_first table giver name d (drop (i + 1) ds) ∙ ap (λ v. or_else v (decided table name (given giver (drop (i + 1) ds)))) (sym e))
+
+-- what directives give, and those behind them
+pub given-append : (name : List ℕ) (xs ys : List Directive) → given name (xs ++ ys) ≡ given name xs ++ given name ys
+given-append name [] ys = refl
+given-append name (d ∷ xs) ys = ap (λ (behind : List Attribute). cond (is_named name d) d.attributes [] ++ behind) (given-append name xs ys) ∙ sym (append_assoc (cond (is_named name d) d.attributes []) (given name xs) (given name ys))

@@ -2,5 +2,6 @@ pub mod BufferLemmas
 pub mod FaultLemmas
 pub mod FirstLemmas
 pub mod GivenLemmas
+pub mod KnownLemmas
 pub mod TableLemmas
 pub mod TokenLemmas

@@ -7,3 +7,4 @@ pub mod Tables
 pub mod Taglibs
 pub mod Settings
 pub mod Meet
+pub mod ReadKnown

@@ -2,17 +2,21 @@ ghost use Rattle.std.specs.Prelude.{◌≡◌, ◌++◌, ◌∷◌, [], IfOk, On
 ghost use Rattle.std.specs.Option.{option_map};
 ghost use Rattle.page_directives.specs.Faults.{in_order};
 ghost use Rattle.page_directives.specs.Meet.{giving_faults, include_faults, may_give, met_faults, nothing_before, other_faults};
+ghost use Rattle.page_directives.specs.Settings.{given, giver};
 ghost use Rattle.page_directives.specs.Taglibs.{prefix_of_tag, prefixes_in_text, target_of};
 ghost use Rattle.page_pieces.specs.Marks.{tag_name};
+ghost use Rattle.page_pieces.specs.Settings.{contains_text, value_of};
 
 use crate::checks::attribute_faults;
 use crate::directive::Directive;
 use crate::faults::Faults;
-use crate::giving::setting_faults;
+use crate::first_reading::FirstReading;
+use crate::giving::{setting_faults, value_given};
+use crate::known::{Known, known_behind};
 use crate::registering::{taglib_faults, target_of};
-use crate::tables::include_table;
+use crate::tables::{giver, include_table};
 use crate::target::Target;
-use page_pieces::{Prefixes, has_name, tag_name};
+use page_pieces::{Attributes, Prefixes, has_name, tag_name};
 use pg_text::TranslationFault;
 use std::alloc::{AllocError, Global};
 use std::marker::Model;
@@ -33,14 +37,20 @@ pub enum Where {
 pub struct Before<'a> {
     directives: Vec<Directive<'a>>,
     prefixes: Prefixes,
+    // What the directives said first; after an error it isn't there, and the directives are asked one after the other.
+    known: Option<Known<'a>>,
 }
 
 impl<'a> Model for Before<'a> {
+    ghost use Rattle.std.specs.Option.{IfSome};
     ghost use Rattle.page_directives.specs.Meet.{Before as Seen};
+    ghost use Rattle.page_directives.specs.ReadKnown.{IsKnown};
 
     ghost Value = { Seen };
 
     ghost view = { λ b. record { directives = b.directives.items; prefixes = b.prefixes } };
+
+    ghost invariant = { λ b. IfSome b.known (λ known. IsKnown known b.directives.items) };
 }
 
 impl<'a> Before<'a> {
@@ -51,6 +61,7 @@ impl<'a> Before<'a> {
         Before {
             directives: Vec::new(alloc),
             prefixes: Prefixes::new(alloc),
+            known: Some(Known::new(alloc)),
         }
     }
 
@@ -60,27 +71,58 @@ impl<'a> Before<'a> {
         &self.directives
     }
 
-    /// The faults of a directive that stands in such a file. `first` are all directives of the first reading of the page or tag file, in
-    /// order.
+    /// Whether a prefix stood in template text.
+    pub(crate) fn has_prefix(&self, prefix: &str) -> bool
+        ensures { result ≡ contains_text prefix.now self.now.prefixes }
+    {
+        self.prefixes.contains(prefix)
+    }
+
+    // The text of the first attribute of that name, of those that directives that give settings gave and of others behind them.
+    pub(crate) fn value<'b>(
+        &'b self,
+        in_tag: bool,
+        own: &'b Attributes,
+        name: &str,
+    ) -> Option<&'b str>
+        ensures { option_map (λ text. text.now) result ≡ value_of name.now (given (giver in_tag) self.now.directives ++ own.now) }
+    {
+        match &self.known {
+            Some(known) => known.value(in_tag, own, name),
+            None => value_given(giver(in_tag), &self.directives, own, name),
+        }
+    }
+
+    /// The faults of a directive that stands in such a file. `first` is the first reading of the page or tag file.
     #[tactic(auto, unfolding(crate::specs::Meet::met_faults))]
-    pub fn faults(&self, stands: Where, first: &[Directive], directive: &Directive<'a>) -> Faults
+    pub fn faults(&self, stands: Where, first: &FirstReading, directive: &Directive<'a>) -> Faults
         ensures { result ≡ in_order (met_faults stands first.now self.now directive.now) }
     {
-        let before = self.directives.as_slice();
         match directive.name() {
             "include" => include_faults(directive),
-            "taglib" => taglib_faults(&self.prefixes, before, directive),
-            "page" => giving_faults(false, stands, first, before, directive),
-            "tag" => giving_faults(true, stands, first, before, directive),
+            "taglib" => taglib_faults(self, directive),
+            "page" => giving_faults(false, stands, first, self, directive),
+            "tag" => giving_faults(true, stands, first, self, directive),
             _ => other_faults(stands, directive),
         }
+    }
+
+    /// From now on a directive stands before.
+    pub fn push(&mut self, directive: Directive<'a>) -> Result<(), AllocError>
+        ensures before { OnOk result (self.new ≡ record self.old { directives = self.old.directives ++ directive.entry ∷ [] }) }
+        ensures err { OnErr result (self.new ≡ self.old) }
+    {
+        let known = known_behind(self.known.take(), &directive)?;
+        self.directives.push(directive)?;
+        self.known = known;
+        Ok(())
     }
 
     /// Meets a directive: its faults, and from now on it stands before.
     pub fn meet(
         &mut self,
         stands: Where,
-        first: &[Directive],
+        first: &FirstReading,
         directive: Directive<'a>,
     ) -> Result<Faults, AllocError>
         ensures faults { IfOk result (λ faults. faults ≡ in_order (met_faults stands first.now self.old directive.entry)) }
@@ -88,7 +130,7 @@ impl<'a> Before<'a> {
         ensures err { OnErr result (self.new ≡ self.old) }
     {
         let faults = self.faults(stands, first, &directive);
-        self.directives.push(directive)?;
+        self.push(directive)?;
         Ok(faults)
     }
 
@@ -104,7 +146,10 @@ impl<'a> Before<'a> {
     pub fn target(&self, prefix: &str) -> Option<&Target>
         ensures { option_map (λ target. target.now) result ≡ target_of prefix.now self.now.directives }
     {
-        target_of(prefix, &self.directives)
+        match &self.known {
+            Some(known) => known.target(prefix),
+            None => target_of(prefix, &self.directives),
+        }
     }
 }
 
@@ -158,11 +203,11 @@ fn may_give(in_tag: bool, stands: Where) -> bool
 fn giving_faults<'a>(
     in_tag: bool,
     stands: Where,
-    first: &[Directive],
-    before: &[Directive<'a>],
+    first: &FirstReading,
+    before: &Before<'a>,
     directive: &Directive<'a>,
 ) -> Faults
-    ensures { result ≡ in_order (giving_faults in_tag stands first.now before.now directive.now) }
+    ensures { result ≡ in_order (giving_faults in_tag stands first.now before.now.directives directive.now) }
 {
     if may_give(in_tag, stands) {
         setting_faults(in_tag, first, before, directive)

@@ -74,7 +74,7 @@ impl<'a> Directive<'a> {
     }
 
     // Whether another directive stands at the same byte of the same file.
-    fn is_at_same(&self, other: &Directive) -> bool
+    pub(crate) fn is_at_same(&self, other: &Directive) -> bool
         ensures { result ≡ is_at_same self.now other.now }
     {
         other.place.byte == self.place.byte && other.place.file.as_str() == self.place.file.as_str()

@@ -6,15 +6,17 @@ ghost use Rattle.page_directives.specs.Directive.{is_named};
 ghost use Rattle.page_directives.specs.Checks.{buffer_size, by_row};
 ghost use Rattle.page_directives.specs.Faults.{in_order, is_good};
 ghost use Rattle.page_directives.specs.Rows.{check_of, rows_of};
-ghost use Rattle.page_directives.specs.Settings.{decided, decided_by, differs, given, has_clash, is_unbuffered, is_value, setting_faults, settings_of, truth_or, unbuffers};
+ghost use Rattle.page_directives.specs.Settings.{decided, decided_by, differs, given, giver, has_clash, is_value, setting_faults, settings_of, truth_or};
 
+use crate::before::Before;
 use crate::buffers::buffer_size;
 use crate::charset::content_type;
 use crate::checks::{Check, Table, attribute_faults, by_row, row_of};
 use crate::directive::Directive;
 use crate::faults::Faults;
+use crate::first_reading::FirstReading;
 use crate::tables::{giver, giver_table, is_repeatable};
-use page_pieces::{Attribute, has_name, plain_text, value_of};
+use page_pieces::{Attribute, Attributes, has_name, plain_text};
 use pg_text::{Text, TranslationFault};
 use pg_value::PageSettings;
 use std::alloc::{AllocError, Global};
@@ -22,10 +24,10 @@ use std::alloc::{AllocError, Global};
 const DEFAULT_BUFFER: u32 = 8_192;
 
 // The text of the first attribute of that name, of those that directives of this name give and of others behind them.
-fn value_given<'a>(
+pub(crate) fn value_given<'a>(
     giver: &str,
     before: &[Directive<'a>],
-    own: &'a [Attribute],
+    own: &'a Attributes,
     name: &str,
 ) -> Option<&'a str>
     ensures { option_map (λ text. text.now) result ≡ value_of name.now (given giver.now before.now ++ own.now) }
@@ -35,7 +37,7 @@ fn value_given<'a>(
             return directive.attributes().plain(name);
         }
     }
-    value_of(own, name)
+    own.plain(name)
 }
 
 // Whether a directive has this name and an attribute of that one.
@@ -56,13 +58,13 @@ fn differs(value: Option<&str>, first: Option<&str>) -> bool
 }
 
 // Whether an attribute that was given before has another value.
-fn has_clash<'a>(giver: &str, before: &[Directive<'a>], own: &'a [Attribute]) -> bool
-    ensures { result ≡ has_clash (given giver.now before.now ++ own.now) own.now }
+fn has_clash<'a>(in_tag: bool, before: &Before<'a>, own: &'a Attributes) -> bool
+    ensures { result ≡ has_clash (given (giver in_tag) before.now.directives ++ own.now) own.now }
 {
-    for attribute in own {
+    for attribute in own.as_slice() {
         let name = attribute.name.as_str();
-        let first = value_given(giver, before, own, name);
-        if !is_repeatable(name) && differs(plain_text(attribute.parts.as_slice()), first) {
+        let value = plain_text(attribute.parts.as_slice());
+        if !is_repeatable(name) && differs(value, before.value(in_tag, own, name)) {
             return true;
         }
     }
@@ -86,41 +88,20 @@ fn decided_by<'a>(in_tag: bool, directives: &[Directive<'a>], name: &str) -> Opt
     decided(giver_table(in_tag), giver(in_tag), directives, name)
 }
 
-// Whether these directives decide that there is neither a buffer nor flushing.
-fn is_unbuffered(in_tag: bool, directives: &[Directive]) -> bool
-    ensures { result ≡ is_unbuffered in_tag directives.now }
-{
-    is_value("none", decided_by(in_tag, directives, "buffer"))
-        && is_value("false", decided_by(in_tag, directives, "autoFlush"))
-}
-
-// Whether with this directive the first reading has decided that there is neither a buffer nor flushing, and before it hadn't.
-#[tactic(auto, using(crate::proofs::FirstLemmas::outside))]
-fn unbuffers(in_tag: bool, first: &[Directive], directive: &Directive) -> bool
-    ensures { result ≡ unbuffers in_tag first.now directive.now }
-{
-    let at = directive.before_in(first);
-    if at == first.len() {
-        return false;
-    }
-    is_unbuffered(in_tag, &first[..at + 1]) && !is_unbuffered(in_tag, &first[..at])
-}
-
-/// The faults of a directive that gives settings, behind the directives before it. `first` are all directives of the first reading of
-/// the page or tag file, in order.
+/// The faults of a directive that gives settings, behind those that stand before it. `first` is the first reading of the page or tag file.
 #[tactic(auto, unfolding(crate::specs::Settings::setting_faults))]
 pub fn setting_faults<'a>(
     in_tag: bool,
-    first: &[Directive],
-    before: &[Directive<'a>],
+    first: &FirstReading,
+    before: &Before<'a>,
     directive: &Directive<'a>,
 ) -> Faults
-    ensures { result ≡ in_order (setting_faults in_tag first.now before.now directive.now) }
+    ensures { result ≡ in_order (setting_faults in_tag first.now before.now.directives directive.now) }
 {
-    let own = directive.attributes().as_slice();
-    let clashes = has_clash(giver(in_tag), before, own);
-    let unbuffers = unbuffers(in_tag, first, directive);
-    attribute_faults(giver_table(in_tag), own).and(Faults::one_if(
+    let own = directive.attributes();
+    let clashes = has_clash(in_tag, before, own);
+    let unbuffers = first.unbuffers(in_tag, directive);
+    attribute_faults(giver_table(in_tag), own.as_slice()).and(Faults::one_if(
         clashes,
         TranslationFault::Clash,
     ).and(Faults::one_if(unbuffers, TranslationFault::UnbufferedNoFlush)))
@@ -147,7 +128,7 @@ fn decided_in<'a>(table: Table, name: &str, attributes: &'a [Attribute]) -> Opti
 }
 
 // The first value of an attribute that isn't refused, where a directive of this name gives it.
-fn decided_by_one<'a>(
+pub(crate) fn decided_by_one<'a>(
     table: Table,
     giver: &str,
     directive: &Directive<'a>,

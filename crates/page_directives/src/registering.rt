@@ -5,13 +5,14 @@ ghost use Rattle.page_pieces.specs.Settings.{contains_text};
 ghost use Rattle.page_directives.specs.Tables.{refused_prefixes};
 ghost use Rattle.page_directives.specs.Taglibs.{clashes, is_prefix, registering_faults, taglib_faults, target_of};
 
+use crate::before::Before;
 use crate::checks::attribute_faults;
 use crate::directive::Directive;
 use crate::faults::Faults;
 use crate::tables::taglib_table;
 use crate::target::{Target, is_same_target};
 use crate::words::is_among;
-use page_pieces::{Prefixes, has_name};
+use page_pieces::has_name;
 use pg_text::TranslationFault;
 
 const REFUSED_PREFIXES: [&str; 7] = ["jsp", "jspx", "java", "javax", "servlet", "sun", "sunw"];
@@ -58,13 +59,8 @@ fn is_refused(prefix: &str) -> bool
 
 // The faults of the prefix and its target.
 #[tactic(auto, unfolding(crate::specs::Taglibs::registering_faults))]
-fn registering_faults(
-    seen: &Prefixes,
-    before: &[Directive],
-    prefix: Option<&str>,
-    target: Option<&Target>,
-) -> Faults
-    ensures { result ≡ in_order (registering_faults seen.now before.now (option_map (λ text. text.now) prefix.entry) (option_map (λ target. target.now) target.entry)) }
+fn registering_faults(before: &Before, prefix: Option<&str>, target: Option<&Target>) -> Faults
+    ensures { result ≡ in_order (registering_faults before.now.prefixes before.now.directives (option_map (λ text. text.now) prefix.entry) (option_map (λ target. target.now) target.entry)) }
 {
     let Some(prefix) = prefix else {
         return Faults::none();
@@ -72,8 +68,8 @@ fn registering_faults(
     if prefix.is_empty() {
         return Faults::none();
     }
-    let is_bad = target.is_none() || is_refused(prefix) || seen.contains(prefix);
-    let clashes = clashes(target_of(prefix, before), target);
+    let is_bad = target.is_none() || is_refused(prefix) || before.has_prefix(prefix);
+    let clashes = clashes(before.target(prefix), target);
     Faults::one_if(is_bad, TranslationFault::BadTaglib).and(Faults::one_if(
         clashes,
         TranslationFault::Clash,
@@ -82,17 +78,12 @@ fn registering_faults(
 
 // The faults of a taglib directive behind the directives before it and the prefixes that stood in text.
 #[tactic(auto, unfolding(crate::specs::Taglibs::taglib_faults))]
-pub(crate) fn taglib_faults(seen: &Prefixes, before: &[Directive], directive: &Directive) -> Faults
-    ensures { result ≡ in_order (taglib_faults seen.now before.now directive.now) }
+pub(crate) fn taglib_faults(before: &Before, directive: &Directive) -> Faults
+    ensures { result ≡ in_order (taglib_faults before.now.prefixes before.now.directives directive.now) }
 {
     let attributes = directive.attributes();
     let unnamed = !has_name(attributes.as_slice(), "prefix");
-    let registering = registering_faults(
-        seen,
-        before,
-        attributes.plain("prefix"),
-        directive.target(),
-    );
+    let registering = registering_faults(before, attributes.plain("prefix"), directive.target());
     attribute_faults(taglib_table(), attributes.as_slice()).and(Faults::one_if(
         unnamed,
         TranslationFault::BadDirective,

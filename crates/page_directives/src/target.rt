@@ -22,6 +22,19 @@ pub enum Target {
     TagFolder(Path),
 }
 
+impl Target {
+    /// An equal target.
+    pub(crate) fn copy(&self) -> Result<Self, AllocError>
+        ensures { IfOk result (λ copy. copy ≡ self.now) }
+    {
+        match self {
+            Target::CoreLibrary => Ok(Target::CoreLibrary),
+            Target::FunctionLibrary => Ok(Target::FunctionLibrary),
+            Target::TagFolder(path) => Ok(Target::TagFolder(path.copy()?)),
+        }
+    }
+}
+
 // Whether two targets are the same.
 pub(crate) fn is_same_target(one: &Target, other: &Target) -> bool
     ensures { result ≡ is_same_target one.now other.now }
