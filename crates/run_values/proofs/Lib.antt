@@ -1,4 +1,5 @@
 mod CookieLemmas
+mod NameListLemmas
 mod PropertyLemmas
 mod RoundLemmas
 mod TableLemmas

@@ -1,3 +1,4 @@
+pub mod NameLists
 pub mod Objects
 pub mod Properties
 pub mod RoundCode

@@ -8,6 +8,7 @@ mod cookies;
 mod faults;
 mod loop_values;
 mod loops;
+mod name_lists;
 mod properties;
 mod records;
 mod request;

@@ -1,56 +1,43 @@
-ghost use Rattle.std.specs.Prelude.{◌≡◌, option_map, IfOk};
+ghost use Rattle.std.specs.Prelude.{◌≡◌, map, option_map, IfOk};
 ghost use Rattle.run_values.specs.Objects.{header_answer, header_entries};
 ghost use Rattle.http_in.specs.Target.{before_query};
 ghost use Rattle.page_meaning.specs.Implicit.{session_datum};
-ghost use Rattle.page_meaning.specs.Request.{all_values, first_values, header_texts, items_under, request_record};
+ghost use Rattle.page_meaning.specs.Request.{all_values, first_values, header_texts, param_entry, request_record};
 ghost use Rattle.pg_text.specs.Failure.{AnswersAs};
-ghost use Rattle.pg_value.specs.Datum.{item, list, text};
-ghost use Rattle.pg_value.specs.Value.{datum_of};
+ghost use Rattle.pg_value.specs.Value.{datum_of, entry_of};
 
+use crate::name_lists::lists_by_name;
 use crate::records::{copied_value, put, record, text_or_null, text_value};
 use el_coercion::to_text;
 use http_in::{Param, Request};
 use page_code::HeaderObject;
 use pg_text::{Failure, Listed, Text};
-use pg_value::{Attrs, RunFault, Value, Values};
+use pg_value::{Attrs, RunFault, Value};
 use std::alloc::{AllocError, Global};
 
 /// Each name with the first of its values, as `param` has them.
 pub fn first_values(alloc: Global, params: &[Param]) -> Result<Attrs, AllocError>
     ensures { IfOk result (λ values. values ≡ first_values params.now) }
 {
-    let mut entries = Vec::with_capacity(alloc, params.len())?;
-    for param in params {
-        entries.push((param.name.copy()?, Value::Text(param.value.copy()?)))?;
-    }
-    Attrs::from_first_entries(entries)
+    Attrs::from_first_entries(param_entries(alloc, params)?)
 }
 
 /// Each name with the list of its values, as `paramValues` has them.
 pub fn all_values(alloc: Global, params: &[Param]) -> Result<Attrs, AllocError>
     ensures { IfOk result (λ values. values ≡ all_values params.now) }
 {
-    let mut entries = Attrs::empty(alloc);
-    for index in (0..params.len()).rev() {
-        let param = &params[index];
-        let values = with_others(alloc, &param.value, entries.get(param.name.as_str()))?;
-        entries.insert(param.name.copy()?, values)?;
-    }
-    Ok(entries)
+    lists_by_name(alloc, param_entries(alloc, params)?)
 }
 
-// The list of a text and the items of another list, where there is one.
-fn with_others(alloc: Global, value: &Text, others: Option<&Value>) -> Result<Value, AllocError>
-    ensures { IfOk result (λ made. datum_of made ≡ list (item (text value.now) (items_under (option_map (λ value. datum_of value.now) others.entry)))) }
+// The parameters as entries.
+fn param_entries(alloc: Global, params: &[Param]) -> Result<Vec<(Text, Value)>, AllocError>
+    ensures { IfOk result (λ entries. map entry_of entries.items ≡ map param_entry params.now) }
 {
-    let mut items = Vec::new(alloc);
-    items.push(Value::Text(value.copy()?))?;
-    if let Some(Value::List(others)) = others {
-        for other in others.as_slice() {
-            items.push(other.copy()?)?;
-        }
+    let mut entries = Vec::with_capacity(alloc, params.len())?;
+    for param in params {
+        entries.push((param.name.copy()?, Value::Text(param.value.copy()?)))?;
     }
-    Ok(Value::List(Values::new(items)?))
+    Ok(entries)
 }
 
 // The fields of a request, with their values as texts, in which bytes that aren't UTF-8 are replaced.

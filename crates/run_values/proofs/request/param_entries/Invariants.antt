@@ -1,5 +1,5 @@
 use Rattle.std.proofs.Common.{◌≡◌, map, take}
-use Rattle.run_values.proofs.request.first_values.Given as goal
+use Rattle.run_values.proofs.request.param_entries.Given as goal
 use Rattle.page_meaning.specs.Request.{param_entry}
 use Rattle.pg_value.specs.Value.{entry_of}
 
