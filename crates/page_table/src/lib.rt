@@ -3,4 +3,4 @@
 
 mod laws;
 
-pub use laws::runs;
+pub use laws::{checked, rows, runs};
