@@ -1,8 +1,9 @@
-use crate::reading::{directives, show_faults, tree};
+use crate::reading::{self, directives, show_faults, tree};
 use std::alloc::{AllocError, Global};
 use std::test::Fail;
 use tag_decl::{
-    AttrDecl, AttrKind, BodyKind, VarDecl, VarScope, declare, declared, declaring_faults, is_good,
+    AttrDecl, AttrKind, BodyKind, DeclaredBefore, VarDecl, VarScope, declare, declared,
+    declaring_faults, is_good,
 };
 
 // The faults of what a tag file declares, and behind a bar whether calls are checked.
@@ -11,11 +12,14 @@ fn faults(alloc: Global, text: &str) -> Result<String, Fail> {
     let directives = directives(alloc, &tree.nodes)?;
     let declared = declare(alloc, &directives)?;
     let mut out = String::new(alloc);
-    for (i, directive) in directives.iter().enumerate() {
-        let found = declaring_faults(&declared.attributes, &directives[..i], directive);
+    let mut before = DeclaredBefore::new(alloc);
+    for directive in directives {
+        let found = declaring_faults(&declared.attributes, &before, &directive);
         show_faults(&mut out, &found)?;
+        before = before.behind(directive)?;
     }
-    let good = is_good(&declared.attributes, &directives);
+    let judged = reading::directives(alloc, &tree.nodes)?;
+    let good = is_good(alloc, &declared.attributes, judged)?;
     out.push_str(if good { "|good" } else { "|bad" })?;
     Ok(out)
 }

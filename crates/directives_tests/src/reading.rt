@@ -1,4 +1,4 @@
-use page_directives::{Before, Directive, Faults, Where, settings};
+use page_directives::{Before, Directive, Faults, FirstReading, Where, settings};
 use page_reader::{MAX_PAGE_BYTES, Node, PageTree, Setting, read_under};
 use pg_text::{TranslationFault, resolve};
 use std::alloc::{AllocError, Global};
@@ -55,7 +55,7 @@ pub fn show_faults(out: &mut String, faults: &Faults) -> Result<(), AllocError> 
 fn met_faults(
     alloc: Global,
     stands: Where,
-    first: &[Directive],
+    first: &FirstReading,
     nodes: &[Node],
 ) -> Result<String, Fail> {
     let mut before = Before::new(alloc);
@@ -83,5 +83,5 @@ pub fn faults(alloc: Global, stands: Where, text: &str) -> Result<String, Fail> 
     let first = directives(alloc, &first_tree.nodes)?;
     let el = settings(alloc, &first, stands != Where::Page)?.el;
     let second_tree = tree(alloc, text, el)?;
-    met_faults(alloc, stands, &first, &second_tree.nodes)
+    met_faults(alloc, stands, &FirstReading::new(first), &second_tree.nodes)
 }

@@ -1,5 +1,5 @@
 use crate::reading::{directives, tree};
-use page_directives::{Before, Target, Where, settings, target_of};
+use page_directives::{Before, Target, settings, target_of};
 use pg_value::PageSettings;
 use std::alloc::Global;
 use std::test::Fail;
@@ -68,7 +68,7 @@ fn a_prefix_stands_for_its_first_target(rt: HostRuntime) -> Result<(), Fail> {
     let tree = tree(rt.alloc(), text, true)?;
     let mut before = Before::new(rt.alloc());
     for directive in directives(rt.alloc(), &tree.nodes)? {
-        before.meet(Where::Page, &[], directive)?;
+        before.push(directive)?;
     }
     assert!(rt;
         before
