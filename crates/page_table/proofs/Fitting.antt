@@ -51,7 +51,7 @@ use Rattle.page_table.proofs.Operating.{operation_works}
 use Rattle.page_table.proofs.Pages.{forward_gone, redirect_gone}
 use Rattle.page_table.proofs.Records.{without_named_calm, bean_tame}
 use Rattle.page_table.proofs.Rounds.{Counts, round_counts}
-use Rattle.page_table.proofs.Rows.{go_on, has_kept, below, Spot, tag_next, given_next, include_next, import_next}
+use Rattle.page_table.proofs.RowLemmas.{go_on, has_kept, below, Spot, tag_next, given_next, include_next, import_next}
 use Rattle.page_table.proofs.Standing.{Next, MoveFits, tame_leaves, Ready, ready, one_of_next, thrown_next, at_next, works_next, gone_next, popped_all_next}
 use Rattle.page_table.proofs.Tame.{kept, keeps_both, result}
 use Rattle.page_table.proofs.Weights.{visited, nearer, three_pos, three_le, three_lt}

@@ -13,7 +13,7 @@ pub mod Operating
 pub mod Pages
 pub mod Records
 pub mod Rounds
-pub mod Rows
+pub mod RowLemmas
 pub mod Standing
 pub mod Tame
 pub mod Turns

@@ -13,7 +13,7 @@ use Rattle.page_table.specs.Program.{Serving}
 use Rattle.page_table.specs.Runs.{Runs, over, on, into, Turned, moved, called}
 use Rattle.page_table.specs.Seat.{Seat, code_of}
 use Rattle.page_table.proofs.Fitting.{fit_at, carries_within, seat_code_fits, act_fits}
-use Rattle.page_table.proofs.Rows.{later_leaves}
+use Rattle.page_table.proofs.RowLemmas.{later_leaves}
 use Rattle.page_table.proofs.Standing.{Next, Begun, callee_fits, MoveFits}
 use Rattle.page_table.proofs.Tame.{kept}
 use Rattle.page_table.proofs.Weights.{nearer, less_visits, weight_span, fewer}
