@@ -1,3 +1,4 @@
 pub mod Declare
 pub mod Faults
 pub mod Names
+pub mod ReadNames

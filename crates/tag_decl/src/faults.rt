@@ -1,4 +1,4 @@
-ghost use Rattle.std.specs.Prelude.{◌≡◌, ◌∷◌, ◌&&◌, ◌||◌, [], codes};
+ghost use Rattle.std.specs.Prelude.{◌≡◌, ◌∷◌, ◌&&◌, ◌||◌, [], codes, IfOk};
 ghost use Rattle.std.specs.Option.{option_map};
 ghost use Rattle.page_pieces.specs.Repeats.{has_name};
 ghost use Rattle.page_pieces.specs.Settings.{value_of};
@@ -9,12 +9,15 @@ ghost use Rattle.tag_decl.specs.Declare.{declared};
 ghost use Rattle.tag_decl.specs.Faults.{any_faults, are_good, attribute_directive_faults, attribute_table, clash_faults, declared_names, declaring_faults, has_one_name, is_named_well, is_text, may_name, variable_directive_faults, variable_table};
 
 use crate::declaration::{AttrDecl, AttrDecls, AttrKind, declared};
-use crate::names::{declared_name, is_declared};
+use crate::declared_before::DeclaredBefore;
+use crate::names::declared_name;
 use page_directives::{
-    Check, Directive, Faults, TRUTHS, Table, attribute_faults, is_value, setting_faults,
+    Check, Directive, Faults, FirstReading, TRUTHS, Table, attribute_faults, is_value,
+    setting_faults,
 };
 use page_pieces::{Attributes, has_name};
 use pg_text::TranslationFault;
+use std::alloc::{AllocError, Global};
 
 static ATTRIBUTE: [(&str, Check); 6] = [
     ("name", Check::Something),
@@ -64,11 +67,11 @@ fn variable_table() -> Table
 }
 
 // The fault of a directive whose name was declared before.
-fn clash_faults(before: &[Directive], directive: &Directive) -> Faults
+fn clash_faults(before: &DeclaredBefore, directive: &Directive) -> Faults
     ensures { result ≡ in_order (clash_faults before.now (declared_names (directive.now ∷ []))) }
 {
     match declared_name(directive) {
-        Some(name) => Faults::one_if(is_declared(name, before), TranslationFault::Clash),
+        Some(name) => Faults::one_if(before.declares(name), TranslationFault::Clash),
         None => Faults::none(),
     }
 }
@@ -84,7 +87,7 @@ fn is_bad_fragment(attributes: &Attributes) -> bool
 
 // The faults of an `attribute` directive behind the directives before it.
 #[tactic(auto, unfolding(crate::specs::Faults::attribute_directive_faults))]
-fn attribute_directive_faults(before: &[Directive], directive: &Directive) -> Faults
+fn attribute_directive_faults(before: &DeclaredBefore, directive: &Directive) -> Faults
     ensures { result ≡ in_order (attribute_directive_faults before.now directive.now) }
 {
     let attributes = directive.attributes();
@@ -140,7 +143,7 @@ fn has_one_name(attributes: &Attributes) -> bool
 #[tactic(auto, unfolding(crate::specs::Faults::variable_directive_faults))]
 fn variable_directive_faults(
     decls: &AttrDecls,
-    before: &[Directive],
+    before: &DeclaredBefore,
     directive: &Directive,
 ) -> Faults
     ensures { result ≡ in_order (variable_directive_faults decls.now before.now directive.now) }
@@ -161,7 +164,7 @@ fn variable_directive_faults(
 
 /// The faults of what a directive of a tag file with these declarations declares, behind the directives before it.
 #[tactic(auto, unfolding(crate::specs::Faults::declaring_faults))]
-pub fn declaring_faults(decls: &AttrDecls, before: &[Directive], directive: &Directive) -> Faults
+pub fn declaring_faults(decls: &AttrDecls, before: &DeclaredBefore, directive: &Directive) -> Faults
     ensures { result ≡ in_order (declaring_faults decls.now before.now directive.now) }
 {
     match directive.name() {
@@ -172,31 +175,50 @@ pub fn declaring_faults(decls: &AttrDecls, before: &[Directive], directive: &Dir
 }
 
 // The faults of a directive for which a call isn't checked.
-fn any_faults<'a>(decls: &AttrDecls, before: &[Directive<'a>], directive: &Directive<'a>) -> Faults
+fn any_faults<'a>(
+    decls: &AttrDecls,
+    first: &FirstReading,
+    before: &DeclaredBefore<'a>,
+    directive: &Directive<'a>,
+) -> Faults
+    requires { first.now ≡ [] }
     ensures { result ≡ in_order (any_faults decls.now before.now directive.now) }
 {
     if directive.is_named("tag") {
-        setting_faults(true, &[], before, directive)
+        setting_faults(true, first, before.settings(), directive)
     } else {
         declaring_faults(decls, before, directive)
     }
 }
 
 // Whether a directive has no fault for which a call isn't checked.
-fn is_faultless<'a>(decls: &AttrDecls, before: &[Directive<'a>], directive: &Directive<'a>) -> bool
+fn is_faultless<'a>(
+    decls: &AttrDecls,
+    first: &FirstReading,
+    before: &DeclaredBefore<'a>,
+    directive: &Directive<'a>,
+) -> bool
+    requires { first.now ≡ [] }
     ensures { result ≡ is_good (any_faults decls.now before.now directive.now) }
 {
-    any_faults(decls, before, directive).is_empty()
+    any_faults(decls, first, before, directive).is_empty()
 }
 
 /// Whether the directives of a tag file that declare have no fault, so that calls are checked against these declarations.
-pub fn is_good(decls: &AttrDecls, directives: &[Directive]) -> bool
-    ensures { result ≡ are_good decls.now [] directives.now }
+pub fn is_good(
+    alloc: Global,
+    decls: &AttrDecls,
+    directives: Vec<Directive>,
+) -> Result<bool, AllocError>
+    ensures { IfOk result (λ good. good ≡ are_good decls.now [] directives.entry.items) }
 {
-    for (i, directive) in directives.iter().enumerate() {
-        if !is_faultless(decls, &directives[..i], directive) {
-            return false;
+    let first = FirstReading::new(Vec::new(alloc));
+    let mut before = DeclaredBefore::new(alloc);
+    for directive in directives {
+        if !is_faultless(decls, &first, &before, &directive) {
+            return Ok(false);
         }
+        before = before.behind(directive)?;
     }
-    true
+    Ok(true)
 }

@@ -3,6 +3,7 @@
 #![tactic(auto)]
 
 mod declaration;
+mod declared_before;
 mod declaring;
 mod faults;
 mod named;
@@ -11,5 +12,6 @@ mod names;
 pub use declaration::{
     AttrDecl, AttrDecls, AttrKind, BodyKind, TagDecl, VarDecl, VarDecls, VarScope, declared,
 };
+pub use declared_before::DeclaredBefore;
 pub use declaring::declare;
 pub use faults::{declaring_faults, is_good};

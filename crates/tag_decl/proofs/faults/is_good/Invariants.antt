@@ -1,6 +1,6 @@
-use Rattle.std.proofs.Common.{◌≡◌, [], drop, take}
+use Rattle.std.proofs.Common.{◌≡◌, []}
 use Rattle.tag_decl.specs.Faults.{are_good}
 use Rattle.tag_decl.proofs.faults.is_good.Given as goal
 
-abbrev pub invariant-loop-i : goal.invariant-loop-i
-invariant-loop-i l = are_good l.decls (take l.i l.directives) (drop l.i l.directives) ≡ are_good l.decls [] l.directives
+abbrev pub invariant-loop-directive : goal.invariant-loop-directive
+invariant-loop-directive l = are_good l.decls l.before l.directive-iterator.rest.items ≡ are_good l.decls [] l.fn.directives.items
