@@ -7,6 +7,7 @@ use Rattle.source_tree.specs.Edits.{after_edits}
 use Rattle.source_tree.specs.Order.{IsInOrder}
 use Rattle.edges.specs.declared.acted.Acted.TheVariants.{Did}
 use Rattle.pg_text.specs.Names.{AreInOrder, has_name}
+use Rattle.site_words.specs.declared.limits.TheConstants.{MAX_PASSES}
 use Rattle.site_words.specs.declared.words.Entry.{Entry}
 use Rattle.source_tree.specs.declared.need.Need.{Need}
 use Rattle.site_words.specs.declared.words.Op.{Op}
@@ -90,11 +91,11 @@ PromisesAreKept = (needs : Needs) (x : Opening) (history : List Entry) → sound
 
 -- sessions stay distinct, few and light, and those that are held are there
 abbrev pub SessionsAreGood : Type 0
-SessionsAreGood = (needs : Needs) (x : Opening) (history : List Entry) → x.passes ≤ 64 → sound_sessions x ≡ true → Legal needs x history → HasSessions x (after needs x history)
+SessionsAreGood = (needs : Needs) (x : Opening) (history : List Entry) → x.passes ≤ MAX_PASSES → sound_sessions x ≡ true → Legal needs x history → HasSessions x (after needs x history)
 
 -- a session is held by one request at most
 abbrev pub SessionsAreApart : Type 0
-SessionsAreApart = (needs : Needs) (x : Opening) (history : List Entry) → x.passes ≤ 64 → sound_sessions x ≡ true → Legal needs x history → AreApart (after needs x history).runs
+SessionsAreApart = (needs : Needs) (x : Opening) (history : List Entry) → x.passes ≤ MAX_PASSES → sound_sessions x ≡ true → Legal needs x history → AreApart (after needs x history).runs
 
 -- where no request is under way, a Begin is refused for want of room alone
 abbrev pub NeverBusyAlone : Type 0

@@ -6,6 +6,7 @@ use Rattle.pg_value.specs.Limits.{is_over}
 use Rattle.source_tree.specs.declared.file.File.{File}
 use Rattle.source_tree.specs.declared.fault.TreeFault.{TreeFault}
 use Rattle.source_tree.specs.Limits.{tree_fault}
+use Rattle.site_words.specs.declared.limits.TheConstants.{MAX_PASSES}
 use Rattle.site_words.specs.declared.words.KeptSession.{KeptSession}
 use Rattle.site_words.specs.declared.words.Opening.{Opening}
 use Rattle.site_words.specs.Sessions.{most_sessions}
@@ -29,7 +30,7 @@ is_sound_session x kept = nat_lt kept.number x.freshes && (nat_le kept.used x.mo
 
 -- there are 1 to 64 passes, and the counts are below 2^63
 abbrev pub sound_counts : Opening → Bool
-sound_counts x = nat_le 1 x.passes && (nat_le x.passes 64 && (nat_lt x.version (2 ^ 63) && (nat_lt x.begins (2 ^ 63) && nat_lt x.freshes (2 ^ 63))))
+sound_counts x = nat_le 1 x.passes && (nat_le x.passes MAX_PASSES && (nat_lt x.version (2 ^ 63) && (nat_lt x.begins (2 ^ 63) && nat_lt x.freshes (2 ^ 63))))
 
 -- the tree keeps its limits, and no stamp is later than the version
 abbrev pub sound_tree : Opening → Bool

@@ -1,6 +1,7 @@
 -- The sessions: a list of all, the free ones in the order of their last end.
 use Rattle.std.specs.Prelude.{ℕ, ◌-◌, max, Bool, false, not, ◌==◌, nat_lt, nat_le, List, [], ◌∷◌, ◌++◌, map, filter, length, Option, Some, None, if◌then◌else◌}
 use Rattle.pg_value.specs.Datum.{Datum}
+use Rattle.site_words.specs.declared.limits.TheConstants.{MAX_SESSIONS}
 use Rattle.site_words.specs.declared.words.KeptSession.{KeptSession}
 use Rattle.site_words.specs.declared.words.Run.{Run}
 use Rattle.site_words.specs.declared.words.Op.{Op}
@@ -12,7 +13,7 @@ use Rattle.site_words.specs.Runs.{UnderWay, session_in}
 
 -- how many sessions there are at most
 abbrev pub most_sessions : ℕ
-most_sessions = 4096
+most_sessions = MAX_SESSIONS
 
 -- the session whose id is the cookie
 abbrev pub session_at : List ℕ → List ℕ → List KeptSession → Option KeptSession

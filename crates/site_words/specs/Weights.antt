@@ -3,8 +3,10 @@ use Rattle.std.specs.Prelude.{ℕ, ◌+◌, ◌-◌, ◌^◌, min, nat_lt, lengt
 use Rattle.source_tree.specs.declared.edit.Edit.{Edit}
 use Rattle.source_tree.specs.declared.edit.Edit.TheVariants.{Put, Delete}
 use Rattle.pg_value.specs.Weight.{weight_of}
+use Rattle.pg_value.specs.declared.measures.TheConstants.{MAX_WEIGHT}
 use Rattle.pg_value.specs.Datum.{Datum, rec, entries_of}
 use Rattle.pg_value.specs.Value.{datum_of}
+use Rattle.site_words.specs.declared.limits.TheConstants.{END_WEIGHT, MAX_ATTRIBUTES_WEIGHT, MAX_COOKIE_BYTES, PROMISE}
 use Rattle.site_words.specs.declared.words.AppStep.{AppStep}
 use Rattle.site_words.specs.declared.words.AppStep.TheVariants as step
 use Rattle.site_words.specs.declared.words.AppReply.{AppReply}
@@ -24,23 +26,23 @@ weight_held n = if nat_lt n (2 ^ 64) then Some n else None
 
 -- the most bytes of a cookie
 abbrev pub most_cookie : ℕ
-most_cookie = 48
+most_cookie = MAX_COOKIE_BYTES
 
 -- what Begin promises a request
 abbrev pub promise : ℕ
-promise = 4325376
+promise = PROMISE
 
 -- what is kept of a promise for the request's end
 abbrev pub end_weight : ℕ
-end_weight = 65600
+end_weight = END_WEIGHT
 
 -- what a session's attributes weigh at most
 abbrev pub attrs_limit : ℕ
-attrs_limit = 65536
+attrs_limit = MAX_ATTRIBUTES_WEIGHT
 
 -- what a value that a step is told weighs at most
 abbrev pub value_limit : ℕ
-value_limit = 1048576
+value_limit = MAX_WEIGHT
 
 -- a text weighs 16 and its bytes
 abbrev pub text_weight : List ℕ → ℕ

@@ -7,6 +7,7 @@ mod copies;
 mod ids;
 pub mod laws;
 mod limits;
+mod pages;
 mod port;
 mod weights;
 mod words;
@@ -17,9 +18,10 @@ pub use copies::{copy_op, copy_reply, copy_step};
 pub use edges::Acted;
 pub use ids::word;
 pub use limits::{
-    COUNT_END, END_WEIGHT, MAX_ATTRIBUTES_WEIGHT, MAX_COOKIE_BYTES, MAX_PASSES, MAX_SESSIONS,
-    PROMISE,
+    COUNT_END, END_WEIGHT, MAX_ATTRIBUTES_WEIGHT, MAX_COOKIE_BYTES, MAX_PAGE_CHARGE, MAX_PASSES,
+    MAX_SESSIONS, PROMISE,
 };
+pub use pages::{is_page, page_charge};
 pub use port::{Begun, Fresh, Port, Published, Snapped};
 pub use weights::{
     answer_weight, entry_weight, is_over, op_weight, publishing_weight, reply_weight, step_weight,

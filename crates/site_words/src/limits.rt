@@ -20,3 +20,6 @@ pub const PROMISE: u64 = 4_325_376;
 
 /// The weight that is kept of a promise for the request's end.
 pub const END_WEIGHT: u64 = 65_600;
+
+/// What the run of a page with the longest path is charged: a Fetch and an Offer, each of 64, 16 and the path.
+pub const MAX_PAGE_CHARGE: u64 = 2_208;
