@@ -14,6 +14,7 @@ use Rattle.page_meaning.specs.Context.{Served, Paged, absent, plain, bad, good}
 use Rattle.page_meaning.specs.Faults.{Raise, page_fault_line, run_fault_line}
 use Rattle.page_meaning.specs.Includes.{page_run}
 use Rattle.page_meaning.specs.Meaning.{nodes_mean, below}
+use Rattle.page_meaning.specs.declared.limits.TheConstants.{LEVEL_LIMIT}
 use Rattle.page_meaning.specs.Page.{Page}
 use Rattle.page_meaning.specs.Response.{Answered, awaits, whole, plain_line, not_found, file_type, page_response, redirect_response}
 use Rattle.page_meaning.specs.State.{State}
@@ -65,7 +66,7 @@ chain_answer served at_fault status (suc n) left page params s =
 
 -- how many calls, includes, fragments and forwards may stand in one another
 unfoldable pub level_limit : ℕ
-level_limit = 100
+level_limit = LEVEL_LIMIT
 
 -- a page and its forwards from the first level on
 abbrev pub from_first_level : Served → OnFault → Status → Page → List Param → State → Answered

@@ -4,13 +4,14 @@ use Rattle.pg_text.specs.declared.place.Place.{Place}
 use Rattle.pg_value.specs.declared.fault.RunFault.TheVariants as fault
 use Rattle.site_words.specs.Law.{Answer}
 use Rattle.site_words.specs.declared.words.AppStep.{AppStep}
+use Rattle.page_meaning.specs.declared.limits.TheConstants.{CHARGE_LIMIT, VISIT_LIMIT}
 use Rattle.page_meaning.specs.State.{State, with_asked}
 use Rattle.site_words.specs.PageSteps.{app, fetch, step_charge, page_charge}
 use Rattle.page_meaning.specs.Went.{Went, Did, Well, Raised, Awaits, then_do, either}
 
 -- how many visits a request has
 unfoldable pub visit_limit : ℕ
-visit_limit = 1000000
+visit_limit = VISIT_LIMIT
 
 -- one more visit, or X18
 abbrev pub visit : Place → State → Did
@@ -22,7 +23,7 @@ visited place part s = then_do (visit place s) (λ u s1. part s1)
 
 -- from which charge on nothing more may be asked
 unfoldable pub charge_limit : ℕ
-charge_limit = 1048576
+charge_limit = CHARGE_LIMIT
 
 -- whether the charge lets nothing more be asked
 abbrev pub is_spent : State → Bool

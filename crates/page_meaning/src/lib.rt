@@ -2,5 +2,7 @@
 #![tactic(auto)]
 
 mod laws;
+mod limits;
 
 pub use laws::{depth, parts, requests};
+pub use limits::{CHARGE_LIMIT, LEVEL_LIMIT, VISIT_LIMIT};
