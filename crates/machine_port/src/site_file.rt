@@ -1,10 +1,10 @@
-ghost use Rattle.std.specs.Prelude.{◌≡◌, ◌||◌, IfOk, SomeIff};
+ghost use Rattle.std.specs.Prelude.{◌≡◌, IfOk, SomeIff};
 ghost use Rattle.machine_port.specs.Kinds.{is_page_kind};
 ghost use Rattle.site_words.specs.Running.{is_page};
 
 use pg_text::{PageFault, Path, Text};
 use run_world::Program;
-use site_words::Paged;
+use site_words::{Paged, is_page};
 use std::alloc::AllocError;
 use std::sync::Arc;
 
@@ -22,14 +22,6 @@ pub struct SiteFile {
     pub path: Path,
     pub what: Standing,
     ghost placed: { is_page path ≡ is_page_kind what },
-}
-
-// The path is that of a page.
-fn is_page(path: &Path) -> bool
-    ensures { result ≡ is_page path.now }
-{
-    let bytes = path.as_bytes();
-    bytes.ends_with(b".jsp") || bytes.ends_with(b".jspx")
 }
 
 impl Standing {

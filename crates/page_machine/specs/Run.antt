@@ -13,6 +13,7 @@ use Rattle.page_machine.specs.declared.running.RunEnd.{RunEnd}
 use Rattle.page_machine.specs.declared.running.RunEnd.TheVariants as ends
 use Rattle.page_meaning.specs.Growth.{state_of, Grows, IsOrdered}
 use Rattle.page_meaning.specs.State.{State}
+use Rattle.page_meaning.specs.declared.limits.TheConstants.{LEVEL_LIMIT, VISIT_LIMIT}
 use Rattle.page_meaning.specs.Went.{Did, Well, Raised, Ended, forwards, redirects}
 use Rattle.page_table.specs.Checked.{ServingFits}
 use Rattle.page_table.specs.Program.{Program, Serving, Stored}
@@ -25,12 +26,13 @@ use Rattle.site_words.specs.Running.{Asking}
 use Rattle.source_tree.specs.declared.file.File.{File}
 use Rattle.run_moves.specs.declared.flow.End.{End}
 use Rattle.run_moves.specs.declared.flow.End.TheVariants as machine_ends
+use Rattle.run_stage.specs.declared.limits.TheConstants.{MAX_CHARGE}
 use Rattle.run_stage.specs.Stage.{StoresSo}
 use Rattle.run_stage.specs.Standing.{session_weight}
 
 -- how many calls, includes, fragments and forwards may stand in one another
 abbrev pub level_limit : ℕ
-level_limit = 100
+level_limit = LEVEL_LIMIT
 
 -- what a port of this tree may tell of a path stands there, for this request and this error page's fault
 pub record Serves (made : machine_program.Program → List File → List ℕ → Type 0) (faulty : PageFault → List File → List ℕ → Type 0) (tree : List File) (served : Request) (around : Around)
@@ -76,8 +78,8 @@ pub record IsInOrder (scopes : ScopeState) (around : Around) (asking : Asking) :
   pub session : is_some scopes.session ≡ is_some around.id
   pub asked : asking.has_session ≡ is_some around.id
   pub weight : session_weight scopes.session ≤ max_session_weight
-  pub visits : around.visits ≤ 1000000
-  pub charge : around.charge ≤ 4200000
+  pub visits : around.visits ≤ VISIT_LIMIT
+  pub charge : around.charge ≤ MAX_CHARGE
 
 -- the end of a run as its caller sees it
 abbrev pub end_of : End → RunEnd

@@ -15,17 +15,15 @@ use crate::pages::page_run;
 use edges::Sink;
 use http_in::{Param, Request};
 use out_buffer::Writer;
+use page_meaning::LEVEL_LIMIT;
 use pg_text::{Listed, Path, Place, Text};
 use pg_value::RunFault;
 use run_moves::End;
-use run_stage::Stage;
+use run_stage::{RUN_PROMISE, Stage};
 use run_world::{Around, Program, Raise, Served, World};
 use scopes::Scopes;
 use site_words::AppPort;
 use std::alloc::Global;
-
-// How many calls, includes, fragments and forwards may stand in one another.
-const LEVEL_LIMIT: u32 = 100;
 
 /// How a page run ends.
 #[derive(Drop)]
@@ -53,7 +51,7 @@ pub fn run<P: AppPort<Program>, K: Sink>(
     port: &mut P,
 ) -> RunEnd
     requires in_order { IsInOrder scopes.old around.old (P.asking port.old) }
-    requires promise { 4320000 ≤ around.old.charge + (P.asking port.old).left }
+    requires promise { RUN_PROMISE ≤ around.old.charge + (P.asking port.old).left }
     requires served { IsServed P.made P.faulty (P.tree port.old) request.now around.old }
     requires writer { (start : Option (List ℕ)) × (before : ℕ) × (written : Written) × Stands start before writer.old (K.taken sink.old) (K.faults sink.old) written }
     ensures ran { (serving : Serving) → Serves P.made P.faulty (P.tree port.old) request.now around.old serving → (origin : Origin) (s : State) → StandsFor origin scopes.old writer.old (K.taken sink.old) (K.faults sink.old) around.old (P.asking port.old) s

@@ -15,6 +15,7 @@ use http_in::{Param, Request};
 use out_buffer::Writer;
 use page_lowering::programs;
 use page_machine::{RunEnd, run};
+use run_stage::RUN_PROMISE;
 use run_world::{Around, Program};
 use scopes::Scopes;
 use site_words::AppPort;
@@ -34,7 +35,7 @@ pub fn play<P: AppPort<Program>, K: Sink>(
 ) -> RunEnd
     requires tells { TellsPages P.made P.faulty }
     requires in_order { IsInOrder scopes.old around.old (P.asking port.old) }
-    requires promise { 4320000 ≤ around.old.charge + (P.asking port.old).left }
+    requires promise { RUN_PROMISE ≤ around.old.charge + (P.asking port.old).left }
     requires writer { (start : Option (List ℕ)) × (before : ℕ) × (written : Written) × Stands start before writer.old (K.taken sink.old) (K.faults sink.old) written }
     ensures meant { (path : List ℕ) → IsProgramOf program.now (P.tree port.old) path → (page : Page) → IsPageAt page (P.tree port.old) path
         → (origin : Origin) (s : State) → StandsFor origin scopes.old writer.old (K.taken sink.old) (K.faults sink.old) around.old (P.asking port.old) s

@@ -14,6 +14,7 @@ use Rattle.page_meaning.specs.Went.{Did}
 use Rattle.request_pages.specs.Gone.{IsOpen, TargetSo, gone_answer}
 use Rattle.request_pages.specs.Within.{sent_head}
 use Rattle.request_pages.specs.declared.reply.Gone.{Gone}
+use Rattle.run_stage.specs.declared.limits.TheConstants.{RUN_PROMISE}
 use Rattle.run_world.specs.Part.{given}
 use Rattle.run_world.specs.declared.around.Around.{Around}
 use Rattle.site_words.specs.Law.{Answer}
@@ -25,7 +26,7 @@ session_claim id = if is_some id then 0 else 64
 
 -- the charge and what is left of the promise cover all that may still be asked
 abbrev pub IsFunded : Around → Asking → Type 0
-IsFunded around asking = 4320000 + session_claim around.id ≤ around.charge + asking.left
+IsFunded around asking = RUN_PROMISE + session_claim around.id ≤ around.charge + asking.left
 
 -- a page's run answers as it ended, whatever answers are still to come; without memory it went no further than the page goes, behind the
 -- head of what answers

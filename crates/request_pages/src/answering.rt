@@ -25,9 +25,11 @@ use edges::{Ledger, Sink};
 use http_in::Request;
 use http_out::Status;
 use page_made::Made;
+use page_meaning::LEVEL_LIMIT;
 use pg_text::Path;
 use request_port::RequestPort;
 use response_laws::responses;
+use run_stage::MAX_ASKED_CHARGE;
 use run_world::Program;
 use site_words::{Paged, Port};
 use std::alloc::{AllocError, Global};
@@ -90,7 +92,7 @@ fn first_page<'a, Q: Port<Made>, L: Ledger, K: Sink>(
     requires in_order { IsInOrder course.old.scopes course.old.around (asking_over Q.opening Q.pass Q.seen port.old) }
     requires funded { IsFunded course.old.around (asking_over Q.opening Q.pass Q.seen port.old) }
     requires depth { course.old.around.depth ≡ 0 }
-    requires charge { course.old.around.charge ≤ 4197000 }
+    requires charge { course.old.around.charge ≤ MAX_ASKED_CHARGE }
     requires last { IsLast port.old.tree.now port.old.last }
     requires known { (page : Page) × (path : List ℕ) × (origin : Origin) × (s : State) × IsProgramOf (arc_value program) port.old.tree.now path × IsPageAt page port.old.tree.now path
         × StandsFor origin course.old.scopes course.old.writer (K.taken sink.old) (K.faults sink.old) course.old.around (asking_over Q.opening Q.pass Q.seen port.old) s }
@@ -108,7 +110,17 @@ fn first_page<'a, Q: Port<Made>, L: Ledger, K: Sink>(
         close,
         shown,
     };
-    match run_chain(alloc, program, request, None, way, 100, course, sink, port) {
+    match run_chain(
+        alloc,
+        program,
+        request,
+        None,
+        way,
+        LEVEL_LIMIT,
+        course,
+        sink,
+        port,
+    ) {
         Err(AllocError) => Err(AllocError),
         Ok(ChainEnd::Done(reply)) => Ok(reply),
         Ok(ChainEnd::Failed(failure)) => {

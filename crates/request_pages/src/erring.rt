@@ -24,8 +24,10 @@ use edges::{Ledger, Sink};
 use http_in::Request;
 use http_out::Status;
 use page_made::Made;
+use page_meaning::LEVEL_LIMIT;
 use request_port::RequestPort;
 use response_laws::responses;
+use run_stage::MAX_ASKED_CHARGE;
 use site_words::{Paged, Port};
 use std::alloc::{AllocError, Global};
 
@@ -44,7 +46,7 @@ pub(crate) fn run_error<'a, Q: Port<Made>, L: Ledger, K: Sink>(
     requires headed { IsHeaded way.close way.shown course.old.around course.old.writer }
     requires in_order { IsInOrder course.old.scopes course.old.around (asking_over Q.opening Q.pass Q.seen port.old) }
     requires funded { IsFunded course.old.around (asking_over Q.opening Q.pass Q.seen port.old) }
-    requires charge { course.old.around.charge ≤ 4197000 }
+    requires charge { course.old.around.charge ≤ MAX_ASKED_CHARGE }
     requires last { IsLast port.old.tree.now port.old.last }
     requires known { (page : Page) × (path : List ℕ) × (origin : Origin) × (s : State) × IsProgramOf (arc_value failure.program) port.old.tree.now path × IsPageAt page port.old.tree.now path
         × StandsFor origin course.old.scopes course.old.writer (K.taken sink.old) (K.faults sink.old) course.old.around (asking_over Q.opening Q.pass Q.seen port.old) s × (s.writer.pieces ≡ []) }
@@ -79,7 +81,17 @@ pub(crate) fn run_error<'a, Q: Port<Made>, L: Ledger, K: Sink>(
             course.around.exception = Some(raise);
             course.around.visits = 0;
             course.around.depth = 0;
-            match run_chain(alloc, target, request, own, way, 100, course, sink, port) {
+            match run_chain(
+                alloc,
+                target,
+                request,
+                own,
+                way,
+                LEVEL_LIMIT,
+                course,
+                sink,
+                port,
+            ) {
                 Err(AllocError) => Err(AllocError),
                 Ok(ChainEnd::Done(reply)) => Ok(reply),
                 Ok(ChainEnd::Failed(_)) => Ok(line),

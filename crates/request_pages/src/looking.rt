@@ -10,11 +10,11 @@ ghost use Rattle.request_pages.specs.Looked.{LookedSo};
 ghost use Rattle.request_pages.specs.Played.{IsFunded};
 ghost use Rattle.run_world.specs.Origin.{Origin};
 ghost use Rattle.scopes.specs.Scopes.{ScopeState};
-ghost use Rattle.site_words.specs.PageSteps.{page_charge};
 
 use pg_text::{Failure, Path, resolve};
+use run_stage::MAX_ASKED_CHARGE;
 use run_world::{Around, Program};
-use site_words::{AppPort, Paged};
+use site_words::{AppPort, MAX_PAGE_CHARGE, Paged, page_charge};
 use std::alloc::{AllocError, Global};
 
 /// Looks what stands at a path. A page is charged, and so is one with a fault.
@@ -23,13 +23,13 @@ pub(crate) fn look<P: AppPort<Program>>(
     around: &mut Around,
     port: &mut P,
 ) -> Result<Paged<Program>, AllocError>
-    requires charge { around.old.charge ≤ 4197000 }
+    requires charge { around.old.charge ≤ MAX_ASKED_CHARGE }
     requires funded { IsFunded around.old (P.asking port.old) }
     ensures looked { (origin : Origin) (scopes : ScopeState) (held : Held) (taken : Option (List ℕ)) (faults : ℕ) (s : State) → StandsFor origin scopes held taken faults around.old (P.asking port.old) s
         → LookedSo P.made P.faulty (P.tree port.old) path.now (StandsFor origin scopes held taken faults around.new (P.asking port.new)) s (P.asking port.old) (P.asking port.new) result }
     ensures in_order { (scopes : ScopeState) → IsInOrder scopes around.old (P.asking port.old) → OnOk result (IsInOrder scopes around.new (P.asking port.new)) }
     ensures funded { OnOk result (IsFunded around.new (P.asking port.new)) }
-    ensures charge { around.new.charge ≤ around.old.charge + 2208 }
+    ensures charge { around.new.charge ≤ around.old.charge + MAX_PAGE_CHARGE }
     ensures around { around.new ≡ record around.old { charge = around.new.charge } }
     ensures tree { P.tree port.new ≡ P.tree port.old }
     ensures leads { P.leads port.old port.new }
@@ -45,14 +45,6 @@ pub(crate) fn look<P: AppPort<Program>>(
         Paged::Absent => (),
     }
     Ok(found)
-}
-
-// What the run of a page is charged: its Fetch and its Offer.
-fn page_charge(path: &Path) -> u64
-    ensures charge { result ≡ page_charge path.now }
-    ensures short { result ≤ 2208 }
-{
-    160 + 2 * path.as_bytes().len() as u64
 }
 
 // The path of a page's error page, where it has one and that names a path.

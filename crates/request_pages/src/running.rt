@@ -21,6 +21,7 @@ use page_machine::RunEnd;
 use page_meaning::{depth, parts};
 use page_serving::play;
 use pg_text::Bytes;
+use run_stage::RUN_PROMISE;
 use run_world::{Program, Raise};
 use site_words::AppPort;
 use std::alloc::{AllocError, Global};
@@ -37,7 +38,7 @@ pub(crate) fn run_page<P: AppPort<Program>, K: Sink>(
 ) -> Result<Gone, AllocError>
     requires tells { TellsPages P.made P.faulty }
     requires in_order { IsInOrder course.old.scopes course.old.around (P.asking port.old) }
-    requires promise { 4320000 ≤ course.old.around.charge + (P.asking port.old).left }
+    requires promise { RUN_PROMISE ≤ course.old.around.charge + (P.asking port.old).left }
     requires writer { (start : Option (List ℕ)) × (before : ℕ) × (written : Wrote) × Stands start before course.old.writer (K.taken sink.old) (K.faults sink.old) written }
     ensures gone { (path : List ℕ) → IsProgramOf program.now (P.tree port.old) path → (page : Page) → IsPageAt page (P.tree port.old) path
         → (origin : Origin) (s : State) → StandsFor origin course.old.scopes course.old.writer (K.taken sink.old) (K.faults sink.old) course.old.around (P.asking port.old) s

@@ -1,10 +1,10 @@
 use crate::finding::find;
-use crate::telling::{is_page, paged, tell};
+use crate::telling::{paged, tell};
 use edges::{Ledger, Steps};
 use page_made::Made;
 use pg_text::Path;
 use run_world::Program;
-use site_words::{AppPort, AppReply, AppStep, Fresh, Paged, Port};
+use site_words::{AppPort, AppReply, AppStep, Fresh, Paged, Port, is_page};
 use source_tree::Tree;
 use std::alloc::{AllocError, Global};
 use std::sync::Arc;

@@ -1,9 +1,9 @@
 // What is told of a page that was found.
-ghost use Rattle.std.specs.Prelude.{◌≡◌, ℕ, List, IfOk};
+ghost use Rattle.std.specs.Prelude.{ℕ, List, IfOk};
 ghost use Rattle.std.specs.Arc.{arc_value};
 ghost use Rattle.page_made.specs.Made.{IsBodyOf, IsFaultOf, IsMade, IsProgramOf};
 ghost use Rattle.request_port.specs.Leading.{IsLast};
-ghost use Rattle.site_words.specs.Running.{IsPageFile, IsPaged, is_page};
+ghost use Rattle.site_words.specs.Running.{IsPageFile, IsPaged};
 ghost use Rattle.source_tree.specs.Edits.{file_at};
 ghost use Rattle.source_tree.specs.declared.file.File.{File};
 
@@ -13,14 +13,6 @@ use run_world::Program;
 use site_words::Paged;
 use std::alloc::AllocError;
 use std::sync::Arc;
-
-/// Whether the path is that of a page.
-pub(crate) fn is_page(path: &Path) -> bool
-    ensures { result ≡ is_page path.now }
-{
-    let bytes = path.as_bytes();
-    bytes.ends_with(b".jsp") || bytes.ends_with(b".jspx")
-}
 
 /// A page that was found at a path, which is kept as the last one.
 pub(crate) fn tell(

@@ -6,6 +6,8 @@ use Rattle.run_world.specs.Programs.{stored_of}
 use Rattle.run_stage.specs.Standing.{HasCharged, KeepsResponse, KeepsSession, session_weight}
 use Rattle.run_world.specs.declared.program.Program.{Program}
 use Rattle.run_stage.specs.declared.stage.Stage.{Stage}
+use Rattle.run_stage.specs.declared.limits.TheConstants.{MAX_CHARGE, RUN_PROMISE, SESSION_RUN_PROMISE}
+use Rattle.page_meaning.specs.declared.limits.TheConstants.{VISIT_LIMIT}
 use Rattle.page_meaning.specs.Growth.{IsOrdered}
 use Rattle.page_meaning.specs.State.{State}
 use Rattle.page_table.specs.Program.{Stored, absent, plain, bad, good}
@@ -62,7 +64,7 @@ pub record Covered (attributes : Option Entries) (id : Option (List ℕ)) (visit
   pub session : is_some attributes ≡ is_some id
   pub asked : asking.has_session ≡ is_some id
   pub weight : session_weight attributes ≤ max_session_weight
-  pub visits : visited ≤ 1000000
-  pub charge : charged ≤ 4200000
-  pub promise : 4319936 ≤ charged + asking.left
-  pub before : is_some id ≡ false → 4320000 ≤ charged + asking.left
+  pub visits : visited ≤ VISIT_LIMIT
+  pub charge : charged ≤ MAX_CHARGE
+  pub promise : SESSION_RUN_PROMISE ≤ charged + asking.left
+  pub before : is_some id ≡ false → RUN_PROMISE ≤ charged + asking.left

@@ -2,6 +2,7 @@
 use Rattle.std.specs.Prelude.{◌≡◌, ◌⊎◌, ◌+◌, ◌≤◌, ℕ, List, Bool, true, false, Option, Some, None, is_some}
 use Rattle.http_out.specs.declared.head.Head.{Head}
 use Rattle.out_buffer.specs.Held.{Held}
+use Rattle.run_stage.specs.declared.limits.TheConstants.{MAX_ASKED_CHARGE}
 use Rattle.run_world.specs.declared.around.Around.{Around}
 use Rattle.pg_value.specs.Datum.{rec, entries_of}
 use Rattle.pg_value.specs.Weight.{weight_of}
@@ -20,7 +21,7 @@ fresh_claim before now = 0
 
 -- the charge is as it was or below its limit, and the promise fell by no more than the charge rose, but for a session that the run made
 pub record HasCharged (old new : Around) (before now : Asking) : Type 0 where
-  pub charge : (new.charge ≡ old.charge) ⊎ (new.charge ≤ 4197000)
+  pub charge : (new.charge ≡ old.charge) ⊎ (new.charge ≤ MAX_ASKED_CHARGE)
   pub promise : old.charge + before.left ≤ new.charge + now.left + fresh_claim (is_some old.id) (is_some new.id)
 
 -- a session that was there is there still, and it is known as before whether its request made it

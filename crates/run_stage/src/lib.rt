@@ -2,6 +2,8 @@
 #![tactic(auto)]
 
 mod charges;
+mod limits;
 mod stage;
 
+pub use limits::{MAX_ASKED_CHARGE, MAX_CHARGE, RUN_PROMISE, SESSION_RUN_PROMISE};
 pub use stage::Stage;

@@ -2,18 +2,16 @@
 ghost use Rattle.std.specs.Prelude.{◌≡◌, ◌<◌, ◌≤◌, ℕ, length, take};
 ghost use Rattle.scopes.specs.Scopes.{ScopeState};
 
-use crate::charges::{is_refused, is_spent, look_charge, weighed_reply, weighed_step};
+use crate::charges::{entry_weight, is_refused, is_spent, look_charge};
 use edges::Sink;
 use out_buffer::Writer;
+use page_meaning::VISIT_LIMIT;
 use pg_text::{Failure, Path, Text};
 use pg_value::{Attrs, RunFault, Value};
 use run_world::{Around, Program, World};
 use scopes::{HeldScope, Scopes};
-use site_words::{AppPort, AppReply, AppStep, Paged};
+use site_words::{AppPort, AppReply, AppStep, Paged, answer_weight};
 use std::alloc::AllocError;
-
-// How many visits a request has.
-const VISIT_LIMIT: u32 = 1_000_000;
 
 /// What a page run is lent: its variables, its writer with the sink, what its request keeps across page runs, and the port to the site.
 #[derive(Drop)]
@@ -135,8 +133,9 @@ impl<'a, P: AppPort<Program>, K: Sink> World for Stage<'a, P, K> {
         if is_spent(self.around.charge) {
             return Err(Failure::Fault(RunFault::AppTooMuch));
         }
-        let (step, asked) = weighed_step(step);
-        let (reply, told) = weighed_reply(self.port.app(step)?);
+        let asked = entry_weight(&step);
+        let reply = self.port.app(step)?;
+        let told = answer_weight(&reply);
         self.around.charge += asked + told;
         Ok(reply)
     }

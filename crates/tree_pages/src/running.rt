@@ -20,6 +20,7 @@ use page_machine::RunEnd;
 use page_made::{Made, MadeBody};
 use page_serving::play;
 use pg_text::{PageFault, Path};
+use run_stage::RUN_PROMISE;
 use run_world::{Around, Program};
 use scopes::Scopes;
 use site_words::AppPort;
@@ -54,7 +55,7 @@ pub fn run_at<P: AppPort<Program>, K: Sink, L: Ledger>(
     requires tree { P.tree port.old ≡ tree.now }
     requires tells { TellsPages P.made P.faulty }
     requires in_order { IsInOrder scopes.old around.old (P.asking port.old) }
-    requires promise { 4320000 ≤ around.old.charge + (P.asking port.old).left }
+    requires promise { RUN_PROMISE ≤ around.old.charge + (P.asking port.old).left }
     requires writer { (start : Option (List ℕ)) × (before : ℕ) × (written : Written) × Stands start before writer.old (K.taken sink.old) (K.faults sink.old) written }
     ensures meant { ComesSo tree.now path.now (λ page end. (origin : Origin) (s : State) → StandsFor origin scopes.old writer.old (K.taken sink.old) (K.faults sink.old) around.old (P.asking port.old) s
         → PageMeant (served_at tree.now request.now around.old) page params.now (level_limit - around.old.depth) (StandsFor origin scopes.new writer.new (K.taken sink.new) (K.faults sink.new) around.new (P.asking port.new)) s (P.asking port.old).answers (P.asking port.new).answers around.new.depth end) result }

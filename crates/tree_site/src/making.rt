@@ -1,7 +1,7 @@
 // What stands at the paths of a tree.
 ghost use Rattle.std.specs.Prelude.{◌≡◌, ◌<◌, IfOk, IsSome};
 ghost use Rattle.page_made.specs.Made.{IsFaultOf, IsMade, IsProgramOf};
-ghost use Rattle.site_words.specs.Running.{IsPaged, is_page};
+ghost use Rattle.site_words.specs.Running.{IsPaged};
 ghost use Rattle.source_tree.specs.Limits.{IsWithinLimits};
 ghost use Rattle.tree_site.specs.Told.{body_told};
 ghost use Rattle.unit_source.specs.Files.{text_in};
@@ -10,7 +10,7 @@ use edges::{Steps, Unseen};
 use page_made::{Made, MadeBody};
 use pg_text::Path;
 use run_world::Program;
-use site_words::Paged;
+use site_words::{Paged, is_page};
 use source_tree::Tree;
 use std::alloc::{AllocError, Global};
 use std::marker::Brand;
@@ -48,14 +48,6 @@ pub fn paged(alloc: Global, tree: &Tree, path: &Path) -> Result<Paged<Program>, 
     }
     let made = uncounted::<Brand>(alloc, Blank::new(1), tree, path)?;
     Ok(told(made.body))
-}
-
-// The path is that of a page.
-fn is_page(path: &Path) -> bool
-    ensures { result ≡ is_page path.now }
-{
-    let bytes = path.as_bytes();
-    bytes.ends_with(b".jsp") || bytes.ends_with(b".jspx")
 }
 
 // What is made of a page, as a port tells it.
