@@ -1,14 +1,15 @@
 // Replies of which nothing is committed before they are written.
-ghost use Rattle.std.specs.Prelude.{◌≡◌, ◌++◌, Some, None, codes, decimal, IfOk, OnOk};
+ghost use Rattle.std.specs.Prelude.{◌≡◌, ◌++◌, Some, None, codes, IfOk};
 ghost use Rattle.http_out.specs.Head.{plain_type};
-ghost use Rattle.page_meaning.specs.Faults.{page_fault_line, place_text, run_fault_line};
+ghost use Rattle.page_meaning.specs.Faults.{page_fault_line, run_fault_line};
 ghost use Rattle.page_meaning.specs.Response.{file_type};
 ghost use Rattle.run_world.specs.Seats.{raise_of};
 
 use crate::reply::Reply;
 use fault_line::page_fault_line;
 use http_out::{PLAIN_TYPE, Status};
-use pg_text::{Bytes, PageFault, Path, Place, Text};
+use pg_text::{Bytes, PageFault, Path, Text};
+use run_values::run_fault_line;
 use run_world::Raise;
 use std::alloc::{AllocError, Global};
 
@@ -80,36 +81,6 @@ pub(crate) fn page_fault(alloc: Global, fault: &PageFault) -> Result<Reply, Allo
 pub(crate) fn run_fault(alloc: Global, raise: &Raise) -> Result<Reply, AllocError>
     ensures { IfOk result (λ told. told ≡ Reply.Whole Status.InternalServerError (Some plain_type) None (run_fault_line (raise_of raise.now) ++ codes "\n")) }
 {
-    let line = run_fault_line(alloc, raise)?;
-    plain(alloc, Status::InternalServerError, &line)
-}
-
-// A run's fault as `X3 ZeroDivisor /a.jsp:1:7`.
-fn run_fault_line(alloc: Global, raise: &Raise) -> Result<Vec<u8>, AllocError>
-    ensures { IfOk result (λ line. line.items ≡ run_fault_line (raise_of raise.now)) }
-{
-    let mut line = Vec::from_slice(alloc, b"X")?;
-    push_number(alloc, &mut line, u32::from(raise.fault.number()))?;
-    line.extend_from_slice(b" ")?;
-    line.extend_from_slice(raise.fault.name().as_bytes())?;
-    line.extend_from_slice(b" ")?;
-    push_place(alloc, &mut line, &raise.place)?;
-    Ok(line)
-}
-
-// Adds a place as `/a.jsp:1:7`.
-fn push_place(alloc: Global, line: &mut Vec<u8>, place: &Place) -> Result<(), AllocError>
-    ensures { OnOk result (line.new.items ≡ line.old.items ++ place_text place.now) }
-{
-    line.extend_from_slice(place.file.as_bytes())?;
-    line.extend_from_slice(b":")?;
-    push_number(alloc, line, place.line)?;
-    line.extend_from_slice(b":")?;
-    push_number(alloc, line, place.column)
-}
-
-fn push_number(alloc: Global, line: &mut Vec<u8>, number: u32) -> Result<(), AllocError>
-    ensures { OnOk result (line.new.items ≡ line.old.items ++ decimal number) }
-{
-    line.extend_from_slice(number.to_string(alloc)?.as_bytes())
+    let line = run_fault_line(alloc, raise.fault, &raise.place)?;
+    plain(alloc, Status::InternalServerError, line.as_bytes())
 }

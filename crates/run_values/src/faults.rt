@@ -22,7 +22,7 @@ pub fn fault_record(alloc: Global, fault: RunFault, place: &Place) -> Result<Val
         alloc,
         &mut entries,
         "message",
-        Value::Text(fault_line(alloc, fault, place)?),
+        Value::Text(run_fault_line(alloc, fault, place)?),
     )?;
     record(entries)
 }
@@ -34,8 +34,8 @@ fn fault_code(alloc: Global, fault: RunFault) -> Result<Text, AllocError>
     Text::new(format!(in alloc; "X{}", fault.number())?)
 }
 
-// The line of a fault.
-fn fault_line(alloc: Global, fault: RunFault, place: &Place) -> Result<Text, AllocError>
+/// The line of a fault, as `X3 ZeroDivisor /p.jsp:1:7`.
+pub fn run_fault_line(alloc: Global, fault: RunFault, place: &Place) -> Result<Text, AllocError>
     ensures { IfOk result (λ made. made ≡ run_fault_line (record { fault = fault; place = place.now })) }
 {
     let mut line = fault_code(alloc, fault)?.into_string()?;

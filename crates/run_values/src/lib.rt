@@ -18,7 +18,7 @@ mod values;
 
 pub use addresses::{params_in, url};
 pub use cookies::cookie_records;
-pub use faults::fault_record;
+pub use faults::{fault_record, run_fault_line};
 pub use loop_values::table_of;
 pub use loops::{rounds_of, status_record};
 pub use properties::{
