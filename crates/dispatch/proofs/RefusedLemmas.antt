@@ -9,7 +9,8 @@ use Rattle.http_out.specs.Full.{full_line}
 use Rattle.http_out.specs.Response.{plain}
 use Rattle.http_out.specs.Sent.{Sent}
 use Rattle.http_out.specs.declared.status.Status.TheVariants as status
-use Rattle.page_answers.specs.Answers.{Answers, shows_body, takes_method}
+use Rattle.page_answers.specs.Answers.{Answers}
+use Rattle.http_out.specs.Methods.{shows_body, takes_method}
 use Rattle.page_answers.specs.Dropped.{Drops}
 use Rattle.page_answers.specs.Standing.{Standing}
 use Rattle.site_words.specs.Answers.{IsFull}
@@ -41,30 +42,30 @@ module _ (needs : Needs) (x : Opening) (pass : ℕ) (request : Request) (close :
   full_drops = drops_taken needs x pass request close old [] new taken (record { moment = away.moment; told = away.told; done = inl (record { stays = away.stays; read = away.read; text_is = refl }) })
 
   module _ (weight promised : ℕ) (is : refusal ≡ refusal_is.JournalFull weight promised) where
-    pub full_answers : Answers needs x pass request close old (plain status.ServiceUnavailable close (full_line weight promised) (shows_body request)) false new
+    pub full_answers : Answers needs x pass request close old (plain status.ServiceUnavailable close (full_line weight promised) (shows_body request.method)) false new
     full_answers =
-        answers_taken needs x pass request close old (plain status.ServiceUnavailable close (full_line weight promised) (shows_body request)) false new taken
+        answers_taken needs x pass request close old (plain status.ServiceUnavailable close (full_line weight promised) (shows_body request.method)) false new taken
         (record { moment = away.moment; told = away.told; done = inr (record { stays = away.stays; weight = weight; promised = promised; refused = rw is at away.refused; read = away.read; text_is = refl; broken_is = refl }) })
 
-    sent_full : (before now : Option (List ℕ)) (line : List ℕ) (shown failed : Bool) → line ≡ full_line weight promised → shown ≡ shows_body request → Sent before now (plain status.ServiceUnavailable close line shown) failed
-        → Sent before now (plain status.ServiceUnavailable close (full_line weight promised) (shows_body request)) failed
+    sent_full : (before now : Option (List ℕ)) (line : List ℕ) (shown failed : Bool) → line ≡ full_line weight promised → shown ≡ shows_body request.method → Sent before now (plain status.ServiceUnavailable close line shown) failed
+        → Sent before now (plain status.ServiceUnavailable close (full_line weight promised) (shows_body request.method)) failed
     sent_full before now line shown failed line_is shown_is sent = rw (line_is, shown_is) at sent
 
     -- the line was sent whole
-    pub full_served : (before now : Option (List ℕ)) (line : List ℕ) (shown failed : Bool) → line ≡ full_line weight promised → shown ≡ shows_body request → failed ≡ false
+    pub full_served : (before now : Option (List ℕ)) (line : List ℕ) (shown failed : Bool) → line ≡ full_line weight promised → shown ≡ shows_body request.method → failed ≡ false
         → Sent before now (plain status.ServiceUnavailable close line shown) failed → IsServed (λ (close : Bool) (old : Standing) (e : Exchange) (new : Standing). Answers needs x pass e.request close old e.text e.broken new) close request false old new before now
     full_served before now line shown failed line_is shown_is whole sent = record {
-      text = plain status.ServiceUnavailable close (full_line weight promised) (shows_body request);
+      text = plain status.ServiceUnavailable close (full_line weight promised) (shows_body request.method);
       served = full_answers;
-      written = subst (Sent before now (plain status.ServiceUnavailable close (full_line weight promised) (shows_body request))) whole (sent_full before now line shown failed line_is shown_is sent);
+      written = subst (Sent before now (plain status.ServiceUnavailable close (full_line weight promised) (shows_body request.method))) whole (sent_full before now line shown failed line_is shown_is sent);
     }
 
     -- or in part
-    pub full_in_part : (before now : Option (List ℕ)) (line : List ℕ) (shown failed : Bool) → line ≡ full_line weight promised → shown ≡ shows_body request → failed ≡ true
+    pub full_in_part : (before now : Option (List ℕ)) (line : List ℕ) (shown failed : Bool) → line ≡ full_line weight promised → shown ≡ shows_body request.method → failed ≡ true
         → Sent before now (plain status.ServiceUnavailable close line shown) failed → IsServedInPart (λ (close : Bool) (old : Standing) (e : Exchange) (new : Standing). Answers needs x pass e.request close old e.text e.broken new) close request old new before now
     full_in_part before now line shown failed line_is shown_is part sent = record {
-      text = plain status.ServiceUnavailable close (full_line weight promised) (shows_body request);
+      text = plain status.ServiceUnavailable close (full_line weight promised) (shows_body request.method);
       broken = false;
       served = full_answers;
-      sent = subst (Sent before now (plain status.ServiceUnavailable close (full_line weight promised) (shows_body request))) part (sent_full before now line shown failed line_is shown_is sent);
+      sent = subst (Sent before now (plain status.ServiceUnavailable close (full_line weight promised) (shows_body request.method))) part (sent_full before now line shown failed line_is shown_is sent);
     }

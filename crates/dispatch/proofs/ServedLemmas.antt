@@ -4,7 +4,8 @@ use Rattle.std.specs.Bool.{MatchBool}
 use Rattle.conversation.specs.Served.{IsStarved}
 use Rattle.http_in.specs.declared.request.Request.{Request}
 use Rattle.http_out.proofs.SentLemmas.{sent_none}
-use Rattle.page_answers.specs.Answers.{Answers, IsAnswered, IsNotTaken, IsRefused, takes_method}
+use Rattle.page_answers.specs.Answers.{Answers, IsAnswered, IsNotTaken, IsRefused}
+use Rattle.http_out.specs.Methods.{takes_method}
 use Rattle.page_answers.specs.Dropped.{Drops, IsDropped, IsUnbegun}
 use Rattle.page_answers.specs.Standing.{AtMoment, Standing}
 use Rattle.site_words.specs.Trees.{Needs}

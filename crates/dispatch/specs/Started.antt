@@ -7,7 +7,8 @@ use Rattle.conversation.specs.declared.desk.Outcome.{Outcome}
 use Rattle.edges.specs.Clock.{Answers as Tells, Moments}
 use Rattle.http_in.specs.declared.request.Request.{Request}
 use Rattle.http_out.specs.declared.head.Head.{Head}
-use Rattle.page_answers.specs.Answers.{Answers, shows_body, takes_method}
+use Rattle.page_answers.specs.Answers.{Answers}
+use Rattle.http_out.specs.Methods.{shows_body, takes_method}
 use Rattle.page_answers.specs.Dropped.{Drops}
 use Rattle.page_answers.specs.Standing.{Begins, Standing, session_found, standing_of, tree_at}
 use Rattle.page_answers.specs.Turns.{Turn, all_bytes, all_calls, answers_of, are_whole_but_last, is_whole, steps_of}
@@ -73,7 +74,7 @@ pub record HasBegun (x : Opening) (pass : ℕ) (old : Standing) (moments : Momen
   pub tree : p.tree ≡ tree_at needs_at x p.begun
   pub found : p.found ≡ session_found needs_at x p.request.cookie p.begun begins.session
   pub steps : p.steps ≡ old.steps
-  pub shown : p.shown ≡ shows_body p.request
+  pub shown : p.shown ≡ shows_body p.request.method
   pub takes : takes_method p.request.method ≡ true
 
 -- what came of it by the outcome: the pass has seen this then, so much was read, and the sink has taken this

@@ -4,7 +4,8 @@ ghost use Rattle.conversation.specs.Served.{Served};
 ghost use Rattle.dispatch.specs.Refused.{IsTurnedAway};
 ghost use Rattle.edges.specs.Faults.{Rose};
 ghost use Rattle.http_out.specs.Full.{full_line};
-ghost use Rattle.page_answers.specs.Answers.{Answers, shows_body, takes_method};
+ghost use Rattle.page_answers.specs.Answers.{Answers};
+ghost use Rattle.http_out.specs.Methods.{shows_body, takes_method};
 ghost use Rattle.page_answers.specs.Dropped.{Drops};
 ghost use Rattle.page_answers.specs.Standing.{Standing};
 ghost use Rattle.site_words.specs.Answers.{IsFull};
@@ -85,7 +86,7 @@ fn line_of(alloc: Global, refusal: &Refusal) -> Result<Vec<u8>, AllocError>
 
 // The body of the response is shown.
 pub(crate) fn shows_body(request: &Request) -> bool
-    ensures { result ≡ shows_body request.now }
+    ensures { result ≡ shows_body request.now.method }
 {
     http_out::shows_body(request.method.as_bytes())
 }

@@ -12,7 +12,7 @@ ghost use Rattle.edges.specs.Faults.{Rose};
 ghost use Rattle.edges.specs.declared.acted.Acted.TheVariants.{Did};
 ghost use Rattle.http_out.specs.declared.head.Head.{Head};
 ghost use Rattle.out_buffer.specs.Streamed.{HasTaken};
-ghost use Rattle.page_answers.specs.Answers.{shows_body};
+ghost use Rattle.http_out.specs.Methods.{shows_body};
 ghost use Rattle.page_answers.specs.Standing.{Standing, found};
 ghost use Rattle.page_machine.specs.Run.{IsInOrder};
 ghost use Rattle.page_made.specs.Pages.{needs_at};
@@ -57,7 +57,7 @@ pub(crate) fn serve<Q: Port<Made>, K: Sink, L: Ledger>(
     requires opened { IsOpened (Q.opening port.old) (Q.pass port.old) (Q.seen port.old) begun.request begun.session (arc_value begun.tree) }
     ensures idle { IsIdle (Q.opening port.new) (Q.pass port.new) (Q.seen port.new) }
     ensures same { IsSamePort (Q.pass port.old) (Q.pass port.new) (Q.opening port.old) (Q.opening port.new) (Q.home port.old) (Q.home port.new) }
-    ensures came { (old : Standing) (moments : Moments) → let p : Start = started request.now close (shows_body request.now) begun.request (arc_value begun.tree) (found request.now.cookie begun.session begun.attrs) (Q.seen port.old) steps.old (K.taken sink.old) (K.faults sink.old) in
+    ensures came { (old : Standing) (moments : Moments) → let p : Start = started request.now close (shows_body request.now.method) begun.request (arc_value begun.tree) (found request.now.cookie begun.session begun.attrs) (Q.seen port.old) steps.old (K.taken sink.old) (K.faults sink.old) in
         HasBegun (Q.opening port.old) (Q.pass port.old) old moments p → Came (Q.opening port.old) (Q.pass port.old) old moments p (Q.seen port.new) steps.new (K.taken sink.new) (K.faults sink.new) result }
     ensures later { K.faults sink.old ≤ K.faults sink.new }
     ensures failed { result ≡ outcome.WriteFault → Rose (K.faults sink.old) (K.faults sink.new) }

@@ -6,7 +6,7 @@ use Rattle.std.specs.Option.{unwrap_or}
 use Rattle.edges.specs.declared.acted.Acted.TheVariants.{Refused}
 use Rattle.http_in.specs.declared.request.Request.{Request}
 use Rattle.http_out.specs.Full.{full_line}
-use Rattle.http_out.specs.Methods as methods
+use Rattle.http_out.specs.Methods.{shows_body, takes_method}
 use Rattle.http_out.specs.Response.{Response, plain, wire}
 use Rattle.http_out.specs.declared.status.Status.TheVariants as status
 use Rattle.page_meaning.specs.Respond.{respond}
@@ -27,14 +27,6 @@ use Rattle.page_made.specs.Pages.{paged_at}
 use Rattle.page_answers.specs.Standing.{Standing, AtMoment, Begins, session_found, tree_at}
 use Rattle.page_answers.specs.Turns.{Turn, all_bytes, all_calls, answers_of, is_whole, steps_of}
 
--- a page takes the method
-abbrev pub takes_method : List ℕ → Bool
-takes_method method = methods.takes_method method
-
--- the body of the response is shown
-abbrev pub shows_body : Request → Bool
-shows_body request = methods.shows_body request.method
-
 -- the session's attributes where a request ends, none where it has no session
 abbrev pub attrs_left : State → List (List ℕ × Datum)
 attrs_left s = unwrap_or s.scopes.session []
@@ -53,7 +45,7 @@ pub record IsAnswered (needs : Needs) (x : Opening) (pass : ℕ) (request : Requ
   pub used : end.answers ≡ []
   pub did : HasDone needs x pass begun new.seen (all_calls begins.request turns ++ (op.End begins.request (attrs_left end), reply.Ended) ∷ [])
   pub read : new.steps ≡ old.steps + all_bytes (tree_at needs x begun) turns
-  pub text_is : text ≡ wire (closing close response) (shows_body request)
+  pub text_is : text ≡ wire (closing close response) (shows_body request.method)
   pub broken_is : broken ≡ response.broken
 
 -- the request was refused at a front, since the journal had no room for what it may need
@@ -63,13 +55,13 @@ pub record IsRefused (needs : Needs) (x : Opening) (pass : ℕ) (request : Reque
   pub promised : ℕ
   pub refused : step needs x (site_after needs x new.seen) pass (op.Begin request.cookie moment) ≡ Refused (JournalFull weight promised)
   pub read : new.steps ≡ old.steps
-  pub text_is : text ≡ plain status.ServiceUnavailable close (full_line weight promised) (shows_body request)
+  pub text_is : text ≡ plain status.ServiceUnavailable close (full_line weight promised) (shows_body request.method)
   pub broken_is : broken ≡ false
 
 -- the request has another method, and nothing was asked of the site
 pub record IsNotTaken (request : Request) (close : Bool) (old : Standing) (text : List ℕ) (broken : Bool) (new : Standing) : Type 0 where
   pub same : new ≡ old
-  pub text_is : text ≡ plain status.MethodNotAllowed close (codes "MethodNotAllowed") (shows_body request)
+  pub text_is : text ≡ plain status.MethodNotAllowed close (codes "MethodNotAllowed") (shows_body request.method)
   pub broken_is : broken ≡ false
 
 -- what a request that isn't an editor's is answered

@@ -16,7 +16,7 @@ use Rattle.site_words.specs.declared.words.Entry.{Entry}
 use Rattle.site_words.specs.declared.words.Op.TheVariants as op
 use Rattle.site_words.specs.declared.words.Opening.{Opening}
 use Rattle.site_words.specs.declared.words.Reply.TheVariants as reply
-use Rattle.page_answers.specs.Answers.{shows_body, takes_method}
+use Rattle.http_out.specs.Methods.{shows_body, takes_method}
 use Rattle.pass_course.specs.Course.{HasDone}
 use Rattle.page_made.specs.Pages.{paged_at}
 use Rattle.page_answers.specs.Standing.{Standing, AtMoment, Begins, session_found, tree_at}
@@ -59,7 +59,7 @@ pub record IsDropped (needs : Needs) (x : Opening) (pass : ℕ) (request : Reque
   pub read : new.steps ≤ old.steps + all_bytes (tree_at needs x begun) turns
   pub head : Head
   pub heads : (more : List Answer) → HeadsSo head reached.writer.pieces (respond (paged_at (tree_at needs x begun)) request (session_found needs x request.cookie begun begins.session) (answers_of x.seed turns ++ more))
-  pub text_is : text ≡ dropped_text head close (shows_body request) reached.writer.pieces
+  pub text_is : text ≡ dropped_text head close (shows_body request.method) reached.writer.pieces
 
 -- what is left where memory was wanting
 abbrev pub Drops : Needs → Opening → (pass : ℕ) → Request → (close : Bool) → (old : Standing) → (text : List ℕ) → (new : Standing) → Type 0

@@ -6,7 +6,8 @@ use Rattle.conversation.specs.Exchange.{Exchange, exchange_of}
 use Rattle.editor.specs.Message.{message}
 use Rattle.http_in.specs.declared.request.Request.{Request}
 use Rattle.talk_law.specs.OneTalk.{IsAlone, TellsMoments}
-use Rattle.page_answers.specs.Answers.{IsAnswered, IsNotTaken, IsRefused, shows_body, takes_method}
+use Rattle.page_answers.specs.Answers.{IsAnswered, IsNotTaken, IsRefused}
+use Rattle.http_out.specs.Methods.{shows_body, takes_method}
 use Rattle.page_answers.specs.Standing.{AtMoment, Standing}
 use Rattle.page_meaning.specs.Laws.{RequestsGoOn}
 use Rattle.site_words.specs.Law.{Legal}
@@ -36,7 +37,7 @@ module _ (go_on : RequestsGoOn) (w : Connection) (alone : IsAlone w) where
       → Says w route request close old text broken now → Says w route request close old text' broken' other → (text ≡ text') × (broken ≡ broken') × (now ≡ other)
   says_one Edits request close old text text' broken broken' now other good a b =
       let same = took_one w.needs w.opening w.pass alone.one alone.first (message request) old.draft now.draft other.draft old.at.seen now.at.seen other.at.seen a.told b.told good.0 a.takes b.takes in (
-        a.text_is ∙ ap (λ t. told_text t close (shows_body request)) same.0 ∙ sym b.text_is,
+        a.text_is ∙ ap (λ t. told_text t close (shows_body request.method)) same.0 ∙ sym b.text_is,
         a.broken_is ∙ sym b.broken_is,
         stand_is now other same.1 (quiet_is old.at now.at other.at same.2 a.quiet.moments b.quiet.moments a.quiet.read b.quiet.read),
       )

@@ -15,7 +15,8 @@ use Rattle.talk_law.proofs.Alone.{acts_did, acts_is, done_follows, done_is, entr
 use Rattle.talk_law.proofs.Steps.{Ends}
 use Rattle.talk_law.proofs.Turns.{one_course, one_reply}
 use Rattle.talk_law.specs.OneTalk.{TellsMoments}
-use Rattle.page_answers.specs.Answers.{IsAnswered, IsNotTaken, IsRefused, attrs_left, shows_body}
+use Rattle.page_answers.specs.Answers.{IsAnswered, IsNotTaken, IsRefused, attrs_left}
+use Rattle.http_out.specs.Methods.{shows_body}
 use Rattle.page_answers.specs.Standing.{AtMoment, Standing, session_found, tree_at}
 use Rattle.page_answers.specs.Turns.{Turn, all_bytes, all_calls, answers_of, is_whole, steps_of}
 use Rattle.page_made.specs.Pages.{paged_at}
@@ -78,7 +79,7 @@ record Went (needs : Needs) (x : Opening) (pass : ℕ) (request : Request) (clos
   used : end.answers ≡ []
   did : HasDone needs x pass begun seen (all_calls number turns ++ (op.End number (attrs_left end), reply.Ended) ∷ [])
   read : steps ≡ before + all_bytes (tree_at needs x begun) turns
-  text_is : text ≡ wire (closing close response) (shows_body request)
+  text_is : text ≡ wire (closing close response) (shows_body request.method)
   broken_is : broken ≡ response.broken
 
 abbrev AreOne : (text text' : List ℕ) (broken broken' : Bool) (new new' : Standing) → Type 0
@@ -108,7 +109,7 @@ module _ (go_on : RequestsGoOn) (needs : Needs) (x : Opening) (pass : ℕ) (one 
       let end : a.end ≡ b.end = ap end_state same in
       let grown = done_is needs x pass one first begun seen (all_calls number a.turns ++ (op.End number (attrs_left a.end), reply.Ended) ∷ []) legal a.did in
       let grown' = done_is needs x pass one first begun seen' (all_calls number b.turns ++ (op.End number (attrs_left b.end), reply.Ended) ∷ []) legal b.did in (
-        a.text_is ∙ ap (λ r. wire (closing close r) (shows_body request)) response ∙ sym b.text_is,
+        a.text_is ∙ ap (λ r. wire (closing close r) (shows_body request.method)) response ∙ sym b.text_is,
         a.broken_is ∙ ap (λ (r : Response). r.broken) response ∙ sym b.broken_is,
         grown ∙ ap (λ ts. begun ++ entries_by pass (all_calls number ts ++ (op.End number (attrs_left a.end), reply.Ended) ∷ [])) turns
             ∙ ap (λ e. begun ++ entries_by pass (all_calls number b.turns ++ (op.End number (attrs_left e), reply.Ended) ∷ [])) end ∙ sym grown',
@@ -181,7 +182,7 @@ module _ (go_on : RequestsGoOn) (needs : Needs) (x : Opening) (pass : ℕ) (one 
       )
     where
       told : ℕ → ℕ → List ℕ
-      told weight promised = plain status.ServiceUnavailable close (full_line weight promised) (shows_body request)
+      told weight promised = plain status.ServiceUnavailable close (full_line weight promised) (shows_body request.method)
 
       standing_is : (a : Standing) (seen : List Entry) (moments : Moments) (steps : ℕ) → a.seen ≡ seen → a.moments ≡ moments → a.steps ≡ steps → a ≡ record { seen = seen; moments = moments; steps = steps }
       standing_is a seen moments steps is also too =

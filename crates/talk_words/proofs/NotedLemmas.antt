@@ -9,7 +9,8 @@ use Rattle.conversation.specs.Conversation.{Tells, WalkedBy}
 use Rattle.conversation.specs.Exchange.{Exchange}
 use Rattle.edges.specs.Clock.{Answers as Ticks, GoesNoted, Moments, ahead_after}
 use Rattle.http_in.specs.declared.request.Request.{Request}
-use Rattle.page_answers.specs.Answers.{IsAnswered, IsNotTaken, IsRefused, takes_method}
+use Rattle.page_answers.specs.Answers.{IsAnswered, IsNotTaken, IsRefused}
+use Rattle.http_out.specs.Methods.{takes_method}
 use Rattle.page_answers.specs.Dropped.{IsDropped, IsUnbegun}
 use Rattle.page_answers.specs.Standing.{AtMoment, Standing, standing_of}
 use Rattle.site_words.specs.Trees.{Needs}

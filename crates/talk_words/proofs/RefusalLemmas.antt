@@ -4,7 +4,8 @@ use Rattle.std.specs.Prelude.{Result, Ok, Err}
 use Rattle.http_in.specs.declared.request.Request.{Request}
 use Rattle.http_out.specs.Response.{Response, plain, whole, wire}
 use Rattle.http_out.specs.declared.status.Status.TheVariants as status
-use Rattle.page_answers.specs.Answers.{IsAnswered, shows_body}
+use Rattle.page_answers.specs.Answers.{IsAnswered}
+use Rattle.http_out.specs.Methods.{shows_body}
 use Rattle.page_answers.specs.Standing.{Standing, session_found, tree_at}
 use Rattle.page_answers.specs.Turns.{answers_of, steps_of}
 use Rattle.page_made.specs.Made.{IsFaultOf}
@@ -65,7 +66,7 @@ refused :
 refused needs x pass request close old text broken new moment path fault named shown is stands =
     let session = session_found needs x request.cookie is.begun is.begins.session in
     let means = sym (responded (paged_at (tree_at needs x is.begun)) request session (answers_of x.seed is.turns) path fault named shown stands) ∙ is.means in
-    let told = plain_is close (shows_body request) fault session (answers_of x.seed is.turns) path is.response is.end means in
+    let told = plain_is close (shows_body request.method) fault session (answers_of x.seed is.turns) path is.response is.end means in
     record { text_is = is.text_is ∙ told.0; whole = is.broken_is ∙ told.1; fetched = sym is.asked ∙ told.2 }
 
 pub exact_refusals : HasExactRefusals

@@ -12,7 +12,8 @@ use Rattle.editor.specs.declared.fault.EditorFault.{EditorFault}
 use Rattle.editor.specs.declared.message.Message.{Message}
 use Rattle.editor.specs.declared.message.Message.TheVariants.{Change, Publish}
 use Rattle.http_in.specs.declared.request.Request.{Request}
-use Rattle.page_answers.specs.Answers.{IsAnswered, IsNotTaken, IsRefused, attrs_left, takes_method}
+use Rattle.page_answers.specs.Answers.{IsAnswered, IsNotTaken, IsRefused, attrs_left}
+use Rattle.http_out.specs.Methods.{takes_method}
 use Rattle.page_answers.specs.Dropped.{IsDropped, IsUnbegun}
 use Rattle.page_answers.specs.Standing.{AtMoment, Standing}
 use Rattle.page_answers.specs.Turns.{all_calls}

@@ -6,7 +6,8 @@ use Rattle.std.specs.Prelude.{◌⊎◌}
 use Rattle.conversation.specs.Conversation.{closes}
 use Rattle.editor.specs.Message.{message}
 use Rattle.http_in.specs.declared.request.Request.{Request}
-use Rattle.page_answers.specs.Answers.{IsAnswered, IsNotTaken, IsRefused, attrs_left, takes_method}
+use Rattle.page_answers.specs.Answers.{IsAnswered, IsNotTaken, IsRefused, attrs_left}
+use Rattle.http_out.specs.Methods.{takes_method}
 use Rattle.page_answers.specs.Standing.{AtMoment, Standing, tree_at}
 use Rattle.page_answers.specs.Turns.{Turn, all_bytes, all_calls, bytes_for, calls_of, hit, made, missed as missed_turn, stepped, unoffered}
 use Rattle.pass_course.proofs.CourseLemmas.{courses_join, done_acts, done_none, done_stays}

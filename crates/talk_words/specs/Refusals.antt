@@ -3,7 +3,8 @@ use Rattle.std.specs.Prelude.{◌≡◌, ◌↔◌, ℕ, Bool, true, false, List
 use Rattle.http_in.specs.declared.request.Request.{Request}
 use Rattle.http_out.specs.Response.{plain}
 use Rattle.http_out.specs.declared.status.Status.TheVariants as status
-use Rattle.page_answers.specs.Answers.{IsAnswered, shows_body}
+use Rattle.page_answers.specs.Answers.{IsAnswered}
+use Rattle.http_out.specs.Methods.{shows_body}
 use Rattle.page_answers.specs.Standing.{Standing, tree_at}
 use Rattle.page_answers.specs.Turns.{steps_of}
 use Rattle.page_made.specs.Made.{IsFaultOf}
@@ -20,7 +21,7 @@ use Rattle.source_tree.specs.declared.file.File.{File}
 
 -- where the page that a request names has a fault, nothing of it runs, and the answer is its line
 pub record IsRefusedPage (request : Request) (close : Bool) (text : List ℕ) (broken : Bool) (fault : PageFault) (path : List ℕ) (steps : List asks.Step) : Type 0 where
-  pub text_is : text ≡ plain status.InternalServerError close (page_fault_line fault) (shows_body request)
+  pub text_is : text ≡ plain status.InternalServerError close (page_fault_line fault) (shows_body request.method)
   pub whole : broken ≡ false
   pub fetched : steps ≡ asks.fetch path ∷ []
 

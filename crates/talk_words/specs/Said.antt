@@ -11,7 +11,8 @@ use Rattle.http_in.specs.declared.request.Request.{Request}
 use Rattle.http_out.specs.Response.{plain}
 use Rattle.http_out.specs.declared.status.Status.{Status}
 use Rattle.http_out.specs.declared.status.Status.TheVariants as status
-use Rattle.page_answers.specs.Answers.{Answers, shows_body}
+use Rattle.page_answers.specs.Answers.{Answers}
+use Rattle.http_out.specs.Methods.{shows_body}
 use Rattle.page_answers.specs.Dropped.{Drops}
 use Rattle.pg_text.specs.declared.failure.Failure.{Failure}
 use Rattle.pg_text.specs.declared.failure.Failure.TheVariants.{Fault}
@@ -64,13 +65,13 @@ pub record IsEdited (w : Connection) (request : Request) (close : Bool) (old : S
   pub told : Result EditorAnswer EditorFault
   pub takes : Takes w.needs w.opening w.pass (message request) old.draft new.draft old.at.seen new.at.seen (taken_as told)
   pub quiet : IsQuiet old new
-  pub text_is : text ≡ told_text told close (shows_body request)
+  pub text_is : text ≡ told_text told close (shows_body request.method)
   pub broken_is : broken ≡ false
 
 -- nothing is found, and nothing was asked of the site
 pub record IsNowhere (request : Request) (close : Bool) (old : Stand) (text : List ℕ) (broken : Bool) (new : Stand) : Type 0 where
   pub same : new ≡ old
-  pub text_is : text ≡ plain status.NotFound close (codes "NotFound") (shows_body request)
+  pub text_is : text ≡ plain status.NotFound close (codes "NotFound") (shows_body request.method)
   pub broken_is : broken ≡ false
 
 -- one request and its response

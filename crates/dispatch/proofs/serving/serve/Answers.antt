@@ -6,7 +6,7 @@ use Rattle.dispatch.proofs.serving.serve.Goals as goal
 use Rattle.dispatch.specs.Begun.{empty_head}
 use Rattle.dispatch.specs.Opened.{IsOpened}
 use Rattle.dispatch.specs.Started.{Came, HasBegun, Ran, Replies, Start, Starves, started}
-use Rattle.page_answers.specs.Answers.{shows_body}
+use Rattle.http_out.specs.Methods.{shows_body}
 use Rattle.page_answers.specs.Standing.{found}
 use Rattle.page_made.specs.Pages.{needs_at}
 use Rattle.page_meaning.specs.Respond.{beginning}
@@ -44,7 +44,7 @@ returns-in_default-clause-came g c = λ old moments begins.
     let taken = g.K.Sink.taken c.args.sink.now in
     let faults = g.K.Sink.faults c.args.sink.now in
     let p : Start = started request c.args.close shown begun.request tree session (g.Q.Port.seen port) c.args.steps.now taken faults in
-    let here = begun_as x pass old moments request c.args.close shown (shows_body request) begun.request tree tree session (g.Q.Port.seen port) c.args.steps.now taken faults c.shows_body-shown.ensures refl begins in
+    let here = begun_as x pass old moments request c.args.close shown (shows_body request.method) begun.request tree tree session (g.Q.Port.seen port) c.args.steps.now taken faults c.shows_body-shown.ensures refl begins in
     c.abandon.ensures.came p old moments c.args.steps.now (empty_head c.args.close) (beginning session []) (record { number_is = refl; close_is = refl; shown_is = refl }) here (begun_starves x pass p (empty_head c.args.close) c.law.ensures.legal) refl (none_taken taken faults)
 
 pub returns-in-Ok-run-clause-came : goal.returns-in-Ok-run-clause-came
@@ -60,7 +60,7 @@ returns-in-Ok-run-clause-came g c = λ old moments begins.
     let taken = g.K.Sink.taken c.args.sink.now in
     let faults = g.K.Sink.faults c.args.sink.now in
     let p : Start = started request c.args.close shown begun.request tree session (g.Q.Port.seen port) c.args.steps.now taken faults in
-    let here = begun_as x pass old moments request c.args.close shown (shows_body request) begun.request (arc_value begun.tree) tree session (g.Q.Port.seen port) c.args.steps.now taken faults c.shows_body-shown.ensures c.deref.ensures begins in
+    let here = begun_as x pass old moments request c.args.close shown (shows_body request.method) begun.request (arc_value begun.tree) tree session (g.Q.Port.seen port) c.args.steps.now taken faults c.shows_body-shown.ensures c.deref.ensures begins in
     let replies = c.in-Ok-run.ensures.ran begun.session begun.attrs c.in-Ok.ensures in
     let mid = c.run.new.port in
     let same = c.run.ensures.same in
@@ -82,7 +82,7 @@ returns-clause-came g c = λ old moments begins.
     let taken = g.K.Sink.taken c.args.sink.now in
     let faults = g.K.Sink.faults c.args.sink.now in
     let p : Start = started request c.args.close shown begun.request tree session (g.Q.Port.seen port) c.args.steps.now taken faults in
-    let here = begun_as x pass old moments request c.args.close shown (shows_body request) begun.request (arc_value begun.tree) tree session (g.Q.Port.seen port) c.args.steps.now taken faults c.shows_body-shown.ensures c.deref.ensures begins in
+    let here = begun_as x pass old moments request c.args.close shown (shows_body request.method) begun.request (arc_value begun.tree) tree session (g.Q.Port.seen port) c.args.steps.now taken faults c.shows_body-shown.ensures c.deref.ensures begins in
     let starves = c.in-Err.ensures.ran begun.session begun.attrs c.in-Ok.ensures in
     let mid = c.run.new.port in
     let same = c.run.ensures.same in
