@@ -6,15 +6,17 @@ ghost use Rattle.run_moves.specs.Loops.{advanced, loop_of};
 use page_code::Name;
 use pg_text::Text;
 use pg_value::Value;
-use run_values::Rounds;
+use run_values::{Rounds, StatusKeys};
 use std::alloc::{AllocError, Global};
 use std::marker::Model;
 
-/// An open loop: its variables, the values that it was given under their names, the last first, and its rounds to come.
+/// An open loop: its variables, the keys of its statuses where it has a variable for them, the values
+/// that it was given under their names, the last first, and its rounds to come.
 #[derive(Drop)]
 pub struct Loop {
     pub variable: Option<Name>,
     pub status: Option<Name>,
+    pub keys: Option<StatusKeys>,
     pub values: Vec<(Text, Value)>,
     pub rounds: Rounds,
 }

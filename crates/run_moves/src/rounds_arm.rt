@@ -24,7 +24,7 @@ use crate::raising::remove_named;
 use page_code::{LoopKind, Name};
 use pg_text::{Failure, Place, Text};
 use pg_value::{RunFault, Value};
-use run_values::{Mark, measured, rounds_of, status_record, table_of};
+use run_values::{Mark, StatusKeys, measured, rounds_of, status_record, table_of};
 use run_world::World;
 use scopes::HeldScope;
 use std::alloc::{AllocError, Global};
@@ -72,9 +72,18 @@ fn opened(alloc: Global, kind: &LoopKind, open: &Open) -> Result<Loop, Failure<R
     Ok(Loop {
         variable: copied(&kind.variable)?,
         status: copied(&kind.status)?,
+        keys: keys_for(alloc, &kind.status)?,
         values,
         rounds,
     })
+}
+
+// The keys of a loop's statuses, where it has a variable for them.
+fn keys_for(alloc: Global, status: &Option<Name>) -> Result<Option<StatusKeys>, AllocError> {
+    match status {
+        Some(_) => Ok(Some(StatusKeys::new(alloc)?)),
+        None => Ok(None),
+    }
 }
 
 fn copied(name: &Option<Name>) -> Result<Option<Name>, AllocError>
@@ -138,7 +147,15 @@ fn begin_round<W: World>(
     count_visit(world)?;
     let item = looping.rounds.item(alloc)?;
     set_named(&looping.variable, &item, world)?;
-    set_status(alloc, &looping.status, &looping.values, mark, &item, world)
+    set_status(
+        alloc,
+        &looping.status,
+        &looping.keys,
+        &looping.values,
+        mark,
+        &item,
+        world,
+    )
 }
 
 // Counts a visit: X18.
@@ -174,6 +191,7 @@ fn set_named<W: World>(
 fn set_status<W: World>(
     alloc: Global,
     name: &Option<Name>,
+    keys: &Option<StatusKeys>,
     values: &[(Text, Value)],
     mark: &Mark,
     item: &Value,
@@ -186,7 +204,7 @@ fn set_status<W: World>(
     let Some(name) = name else {
         return Ok(());
     };
-    let status = status_record(alloc, values, mark, item)?;
+    let status = status_record(alloc, keys, values, mark, item)?;
     let status = measured(status)?;
     world.set(HeldScope::Page, name.as_text(), status)
 }

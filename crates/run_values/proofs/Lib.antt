@@ -2,4 +2,5 @@ mod CookieLemmas
 mod NameListLemmas
 mod PropertyLemmas
 mod RoundLemmas
+mod StatusLemmas
 mod TableLemmas

@@ -1,5 +1,5 @@
 -- What the rounds of a loop go over, in the words of the meaning.
-use Rattle.std.specs.Prelude.{ℕ, pos, ◌^◌, List, [], ◌∷◌, map, Option, Some, None, Result, Ok, codes}
+use Rattle.std.specs.Prelude.{ℕ, ◌==◌, pos, ◌^◌, List, [], ◌∷◌, map, Option, Some, None, Result, Ok, codes}
 use Rattle.el_ops.specs.Indexing.{or_null}
 use Rattle.jstl_functions.specs.Functions.{measured}
 use Rattle.jstl_functions.specs.Texts.{tokens}
@@ -10,7 +10,7 @@ use Rattle.run_values.specs.declared.rounds.Mark.{Mark}
 use Rattle.run_values.specs.declared.rounds.Items.TheVariants as items
 use Rattle.page_meaning.specs.Attributes.{Values, text_at, value_at}
 use Rattle.page_meaning.specs.Rounds.{Round, entry_items, given_items, token_items}
-use Rattle.pg_value.specs.Datum.{Datum, null, entries_of, entry, no_entries, number, rec, text}
+use Rattle.pg_value.specs.Datum.{Datum, null, entries_of, entry, no_entries, number, rec, text, truth}
 use Rattle.pg_value.specs.declared.fault.RunFault.{RunFault}
 
 -- the items, where there are items
@@ -40,10 +40,20 @@ behind_round (r ∷ rest) = rest
 abbrev pub round_at : Mark → Round
 round_at mark = record { item = Ok null; index = mark.index; count = mark.count; is_last = mark.is_last }
 
+-- the keys of a status, in their order
+abbrev pub status_keys : List (List ℕ)
+status_keys = codes "begin" ∷ codes "count" ∷ codes "current" ∷ codes "end" ∷ codes "first" ∷ codes "index" ∷ codes "last" ∷ codes "step" ∷ []
+
 -- the first entries of a round's status
 abbrev pub status_front : Values → Round → Datum → Values
 status_front vs r current =
     (codes "begin", or_null (value_at (codes "begin") vs)) ∷ (codes "count", number (pos r.count)) ∷ (codes "current", current) ∷ (codes "end", or_null (value_at (codes "end") vs)) ∷ []
+
+-- all entries of a round's status
+abbrev pub status_entries : Values → Round → Datum → Values
+status_entries vs r current =
+    (codes "begin", or_null (value_at (codes "begin") vs)) ∷ (codes "count", number (pos r.count)) ∷ (codes "current", current) ∷ (codes "end", or_null (value_at (codes "end") vs))
+    ∷ (codes "first", truth (r.count == 1)) ∷ (codes "index", number (pos r.index)) ∷ (codes "last", truth r.is_last) ∷ (codes "step", or_null (value_at (codes "step") vs)) ∷ []
 
 -- what the rounds of a loop go over, by its values: X7
 abbrev pub items_answer : Over → Values → Result (Option (List (Result Datum RunFault))) RunFault

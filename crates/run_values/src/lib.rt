@@ -13,6 +13,7 @@ mod properties;
 mod records;
 mod request;
 mod rounds;
+mod statuses;
 mod texts;
 mod values;
 
@@ -30,5 +31,6 @@ pub use request::{
     all_values, before_query, first_values, header_entry, headers, request_record, session_value,
 };
 pub use rounds::{Items, Mark, Rounds};
+pub use statuses::StatusKeys;
 pub use texts::text_of;
 pub use values::{coerced, joined, list_of, measured, record_of};

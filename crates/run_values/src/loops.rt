@@ -1,21 +1,18 @@
-ghost use Rattle.std.specs.Prelude.{◌≡◌, map, pos, IfOk};
-ghost use Rattle.el_ops.specs.Indexing.{or_null};
+ghost use Rattle.std.specs.Prelude.{◌≡◌, map, IfOk};
 ghost use Rattle.std.specs.declared.option.Option.TheVariants.{Some};
-ghost use Rattle.run_values.specs.Rounds.{items_answer, items_of, round_at, status_front};
-ghost use Rattle.page_meaning.specs.Attributes.{value_at};
+ghost use Rattle.run_values.specs.Rounds.{items_answer, items_of, round_at};
 ghost use Rattle.page_meaning.specs.Rounds.{given_items, status_record};
 ghost use Rattle.page_table.specs.LoopMoves.{loop_rounds};
 ghost use Rattle.pg_text.specs.Failure.{AnswersAs};
-ghost use Rattle.pg_value.specs.Datum.{number};
 ghost use Rattle.pg_value.specs.Value.{datum_of, entry_of};
 
 use crate::loop_values::{number_at, text_at, value_at};
-use crate::records::{put, record};
 use crate::rounds::{Items, Mark, Rounds};
+use crate::statuses::StatusKeys;
 use jstl_functions::tokens;
 use page_code::Over;
 use pg_text::{Failure, Listed, Text};
-use pg_value::{Attrs, RunFault, Value, Values};
+use pg_value::{RunFault, Value, Values};
 use std::alloc::{AllocError, Global};
 
 /// The rounds of a loop by the values of its attributes: X7, X8.
@@ -70,61 +67,19 @@ fn items_in(alloc: Global, value: &Value) -> Result<Items, Failure<RunFault>>
     }
 }
 
-/// The status of a round, as a record. A place or a count past the largest number is answered as want of memory: no contract ties them to
-/// the visits of a request, of which there are far fewer.
+/// The status of a round, as a record, under the keys that the loop keeps, or under new ones. A place
+/// or a count past the largest number is answered as want of memory.
 pub fn status_record(
     alloc: Global,
+    keys: &Option<StatusKeys>,
     table: &[(Text, Value)],
     mark: &Mark,
     current: &Value,
 ) -> Result<Value, AllocError>
     ensures { IfOk result (λ made. datum_of made ≡ status_record (map entry_of table.now) (round_at mark.now) (datum_of current.now)) }
 {
-    let mut entries = status_front(alloc, table, mark, current)?;
-    let is_first = Value::Bool(mark.count == 1);
-    let step = given(table, "step")?;
-    put(alloc, &mut entries, "first", is_first)?;
-    put(alloc, &mut entries, "index", number(mark.index)?)?;
-    put(alloc, &mut entries, "last", Value::Bool(mark.is_last))?;
-    put(alloc, &mut entries, "step", step)?;
-    record(entries)
-}
-
-// The first entries of a status: those up to `end`.
-fn status_front(
-    alloc: Global,
-    table: &[(Text, Value)],
-    mark: &Mark,
-    current: &Value,
-) -> Result<Attrs, AllocError>
-    ensures { IfOk result (λ made. made ≡ status_front (map entry_of table.now) (round_at mark.now) (datum_of current.now)) }
-{
-    let mut entries = Attrs::empty(alloc);
-    let begin = given(table, "begin")?;
-    let end = given(table, "end")?;
-    put(alloc, &mut entries, "begin", begin)?;
-    put(alloc, &mut entries, "count", number(mark.count)?)?;
-    put(alloc, &mut entries, "current", current.copy()?)?;
-    put(alloc, &mut entries, "end", end)?;
-    Ok(entries)
-}
-
-// A place or a count as a value. One past the largest number is answered as want of memory.
-fn number(count: u64) -> Result<Value, AllocError>
-    ensures { IfOk result (λ value. datum_of value ≡ number (pos count)) }
-{
-    if count > i64::MAX as u64 {
-        return Err(AllocError);
-    }
-    Ok(Value::Int(count as i64))
-}
-
-// The value of a name, or null.
-fn given(table: &[(Text, Value)], name: &str) -> Result<Value, AllocError>
-    ensures { IfOk result (λ value. datum_of value ≡ or_null (value_at name.now (map entry_of table.now))) }
-{
-    match value_at(table, name) {
-        Some(value) => value.copy(),
-        None => Ok(Value::Null),
+    match keys {
+        Some(keys) => keys.record(alloc, table, mark, current),
+        None => StatusKeys::new(alloc)?.record(alloc, table, mark, current),
     }
 }

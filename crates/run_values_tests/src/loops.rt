@@ -2,7 +2,7 @@ use crate::values::value;
 use el_coercion::to_text;
 use page_code::Over;
 use pg_value::{Failure, RunFault, Text, Value};
-use run_values::{rounds_of, status_record, table_of};
+use run_values::{StatusKeys, rounds_of, status_record, table_of};
 use std::alloc::Global;
 use std::test::Fail;
 
@@ -75,7 +75,8 @@ fn a_round_has_a_status(rt: HostRuntime) -> Result<(), Fail> {
     let wanted =
         r#"{"begin": null, "count": 1, "current": true, "end": 1, "first": true, "index": 0, "last": false, "step": null}"#;
     if let Some(mark) = rounds_of(alloc, Over::Numbers, &table)?.next() {
-        let status = status_record(alloc, &table, &mark, &Value::Bool(true))?;
+        let keys = Some(StatusKeys::new(alloc)?);
+        let status = status_record(alloc, &keys, &table, &mark, &Value::Bool(true))?;
         assert!(rt; status == value(alloc, wanted)?);
     }
     Ok(())

@@ -38,6 +38,9 @@ returns-in_err-copied c = answers_short loop_of (expected c.args.kind.now c.args
 pub returns-in_err-copied-2 : goal.returns-in_err-copied-2
 returns-in_err-copied-2 c = answers_short loop_of (expected c.args.kind.now c.args.open.now.stack) c.from_residual-in_err-copied-2.result c.from_residual-in_err-copied-2.ensures.1
 
+pub returns-in_err-keys_for : goal.returns-in_err-keys_for
+returns-in_err-keys_for c = answers_short loop_of (expected c.args.kind.now c.args.open.now.stack) c.from_residual-in_err-keys_for.result c.from_residual-in_err-keys_for.ensures.1
+
 pub returns : goal.returns
 returns c =
     let names = c.args.kind.now.names in
