@@ -1,7 +1,7 @@
 // What the operations do that take values from the stack and leave one or none.
 ghost use Rattle.std.specs.Prelude.{◌≡◌, ◌<◌, ◌^◌, length, map};
 ghost use Rattle.std.specs.declared.option.Option.TheVariants.{Some};
-ghost use Rattle.page_code.specs.Ops.{mode_takes, takes};
+ghost use Rattle.page_code.specs.Ops.{takes};
 ghost use Rattle.page_meaning.specs.Core.{set_or_remove};
 ghost use Rattle.page_table.specs.Operations.{operation, visits};
 ghost use Rattle.page_table.specs.Program.{Serving};
@@ -19,7 +19,7 @@ use crate::set_properties::{get_property, set_property};
 use crate::variables::{assign, find, unassign, unassign_all};
 use el_ops::{binary, index, unary};
 use jstl_functions::call;
-use page_code::{Op, PropertyMode, ScopedName};
+use page_code::{Op, ScopedName};
 use pg_text::Failure;
 use pg_value::{RunFault, Value};
 use run_values::{coerced, header_entry, joined, list_of, record_of, text_of, url};
@@ -31,29 +31,7 @@ pub fn values_taken(op: &Op) -> usize
     requires { takes op.now < 2 ^ 64 }
     ensures { result ≡ takes op.now }
 {
-    match op {
-        Op::Write(_) | Op::Visit(_) | Op::Const(_) | Op::Find(_) | Op::Implicit(_) => 0,
-        Op::RemoveVar(_) | Op::RemoveAll(_) => 0,
-        Op::Put | Op::PutEscaped | Op::Pop | Op::SetVar(_) | Op::GetProperty(_) => 1,
-        Op::HeaderIndex(_) | Op::ScopeIndex(_) | Op::Unary(_) | Op::Coerce(_) => 1,
-        Op::Index | Op::Binary(_) => 2,
-        Op::MakeList(count) | Op::Concat(count) => *count,
-        Op::MakeMap(pairs) => 2 * *pairs,
-        Op::Call(function) => function.arity(),
-        Op::Url(params) => 2 * *params + 1,
-        Op::SetProperty(_, mode) => taken_by(mode),
-    }
-}
-
-// How many values a change of properties takes.
-fn taken_by(mode: &PropertyMode) -> usize
-    ensures { result ≡ mode_takes mode.now }
-{
-    match mode {
-        PropertyMode::Parameters | PropertyMode::Parameter { .. } => 0,
-        PropertyMode::Value { .. } => 1,
-        PropertyMode::Entry => 2,
-    }
+    op.takes() as usize
 }
 
 // An operation that leaves no value.
@@ -76,8 +54,8 @@ fn one(made: Result<Value, Failure<RunFault>>) -> Result<Option<Value>, Failure<
     }
 }
 
-// The value that an operation makes of values alone.
-fn compute(alloc: Global, op: &Op, args: &[Value]) -> Result<Value, Failure<RunFault>>
+/// The value that an operation makes of values alone.
+pub fn compute(alloc: Global, op: &Op, args: &[Value]) -> Result<Value, Failure<RunFault>>
     requires args { length args.now ≡ takes op.now }
     requires computed { IsComputed op.now }
     ensures { AnswersAs datum_of (computed op.now (map datum_of args.now)) result }
@@ -113,8 +91,8 @@ fn set_or_remove<W: World>(
     }
 }
 
-// Counts so many visits, one after the other: X18.
-fn count_visits<W: World>(count: u32, world: &mut W) -> Result<(), Failure<RunFault>>
+/// Counts so many visits, one after the other: X18.
+pub fn count_visits<W: World>(count: u32, world: &mut W) -> Result<(), Failure<RunFault>>
     requires covered { W.covered world.old }
     ensures covered { W.covered world.new }
     ensures does { Doing W.reached W.replies (λ u. u) (λ place. visits place count) world.old world.new result }

@@ -56,12 +56,8 @@ pub(crate) fn look_up<W: World>(
     Ok((Scope::Application, told(reply)))
 }
 
-// The value of a variable; X6 where none is found, and that is a fault.
-pub(crate) fn find<W: World>(
-    strict: bool,
-    name: &Name,
-    world: &mut W,
-) -> Result<Value, Failure<RunFault>>
+/// The value of a variable; X6 where none is found, and that is a fault.
+pub fn find<W: World>(strict: bool, name: &Name, world: &mut W) -> Result<Value, Failure<RunFault>>
     requires covered { W.covered world.old }
     ensures covered { W.covered world.new }
     ensures does { Doing W.reached W.replies datum_of (λ place s. variable_or_step strict place name.now (found s.scopes name.now) s) world.old world.new result }
