@@ -1,5 +1,5 @@
 -- What nodes in place come to, one after the other.
-use Rattle.std.proofs.Common.{◌≡◌, ◌<◌, ◌+◌, append_assoc, ℕ, List, [], ◌∷◌, ◌++◌, Result, Ok, Err, length, drop, get_or, refl, ap, sym, ◌∙◌, add-one, drop-cons}
+use Rattle.std.proofs.Common.{◌≡◌, ◌<◌, ◌+◌, append_assoc, ℕ, List, ◌∷◌, ◌++◌, Result, Ok, Err, length, drop, get_or, refl, ap, sym, ◌∙◌, add-one, drop-cons}
 use Rattle.pg_text.specs.declared.place.Place.{Place}
 use Rattle.page_pieces.specs.declared.attribute.Part.{Part as Written}
 use Rattle.page_pieces.specs.declared.piece.Leaf.{Leaf}

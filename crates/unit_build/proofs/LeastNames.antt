@@ -1,5 +1,5 @@
 -- The names that reading meets, each once in byte order.
-use Rattle.std.proofs.Common.{◌≡◌, ℕ, Bool, true, false, ◌||◌, List, [], ◌∷◌, refl, ap, sym, ◌∙◌, subst}
+use Rattle.std.proofs.Common.{◌≡◌, ℕ, Bool, true, false, cond, ◌||◌, List, [], ◌∷◌, refl, ap, sym, ◌∙◌, subst}
 use Rattle.std.proofs.lemmas.Map.Lookups.{exact_bytes}
 use Rattle.std.specs.Cmp.Lexicographic.{slice_cmp}
 use Rattle.std.specs.Ordering.{match_ordering, nat_cmp}
@@ -8,8 +8,10 @@ use Rattle.std.specs.declared.cmp.Ordering.{Ordering}
 use Rattle.std.specs.declared.cmp.Ordering.TheVariants.{Less, Equal, Greater}
 use Rattle.pg_text.specs.Names.{AreInOrder, has_name, with_name}
 use Rattle.pg_text.proofs.NameOrder.{none_in_order, order_with_name}
-use Rattle.unit_build.specs.Laws.{HasLeastNames}
-use Rattle.unit_build.specs.Unit.{names_met, names_with, page_met}
+use Rattle.unit_source.specs.Files.{Files}
+use Rattle.unit_source.specs.Root.{Root, rooted}
+use Rattle.unit_build.specs.Laws.{AreAllOf, HasNamesOfReading}
+use Rattle.unit_build.specs.Unit.{is_xml, names_met, names_with, page_met, unit_read, xml_unit}
 
 or_moved : (a b c : Bool) → ((a || b) || c) ≡ (b || (a || c))
 or_moved true true c = refl
@@ -56,8 +58,20 @@ order_with : (kept names : List (List ℕ)) → AreInOrder kept → AreInOrder (
 order_with kept [] order = order
 order_with kept (name ∷ names) order = order_with (with_name name kept) names (order_with_name name kept order)
 
-pub least_names : HasLeastNames
+-- the names on which a page that is read depends
+pub least_names : (files : Files) (page : Root) → AreAllOf (names_met (page_met files page).events) (unit_read files page).deps
 least_names files page = record {
   order = order_with [] (names_met (page_met files page).events) none_in_order;
   same = λ name. among_all name [] (names_met (page_met files page).events);
 }
+
+-- the same of each unit
+pub names_of_reading : HasNamesOfReading
+names_of_reading files path text = by_syntax (is_xml path)
+  where
+    page : Root
+    page = rooted files false path text
+
+    by_syntax : (b : Bool) → AreAllOf (cond b (path ∷ []) (names_met (page_met files page).events)) (cond b (xml_unit path) (unit_read files page)).deps
+    by_syntax true = record { order = order_with_name path [] none_in_order; same = λ name. refl }
+    by_syntax false = least_names files page

@@ -76,6 +76,7 @@ has_open_body done = false
 has_open_body (leaf kind place next) = has_open_body next
 has_open_body (element opened body next) = (is_standard (codes "body") opened.tag && not (is_whole opened.closing)) || has_open_body next
 
+-- what a body may hold where it needn't hold a branch
 abbrev pub without_branches : Holds → Holds
 without_branches holds.Branches = holds.Anything
 without_branches other = other

@@ -1,5 +1,5 @@
 -- What is to be proved of units.
-use Rattle.std.specs.Prelude.{ℕ, map, ◌≡◌, ◌<◌, ⊤, List, [], ◌∷◌, ◌++◌, Option, Some, None}
+use Rattle.std.specs.Prelude.{ℕ, map, ◌≡◌, ◌<◌, ⊤, List, [], ◌∷◌, ◌++◌, false, Option, Some, None, if◌then◌else◌}
 use Rattle.pg_text.specs.declared.translation_fault.TranslationFault.{TranslationFault}
 use Rattle.pg_text.specs.declared.place.PageFault.{PageFault}
 use Rattle.pg_text.specs.Faults.{number_of}
@@ -7,9 +7,9 @@ use Rattle.pg_text.specs.Names.{AreInOrder, has_name}
 use Rattle.page_directives.specs.Faults.{in_order}
 use Rattle.unit_source.specs.Files.{Files}
 use Rattle.unit_source.specs.Laws.{Agree}
-use Rattle.unit_source.specs.Root.{Root}
+use Rattle.unit_source.specs.Root.{rooted}
 use Rattle.unit_build.specs.State.{Event, faulty, needs}
-use Rattle.unit_build.specs.Unit.{unit_of, unit_read, first_fault, names_met, page_met}
+use Rattle.unit_build.specs.Unit.{is_xml, unit_of, first_fault, names_met, page_met}
 
 -- no fault is met
 abbrev pub HasNoFault : List Event → Type 0
@@ -37,9 +37,13 @@ pub record AreAllOf (all names : List (List ℕ)) : Type 0 where
   pub order : AreInOrder names
   pub same : (name : List ℕ) → has_name name names ≡ has_name name all
 
--- a page depends on the names that reading meets
-abbrev pub HasLeastNames : Type 0
-HasLeastNames = (files : Files) (page : Root) → AreAllOf (names_met (page_met files page).events) (unit_read files page).deps
+-- the names that the reading of a page meets; a page in XML syntax isn't read, and its own name alone is met
+abbrev pub names_of_reading : Files → (path text : List ℕ) → List (List ℕ)
+names_of_reading files path text = if is_xml path then path ∷ [] else names_met (page_met files (rooted files false path text)).events
+
+-- a unit depends on all names that the reading of its page meets, and on no others
+abbrev pub HasNamesOfReading : Type 0
+HasNamesOfReading = (files : Files) (path text : List ℕ) → AreAllOf (names_of_reading files path text) (unit_of files path text).deps
 
 -- sites that hold the same at the dependencies of a page have the same unit of it
 abbrev pub HasSameUnit : Type 0

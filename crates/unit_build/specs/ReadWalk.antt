@@ -23,7 +23,7 @@ use Rattle.unit_build.specs.Walk.{start_met}
 
 -- the directives of the file itself that are kept are those of it that stood before
 abbrev pub IsOwn : Course → Type 0
-IsOwn course = course.own.items ≡ filter (stands_in course.root.path) course.before.directives
+IsOwn course = course.own ≡ filter (stands_in course.root.path) course.before.directives
 
 -- the faults of an element whose file comes to these, and those of its values
 abbrev pub start_events : Root → Kind → Here → Opened → Tree → List TranslationFault → Before → Option TagDecl → List Event

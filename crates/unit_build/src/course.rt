@@ -12,6 +12,8 @@ use page_directives::{Before, Directive, Faults, Where};
 use page_pieces::Attributes;
 use pg_text::Place;
 use std::alloc::{AllocError, Global};
+use std::mem::replace;
+use tag_decl::DeclaredBefore;
 use unit_source::Root;
 
 /// A page or a tag file that is being read, what stood before in it, and of that the directives of the file itself.
@@ -19,7 +21,7 @@ use unit_source::Root;
 pub(crate) struct Course<'r> {
     pub root: Decided<'r>,
     pub before: Before<'r>,
-    pub own: Vec<Directive<'r>>,
+    pub own: DeclaredBefore<'r>,
 }
 
 impl<'r> Course<'r> {
@@ -32,7 +34,7 @@ impl<'r> Course<'r> {
         Ok(Course {
             root: Decided::new(alloc, root)?,
             before: Before::new(alloc),
-            own: Vec::new(alloc),
+            own: DeclaredBefore::new(alloc),
         })
     }
 
@@ -66,8 +68,8 @@ impl<'r> Course<'r> {
         let stands = self.root.where_stands(&directive);
         let declaring = self.declaring(stands, &directive);
         if self.root.has_own(place) {
-            self.own
-                .push(Directive::new(alloc, name, attributes, place)?)?;
+            let own = replace(&mut self.own, DeclaredBefore::new(alloc));
+            self.own = own.behind(Directive::new(alloc, name, attributes, place)?)?;
         }
         let faults = self.root.meet(stands, &mut self.before, directive)?;
         Ok(faults.and(declaring))

@@ -14,14 +14,15 @@ ghost use Rattle.unit_build.specs.Own.{root_directives};
 ghost use Rattle.unit_build.specs.ReadCore.{core_in, core_of, is_among};
 ghost use Rattle.unit_build.specs.ReadSteps.{steps_of};
 
+use crate::registered::Registered;
 use crate::steps::{Step, steps_of};
 use crate::tag::own_directives;
-use page_directives::{Before, Directive, Faults, Target, Where, target_of};
+use page_directives::{Before, Directive, Faults, FirstReading, Target, Where};
 use page_pieces::Prefixes;
 use pg_text::Place;
 use std::alloc::{AllocError, Global};
 use std::marker::Model;
-use tag_decl::{AttrDecls, declare, declaring_faults};
+use tag_decl::{AttrDecls, DeclaredBefore, declare, declaring_faults};
 use unit_source::{Root, directives, first_directives};
 
 /// A page or a tag file with what its directives decide. Contracts see it as it was read.
@@ -29,8 +30,8 @@ use unit_source::{Root, directives, first_directives};
 pub(crate) struct Decided<'r> {
     root: &'r Root,
     // The directives of both readings, in reading order.
-    directives: Vec<Directive<'r>>,
-    first: Vec<Directive<'r>>,
+    directives: Registered<'r>,
+    first: FirstReading<'r>,
     // The prefixes of the core library.
     core: Prefixes,
     // The attributes that a tag file itself declares.
@@ -55,17 +56,17 @@ impl<'r> Model for Decided<'r> {
 
     ghost view = { λ g. g.root.now };
 
-    ghost invariant = { λ g. (g.directives.items ≡ all_directives (in_place g.root.now.nodes.items)) × (g.first.items ≡ g.root.now.first)
-        × (is_among g.core ≡ is_core_prefix g.directives.items)
+    ghost invariant = { λ g. (g.directives ≡ all_directives (in_place g.root.now.nodes.items)) × (g.first ≡ g.root.now.first)
+        × (is_among g.core ≡ is_core_prefix g.directives)
         × (g.declared ≡ attributes_of (root_directives (root_view g.root.now))) };
 }
 
 // The prefixes of the core library by these directives.
-fn core_prefixes(alloc: Global, directives: &[Directive]) -> Result<Prefixes, AllocError>
+fn core_prefixes(alloc: Global, directives: &Registered) -> Result<Prefixes, AllocError>
     ensures { IfOk result (λ core. core ≡ core_of directives.now directives.now) }
 {
     let mut core = Prefixes::new(alloc);
-    for directive in directives {
+    for directive in directives.as_slice() {
         push_core(&mut core, directives, directive.prefix())?;
     }
     Ok(core)
@@ -74,7 +75,7 @@ fn core_prefixes(alloc: Global, directives: &[Directive]) -> Result<Prefixes, Al
 // Adds a prefix, where it is the core library's.
 fn push_core(
     core: &mut Prefixes,
-    directives: &[Directive],
+    directives: &Registered,
     prefix: Option<&str>,
 ) -> Result<(), AllocError>
     ensures { OnOk result (core.new ≡ core.old ++ core_in directives.now (option_map (λ prefix. prefix.now) prefix.entry)) }
@@ -85,10 +86,10 @@ fn push_core(
     }
 }
 
-fn is_core_prefix(directives: &[Directive], prefix: &str) -> bool
+fn is_core_prefix(directives: &Registered, prefix: &str) -> bool
     ensures { result ≡ is_core_prefix directives.now prefix.now }
 {
-    match target_of(prefix, directives) {
+    match directives.target(prefix) {
         Some(Target::CoreLibrary) => true,
         _ => false,
     }
@@ -99,11 +100,11 @@ impl<'r> Decided<'r> {
     pub fn new(alloc: Global, root: &'r Root) -> Result<Self, AllocError>
         ensures { IfOk result (λ decided. decided ≡ root.now) }
     {
-        let directives = directives(alloc, &root.nodes)?;
+        let directives = Registered::new(alloc, directives(alloc, &root.nodes)?)?;
         let declared = declare(alloc, &own_directives(alloc, root)?)?.attributes;
         Ok(Decided {
             root,
-            first: first_directives(alloc, root)?,
+            first: FirstReading::new(first_directives(alloc, root)?),
             core: core_prefixes(alloc, &directives)?,
             directives,
             declared,
@@ -164,7 +165,7 @@ impl<'r> Decided<'r> {
     }
 
     /// The faults of what a directive declares in a tag file itself, behind these directives of it.
-    pub fn declaring_faults(&self, own: &[Directive], directive: &Directive) -> Faults
+    pub fn declaring_faults(&self, own: &DeclaredBefore, directive: &Directive) -> Faults
         ensures { result ≡ in_order (declaring_faults (attributes_of (root_directives (root_view self.now))) own.now directive.now) }
     {
         declaring_faults(&self.declared, own, directive)

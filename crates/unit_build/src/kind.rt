@@ -7,9 +7,10 @@ ghost use Rattle.unit_build.specs.Standard.{standard_table};
 ghost use Rattle.unit_build.specs.Kinds.{call_kind, core_kind, kind_of, other_fault, standard_kind, tag_path, target_kind};
 ghost use Rattle.unit_build.specs.Made.{kind_made};
 
+use crate::registered::Registered;
 use crate::standard::standard_row;
 use jstl_tags::{CoreName, Row, core_row};
-use page_directives::{Directive, Target, is_among, target_of};
+use page_directives::{Target, is_among};
 use page_pieces::begins;
 use page_reader::Element;
 use pg_text::{Failure, Path, TranslationFault, resolve};
@@ -100,7 +101,7 @@ fn target_kind(alloc: Global, name: &str, target: Option<&Target>) -> Result<Kin
 /// What an element is in a page or tag file with these directives.
 pub(crate) fn kind_of(
     alloc: Global,
-    directives: &[Directive],
+    directives: &Registered,
     element: &Element,
 ) -> Result<Kind, AllocError>
     ensures { IfOk result (λ kind. kind_made kind ≡ kind_of directives.now (opened_of element.now).tag) }
@@ -109,5 +110,5 @@ pub(crate) fn kind_of(
     if element.prefix.as_str() == "jsp" {
         return Ok(standard_kind(name));
     }
-    target_kind(alloc, name, target_of(element.prefix.as_str(), directives))
+    target_kind(alloc, name, directives.target(element.prefix.as_str()))
 }

@@ -20,6 +20,7 @@ mod laws;
 mod leaf;
 mod nodes;
 mod page;
+mod registered;
 mod site;
 mod standard;
 mod start;

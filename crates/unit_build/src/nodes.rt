@@ -7,8 +7,8 @@ ghost use Rattle.unit_nodes.specs.Nodes.{action, done as nothing, joined};
 ghost use Rattle.unit_nodes.specs.Views.{given_of, kind_of as kind_view, node_of, nodes_of, part_of as part_view};
 
 use crate::kind::{Kind, kind_of};
+use crate::registered::Registered;
 use el_reader::read_el;
-use page_directives::Directive;
 use page_pieces::{Attribute, Leaf, Part};
 use page_reader::{Closing, Element};
 use pg_text::{Failure, Listed, Place};
@@ -21,7 +21,7 @@ use unit_source::{PlacedElement, PlacedNode};
 /// The nodes of a page or a tag file with these directives. What has a fault is left out.
 pub(crate) fn built_nodes(
     alloc: Global,
-    directives: &[Directive],
+    directives: &Registered,
     nodes: &[PlacedNode],
 ) -> Result<Vec<UnitNode>, AllocError>
     ensures { IfOk result (λ made. nodes_of made.items ≡ built directives.now (in_place nodes.now)) }
@@ -35,7 +35,7 @@ pub(crate) fn built_nodes(
 #[cycle(building)]
 fn add_nodes(
     alloc: Global,
-    directives: &[Directive],
+    directives: &Registered,
     nodes: &[PlacedNode],
     made: &mut Vec<UnitNode>,
 ) -> Result<(), AllocError>
@@ -51,7 +51,7 @@ fn add_nodes(
 #[tactic(auto, using(crate::proofs::BuiltLemmas::broken_built, crate::proofs::BuiltLemmas::element_built, crate::proofs::BuiltLemmas::include_built))]
 fn add_node(
     alloc: Global,
-    directives: &[Directive],
+    directives: &Registered,
     node: &PlacedNode,
     made: &mut Vec<UnitNode>,
 ) -> Result<(), AllocError>
@@ -70,7 +70,7 @@ fn add_node(
 #[tactic(auto, using(unit_nodes::proofs::NodeLemmas::joined_done))]
 fn add_element(
     alloc: Global,
-    directives: &[Directive],
+    directives: &Registered,
     placed: &PlacedElement,
     made: &mut Vec<UnitNode>,
 ) -> Result<(), AllocError>
@@ -92,7 +92,7 @@ fn add_element(
 #[cycle(building)]
 fn add_action(
     alloc: Global,
-    directives: &[Directive],
+    directives: &Registered,
     kind: ActionKind,
     placed: &PlacedElement,
     made: &mut Vec<UnitNode>,

@@ -11,6 +11,7 @@ ghost use Rattle.unit_nodes.specs.Views.{nodes_of, page_view, tag_view};
 use crate::beans::Bean;
 use crate::found::Found;
 use crate::nodes::built_nodes;
+use crate::registered::Registered;
 use crate::tag::{Tag, own_directives};
 use pg_text::Text;
 use pg_value::{Attrs, Value};
@@ -37,7 +38,7 @@ pub(crate) fn page_of(alloc: Global, root: &Root, found: Found) -> Result<Page, 
 fn root_nodes(alloc: Global, root: &Root) -> Result<Vec<UnitNode>, AllocError>
     ensures { IfOk result (λ nodes. nodes_of nodes.items ≡ built (root_view root.now).directives (root_view root.now).nodes) }
 {
-    let directives = directives(alloc, &root.nodes)?;
+    let directives = Registered::new(alloc, directives(alloc, &root.nodes)?)?;
     built_nodes(alloc, &directives, &root.nodes)
 }
 

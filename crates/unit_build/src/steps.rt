@@ -10,7 +10,7 @@ ghost use Rattle.unit_build.specs.Walk.{behind_all};
 
 use crate::here::Here;
 use crate::kind::{Kind, kind_of};
-use page_directives::Directive;
+use crate::registered::Registered;
 use page_pieces::Leaf;
 use pg_text::{PageFault, Place};
 use std::alloc::{AllocError, Global};
@@ -43,7 +43,7 @@ pub(crate) enum Step<'r> {
 /// The steps of nodes in place, in reading order. `directives` are those of both readings of the page or tag file.
 pub(crate) fn steps_of<'r>(
     alloc: Global,
-    directives: &[Directive],
+    directives: &Registered,
     nodes: &'r [PlacedNode],
 ) -> Result<Vec<Step<'r>>, AllocError>
     ensures { IfOk result (λ steps. map step_made steps.items ≡ steps_of directives.now outermost (in_place nodes.now)) }
@@ -57,7 +57,7 @@ pub(crate) fn steps_of<'r>(
 #[cycle(steps)]
 fn push_steps<'r>(
     alloc: Global,
-    directives: &[Directive],
+    directives: &Registered,
     here: Here<'r>,
     nodes: &'r [PlacedNode],
     steps: &mut Vec<Step<'r>>,
@@ -75,7 +75,7 @@ fn push_steps<'r>(
 #[cycle(steps)]
 fn push_node<'r>(
     alloc: Global,
-    directives: &[Directive],
+    directives: &Registered,
     here: Here<'r>,
     node: &'r PlacedNode,
     steps: &mut Vec<Step<'r>>,
@@ -101,7 +101,7 @@ fn push_node<'r>(
 #[cycle(steps)]
 fn push_element<'r>(
     alloc: Global,
-    directives: &[Directive],
+    directives: &Registered,
     here: Here<'r>,
     element: &'r PlacedElement,
     steps: &mut Vec<Step<'r>>,
@@ -127,7 +127,7 @@ fn push_element<'r>(
 #[cycle(steps)]
 fn push_include<'r>(
     alloc: Global,
-    directives: &[Directive],
+    directives: &Registered,
     here: Here<'r>,
     include: &'r PlacedInclude,
     steps: &mut Vec<Step<'r>>,

@@ -98,7 +98,7 @@ fn declared_in(alloc: Global, root: &Root) -> Result<Option<TagDecl>, AllocError
 {
     let declared = declare(alloc, &own_directives(alloc, root)?)?;
     let judged = judged_directives(alloc, root)?;
-    if is_good(&declared.attributes, &judged) {
+    if is_good(alloc, &declared.attributes, judged)? {
         Ok(Some(declared))
     } else {
         Ok(None)
