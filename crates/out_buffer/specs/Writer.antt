@@ -4,6 +4,7 @@ use Rattle.pg_value.specs.Datum.{text}
 use Rattle.pg_value.specs.Limits.{is_over}
 use Rattle.pg_value.specs.declared.fault.RunFault.{RunFault}
 use Rattle.pg_value.specs.declared.fault.RunFault.TheVariants.{BufferOverflow, OutputTooLong, ValueTooLarge}
+use Rattle.out_buffer.specs.declared.writer.TheConstants.{MAX_OUTPUT_BYTES}
 
 -- the pieces that were committed, the buffer, its size, which is None where there is no buffer, whether the buffer is flushed where
 -- it is full, the number of bytes put so far, and the kept bodies, the innermost first
@@ -21,7 +22,7 @@ empty_writer size autoflush = record { pieces = []; buffer = []; size = size; au
 
 -- how many bytes may be put
 unfoldable pub put_limit : ℕ
-put_limit = 16777216
+put_limit = MAX_OUTPUT_BYTES
 
 -- whether there are pieces
 abbrev pub has_pieces : List (List ℕ) → Bool

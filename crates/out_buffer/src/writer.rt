@@ -40,6 +40,7 @@ pub struct Writer {
 impl Model for Writer {
     ghost use Rattle.std.specs.Prelude.{◌≤◌};
     ghost use Rattle.out_buffer.specs.Held.{Held};
+    ghost use Rattle.out_buffer.specs.declared.writer.TheConstants.{MAX_OUTPUT_BYTES};
 
     ghost Value = { Held };
 
@@ -47,7 +48,7 @@ impl Model for Writer {
 
     ghost view = { λ w. record { head = w.stream.head; shown = w.stream.shown; committed = w.stream.committed; failed = w.stream.failed; buffer = w.buffer.bytes.items; size = w.buffer.size; autoflush = w.buffer.autoflush; count = w.count; kept = w.kept } };
 
-    ghost invariant = { λ w. IsWithin w.buffer.size w.buffer.bytes.items × (w.count ≤ 16777216) };
+    ghost invariant = { λ w. IsWithin w.buffer.size w.buffer.bytes.items × (w.count ≤ MAX_OUTPUT_BYTES) };
 }
 
 impl Writer {

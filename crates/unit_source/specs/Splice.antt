@@ -18,6 +18,7 @@ use Rattle.unit_source.specs.declared.entry.Entry.TheVariants.{Unnamed, Absent, 
 use Rattle.unit_source.specs.Files.{Files}
 use Rattle.unit_source.specs.First.{First, directive, included_path, own_directives, firsts_by, brought_by, brought_names}
 use Rattle.unit_source.specs.InPlace.{InPlace, done, leaf, element, broken, included, placed, trimmed, with_stop}
+use Rattle.unit_source.specs.declared.progress.TheConstants.{MAX_NESTING}
 use Rattle.unit_source.specs.declared.volume.Volume.{Volume}
 use Rattle.unit_source.specs.Volume.{and_file, has_room, one_file, spent}
 use Rattle.unit_source.specs.Whole.{known}
@@ -29,7 +30,7 @@ pub record Going : Type 0 where
 
 -- elements of a unit stand in so many others at most
 abbrev pub most_nested : ℕ
-most_nested = 64
+most_nested = MAX_NESTING
 
 -- nodes in place, the names of included files, and how it goes on
 pub record Spliced : Type 0 where

@@ -1,14 +1,15 @@
 -- How many files of how many bytes are read at most.
 use Rattle.std.specs.Prelude.{ℕ, ◌+◌, ◌&&◌, Bool, nat_lt, nat_le}
+use Rattle.unit_source.specs.declared.volume.TheConstants.{MAX_UNIT_BYTES, MAX_UNIT_FILES}
 use Rattle.unit_source.specs.declared.volume.Volume.{Volume}
 
 -- a unit has so many files at most, and no more are read
 abbrev pub most_files : ℕ
-most_files = 256
+most_files = MAX_UNIT_FILES
 
 -- a unit has so many bytes at most
 abbrev pub most_bytes : ℕ
-most_bytes = 1048576
+most_bytes = MAX_UNIT_BYTES
 
 -- a file of so many bytes alone
 abbrev pub one_file : ℕ → Volume

@@ -20,6 +20,7 @@ pub(crate) struct SourceFile {
 
 impl Model for SourceFile {
     ghost use Rattle.std.specs.Prelude.{◌≡◌, ◌≤◌, length};
+    ghost use Rattle.page_reader.specs.declared.reader.TheConstants.{MAX_PAGE_BYTES};
     ghost use Rattle.unit_source.specs.First.{own_directives};
     ghost use Rattle.unit_source.specs.ReadFiles.{Source, source};
 
@@ -27,7 +28,7 @@ impl Model for SourceFile {
 
     ghost view = { λ f. source f.path f.text };
 
-    ghost invariant = { λ f. (f.own.value ≡ own_directives f.path f.text) × (length f.text ≤ 1048576) };
+    ghost invariant = { λ f. (f.own.value ≡ own_directives f.path f.text) × (length f.text ≤ MAX_PAGE_BYTES) };
 }
 
 impl SourceFile {
