@@ -82,7 +82,7 @@ impl<N: Ledger> Answering<N> {
     fn history(self, alloc: Global) -> Result<String, AllocError> {
         let Answering { port, .. } = self;
         let mut text = String::new(alloc);
-        for entry in into_site(port).history() {
+        for entry in into_site(port).history().iter() {
             text.push(letter(&entry.op))?;
         }
         Ok(text)

@@ -2,13 +2,14 @@ ghost use Rattle.std.specs.Prelude.{◌≡◌, ◌≤◌, nat_eq, if◌then◌el
 ghost use Rattle.std.specs.List.{starts_with};
 ghost use Rattle.pages_load.specs.Load.{count, good_mark, is_hit, is_publishing, places};
 
+use block_list::BlockList;
 use site_words::{Entry, Op, Reply};
 
 const GOOD_MARK: &[u8] = b"HTTP/1.1 200 OK\r\nContent-Type: text/html";
 
 /// How many entries publish.
-pub(crate) fn publishings(history: &[Entry]) -> usize
-    ensures { result ≡ count is_publishing history.now }
+pub(crate) fn publishings(history: &BlockList<Entry>) -> usize
+    ensures { result ≡ count is_publishing history.now.items }
 {
     history.iter().filter(|entry| is_publishing(entry)).count()
 }
@@ -20,8 +21,8 @@ fn is_publishing(entry: &Entry) -> bool
 }
 
 /// How many entries fetch a page of which what is kept was taken.
-pub(crate) fn hits(history: &[Entry]) -> usize
-    ensures { result ≡ count is_hit history.now }
+pub(crate) fn hits(history: &BlockList<Entry>) -> usize
+    ensures { result ≡ count is_hit history.now.items }
 {
     history.iter().filter(|entry| is_hit(entry)).count()
 }

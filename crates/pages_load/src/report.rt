@@ -2,6 +2,7 @@ ghost use Rattle.std.specs.Prelude.{◌≡◌, ◌≤◌, ◌++◌, IfOk, OnOk};
 ghost use Rattle.pages_load.specs.Load.{line, report};
 
 use crate::counting::{good_answers, hits, publishings};
+use block_list::BlockList;
 use load_gen::{MAX_PAGES, counted};
 use site_words::Entry;
 use std::alloc::{AllocError, Global};
@@ -10,11 +11,11 @@ use std::alloc::{AllocError, Global};
 pub(crate) fn report(
     alloc: Global,
     number: u32,
-    history: &[Entry],
+    history: &BlockList<Entry>,
     answers: &[u8],
 ) -> Result<Vec<u8>, AllocError>
     requires few { number ≤ MAX_PAGES }
-    ensures { IfOk result (λ lines. lines.items ≡ report number history.now answers.now) }
+    ensures { IfOk result (λ lines. lines.items ≡ report number history.now.items answers.now) }
 {
     counted();
     let mut lines = Vec::new(alloc);

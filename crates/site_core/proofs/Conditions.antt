@@ -183,9 +183,9 @@ module _ {P : Type 0} (needs : Needs) (made : P → List File → List ℕ → T
   value_here x history pass (op.Snapshot cookie) v legal below is = tt
   value_here x history pass op.Roll v legal below is = tt
 
-  pub can_work : (x : Opening) (history : List Entry) (parts : Parts P) (len capacity pass : ℕ) (o : Op) (v : Option P) → IsSite needs made x history parts len capacity → May x history pass (own pass history) o
+  pub can_work : (x : Opening) (history : List Entry) (parts : Parts P) (room pass : ℕ) (o : Op) (v : Option P) → IsSite needs made x history parts room → May x history pass (own pass history) o
       → IsMade made x history (run_of (own pass history)) o v → CanWork needs made x history parts pass o v
-  can_work x history parts len capacity pass o v site may is =
+  can_work x history parts room pass o v site may is =
       let short : 64 * length history ≤ (after needs x history).weight = subst (λ (s : State). 64 * length history ≤ s.weight) site.state site.short in
       let step : CanStep needs x (state_of x history parts) pass o = subst (λ (s : State). CanStep needs x s pass o) (sym site.state) (can_step needs x history pass o site.sound site.limit site.legal short may) in
       record {

@@ -1,5 +1,5 @@
 -- A site after one operation more.
-use Rattle.std.proofs.Common.{◌≡◌, ◌≢◌, ℕ, zero, suc, ◌+◌, ◌*◌, ◌^◌, ◌<◌, ◌≤◌, Bool, true, false, List, [], ◌∷◌, ◌++◌, length, map, replicate, set, Option, Some, None, refl, sym, ap, subst, ◌∙◌, arith}
+use Rattle.std.proofs.Common.{◌≡◌, ◌≢◌, ℕ, zero, suc, ◌+◌, ◌-◌, ◌*◌, ◌^◌, ◌<◌, ◌≤◌, Bool, true, false, List, [], ◌∷◌, ◌++◌, length, map, replicate, set, Option, Some, None, refl, sym, ap, subst, ◌∙◌, arith}
 use Rattle.std.specs.Prelude.{slice_get, if◌then◌else◌}
 use Rattle.std.proofs.lemmas.List.{length_push}
 use Rattle.source_tree.specs.declared.file.File.{File}
@@ -73,35 +73,35 @@ last_closes latest under (op.Offer request path) r last ask = absurd (cc)
 last_closes latest under (op.Snapshot cookie) r last ask = absurd (cc)
 last_closes latest under op.Roll r last ask = absurd (cc)
 
-grown : (o : Op) (len opened capacity : ℕ) → len + opened + growth o ≤ capacity → (is_last o ≡ true → len + opened ≤ capacity) × (is_last o ≡ false → len + opened + 2 ≤ capacity)
-grown o len opened capacity room = go (is_last o) room
+grown : (o : Op) (opened room : ℕ) → opened + growth o ≤ room → (is_last o ≡ true → opened ≤ room) × (is_last o ≡ false → opened + 2 ≤ room)
+grown o opened room spare = go (is_last o) spare
   where
-    go : (b : Bool) → len + opened + (if b then 0 else 2) ≤ capacity → (b ≡ true → len + opened ≤ capacity) × (b ≡ false → len + opened + 2 ≤ capacity)
-    go true room = (λ is. omega arith, λ is. absurd (cc))
-    go false room = (λ is. absurd (cc), λ is. omega arith)
+    go : (b : Bool) → opened + (if b then 0 else 2) ≤ room → (b ≡ true → opened ≤ room) × (b ≡ false → opened + 2 ≤ room)
+    go true spare = (λ is. omega arith, λ is. absurd (cc))
+    go false spare = (λ is. absurd (cc), λ is. omega arith)
 
--- there is a place for the entry, and afterwards one for the end of each request
-pub record HasPlace (len capacity opened : ℕ) : Type 0 where
-  pub here : len < capacity
-  pub after : len + 1 + opened ≤ capacity
+-- there is room for the entry, and afterwards for the end of each request
+pub record HasPlace (room opened : ℕ) : Type 0 where
+  pub here : 0 < room
+  pub after : opened ≤ room - 1
 
-pub has_place : (latest : List File) (runs : List (Option UnderWay)) (pass len capacity : ℕ) (o : Op) (r : Reply) → pass < length runs → asks (run_at runs pass) o ≡ true → len + open_runs runs + growth o ≤ capacity
-    → HasPlace len capacity (open_runs (set runs pass (under_after latest (under_at runs pass) o r)))
-has_place latest runs pass len capacity o r within ask room = go (is_last o) refl
+pub has_place : (latest : List File) (runs : List (Option UnderWay)) (pass room : ℕ) (o : Op) (r : Reply) → pass < length runs → asks (run_at runs pass) o ≡ true → open_runs runs + growth o ≤ room
+    → HasPlace room (open_runs (set runs pass (under_after latest (under_at runs pass) o r)))
+has_place latest runs pass room o r within ask spare = go (is_last o) refl
   where
     set_open : open_runs (set runs pass (under_after latest (under_at runs pass) o r)) + is_open (under_at runs pass) ≡ open_runs runs + is_open (under_after latest (under_at runs pass) o r)
     set_open = open_set runs pass (under_after latest (under_at runs pass) o r) within
 
-    go : (b : Bool) → is_last o ≡ b → HasPlace len capacity (open_runs (set runs pass (under_after latest (under_at runs pass) o r)))
+    go : (b : Bool) → is_last o ≡ b → HasPlace room (open_runs (set runs pass (under_after latest (under_at runs pass) o r)))
     go true is =
-        let room' : len + open_runs runs ≤ capacity = (grown o len (open_runs runs) capacity room).0 is in
+        let room' : open_runs runs ≤ room = (grown o (open_runs runs) room spare).0 is in
         let closes = last_closes latest (under_at runs pass) o r is ask in
         let none = open_one (under_after latest (under_at runs pass) o r) in
         let before = open_one (under_at runs pass) in
         let same = set_open in
         record { here = omega arith; after = omega arith }
     go false is =
-        let room' : len + open_runs runs + 2 ≤ capacity = (grown o len (open_runs runs) capacity room).1 is in
+        let room' : open_runs runs + 2 ≤ room = (grown o (open_runs runs) room spare).1 is in
         let one = open_one (under_after latest (under_at runs pass) o r) in
         let same = set_open in
         record { here = omega arith; after = omega arith }
@@ -122,47 +122,44 @@ module _ {P : Type 0} (needs : Needs) (made : P → List File → List ℕ → T
     weight = parts.weight;
   }
 
-  pub next_state : (x : Opening) (history : List Entry) (old new : Parts P) (len capacity pass : ℕ) (o : Op) (done : Done P) → IsSite needs made x history old len capacity → IsDone needs made x history old new pass o done
+  pub next_state : (x : Opening) (history : List Entry) (old new : Parts P) (room pass : ℕ) (o : Op) (done : Done P) → IsSite needs made x history old room → IsDone needs made x history old new pass o done
       → state_of x (history ++ entry_of pass o done.reply ∷ []) new ≡ moved needs x (after needs x history) (entry_of pass o done.reply)
-  next_state x history old new len capacity pass o done site is =
+  next_state x history old new room pass o done site is =
       let e : Entry = entry_of pass o done.reply in
       is.moves.state (history ++ e ∷ []) (last_place history e)
       ∙ ap (λ (s : State). moved needs x s e) (longer x history (e ∷ []) old site.there ∙ site.state)
 
-  pub next : (x : Opening) (history : List Entry) (old new : Parts P) (len capacity pass len' capacity' : ℕ) (o : Op) (done : Done P) → IsSite needs made x history old len capacity → May x history pass (own pass history) o
-      → IsDone needs made x history old new pass o done → len' ≡ len + 1 → len + open_runs old.runs + growth o ≤ capacity' → IsSite needs made x (history ++ entry_of pass o done.reply ∷ []) new len' capacity'
-  next x history old new len capacity pass len' capacity' o done site may is grown room =
+  pub next : (x : Opening) (history : List Entry) (old new : Parts P) (room pass room' : ℕ) (o : Op) (done : Done P) → IsSite needs made x history old room → May x history pass (own pass history) o
+      → IsDone needs made x history old new pass o done → open_runs old.runs + growth o ≤ room' → IsSite needs made x (history ++ entry_of pass o done.reply ∷ []) new (room' - 1)
+  next x history old new room pass room' o done site may is spare =
       let e : Entry = entry_of pass o done.reply in
       let short : 64 * length history ≤ (after needs x history).weight = subst (λ (s : State). 64 * length history ≤ s.weight) site.state site.short in
       let can : CanStep needs x (state_of x history old) pass o = subst (λ (s : State). CanStep needs x s pass o) (sym site.state) (can_step needs x history pass o site.sound site.limit site.legal short may) in
       let none : refusal_of needs x (after needs x history) pass o ≡ None = subst (λ (s : State). refusal_of needs x s pass o ≡ None) site.state is.allowed in
       let told : done.reply ≡ reply_to needs x (after needs x history) pass o = subst (λ (s : State). done.reply ≡ reply_to needs x s pass o) site.state is.reply_is in
-      let moves = next_state x history old new len capacity pass o done site is in
+      let moves = next_state x history old new room pass o done site is in
       let runs : new.runs ≡ set old.runs pass (under_after old.tree (under_at old.runs pass) o done.reply) =
       ap (λ (s : State). s.runs) (moves ∙ ap (λ (s : State). moved needs x s e) (sym site.state)) in
       let weight : new.weight ≡ old.weight + weight_with o done.reply = ap (λ (s : State). s.weight) (moves ∙ ap (λ (s : State). moved needs x s e) (sym site.state)) ∙ weight_is old.weight o done.reply (not_roll x history pass (own pass history) o may) in
-      let place = has_place old.tree old.runs pass len capacity' o done.reply can.within can.asks room in
+      let place = has_place old.tree old.runs pass room' o done.reply can.within can.asks spare in
       record {
         state = moves ∙ sym (after_push needs x history e);
         legal = subst (λ r. Legal needs x (history ++ entry_of pass o r ∷ [])) (sym told) (follows needs x history pass o site.legal may none);
         sound = site.sound;
         limit = site.limit;
-        spare = spare_of len len' capacity' (open_runs new.runs) (open_runs (set old.runs pass (under_after old.tree (under_at old.runs pass) o done.reply))) (ap (λ r. open_runs r) runs) grown place.after;
+        spare = subst (λ r. open_runs r ≤ room' - 1) (sym runs) place.after;
         there = subst (λ n. AreThere n new.sessions) (sym (length_push history e)) (is.moves.there site.there);
         short = short_of (length history) (length (history ++ e ∷ [])) old.weight new.weight o done.reply (length_push history e) site.short (not_roll x history pass (own pass history) o may) weight;
         kept = is.moves.kept site.kept;
       }
     where
-      spare_of : (len len' capacity opened opened' : ℕ) → opened ≡ opened' → len' ≡ len + 1 → len + 1 + opened' ≤ capacity → len' + opened ≤ capacity
-      spare_of len len' capacity opened opened' same grown room = omega arith
-
       short_of : (n n' weight weight' : ℕ) (o : Op) (r : Reply) → n' ≡ n + 1 → 64 * n ≤ weight → o ≢ op.Roll → weight' ≡ weight + weight_with o r → 64 * n' ≤ weight'
       short_of n n' weight weight' o r grown short other is = let least = weighs o other in omega arith
 
   -- what is given is what the step says
-  pub replies : (x : Opening) (history : List Entry) (old new : Parts P) (len capacity pass : ℕ) (o : Op) (done : Done P) → IsSite needs made x history old len capacity → IsDone needs made x history old new pass o done
+  pub replies : (x : Opening) (history : List Entry) (old new : Parts P) (room pass : ℕ) (o : Op) (done : Done P) → IsSite needs made x history old room → IsDone needs made x history old new pass o done
       → Replies needs made x history pass o done.given
-  replies x history old new len capacity pass o done site is =
+  replies x history old new room pass o done site is =
       let given_is : done.given.reply ≡ reply_to needs x (state_of x history old) pass o = is.same ∙ is.reply_is in
       let stepped_is : step needs x (state_of x history old) pass o ≡ Did done.given.reply = ap (λ refusal. stepped refusal (reply_to needs x (state_of x history old) pass o)) is.allowed ∙ ap (λ (r : Reply). Did r) (sym given_is) in
       record {
@@ -172,9 +169,9 @@ module _ {P : Type 0} (needs : Needs) (made : P → List File → List ℕ → T
       }
 
   -- a refusal is the step's
-  pub refuses : (x : Opening) (history : List Entry) (old : Parts P) (len capacity pass : ℕ) (o : Op) (refusal : Refusal) → IsSite needs made x history old len capacity
+  pub refuses : (x : Opening) (history : List Entry) (old : Parts P) (room pass : ℕ) (o : Op) (refusal : Refusal) → IsSite needs made x history old room
       → refusal_of needs x (state_of x history old) pass o ≡ Some refusal → step needs x (after needs x history) pass o ≡ Refused refusal
-  refuses x history old len capacity pass o refusal site is =
+  refuses x history old room pass o refusal site is =
       subst (λ (s : State). step needs x s pass o ≡ Refused refusal) site.state (ap (λ f. stepped f (reply_to needs x (state_of x history old) pass o)) is)
 
 -- a sure operation is a last one
@@ -195,10 +192,10 @@ none_open zero = refl
 none_open (suc n) = none_open n
 
 -- a site with an empty history
-pub starts : {P : Type 0} (needs : Needs) (made : P → List File → List ℕ → Type 0) (x : Opening) (history : List Entry) (parts : Parts P) (len capacity : ℕ) → is_sound x ≡ true → x.limit < 2 ^ 64 → history ≡ [] → state_of x [] parts ≡ start_of x → parts.kept ≡ []
-    → AreThere 0 parts.sessions → len ≡ 0 → IsSite needs made x history parts len capacity
-starts needs made x history parts len capacity can limit none is empty there at =
-    subst (λ h. IsSite needs made x h parts len capacity) (sym none)
+pub starts : {P : Type 0} (needs : Needs) (made : P → List File → List ℕ → Type 0) (x : Opening) (history : List Entry) (parts : Parts P) (room : ℕ) → is_sound x ≡ true → x.limit < 2 ^ 64 → history ≡ [] → state_of x [] parts ≡ start_of x → parts.kept ≡ []
+    → AreThere 0 parts.sessions → IsSite needs made x history parts room
+starts needs made x history parts room can limit none is empty there =
+    subst (λ h. IsSite needs made x h parts room) (sym none)
     (record {
       state = is;
       legal = tt;
@@ -211,15 +208,15 @@ starts needs made x history parts len capacity can limit none is empty there at 
     })
 
 -- the runs are few
-pub few_runs : {P : Type 0} (needs : Needs) (made : P → List File → List ℕ → Type 0) (x : Opening) (history : List Entry) (parts : Parts P) (len capacity : ℕ) → IsSite needs made x history parts len capacity → length parts.runs < 2 ^ 10
-few_runs needs made x history parts len capacity site =
+pub few_runs : {P : Type 0} (needs : Needs) (made : P → List File → List ℕ → Type 0) (x : Opening) (history : List Entry) (parts : Parts P) (room : ℕ) → IsSite needs made x history parts room → length parts.runs < 2 ^ 10
+few_runs needs made x history parts room site =
     let len_is = ap (λ (s : State). length s.runs) site.state ∙ passes_len needs x history in
     let few = (opened x site.sound).few in
     omega arith
 
 -- the history is short
-pub short_history : {P : Type 0} (needs : Needs) (made : P → List File → List ℕ → Type 0) (x : Opening) (history : List Entry) (parts : Parts P) (len capacity : ℕ) → IsSite needs made x history parts len capacity → length history < 2 ^ 63
-short_history needs made x history parts len capacity site =
+pub short_history : {P : Type 0} (needs : Needs) (made : P → List File → List ℕ → Type 0) (x : Opening) (history : List Entry) (parts : Parts P) (room : ℕ) → IsSite needs made x history parts room → length history < 2 ^ 63
+short_history needs made x history parts room site =
     let start_x = opened x site.sound in
     let fair = within needs x history start_x.app site.legal in
     let weight : parts.weight ≡ (after needs x history).weight = ap (λ (s : State). s.weight) site.state in
@@ -229,8 +226,8 @@ short_history needs made x history parts len capacity site =
     omega arith
 
 -- the same site, where its history has room yet
-pub still : {P : Type 0} (needs : Needs) (made : P → List File → List ℕ → Type 0) (x : Opening) (history history' : List Entry) (parts : Parts P) (len capacity len' capacity' : ℕ) → IsSite needs made x history parts len capacity → history' ≡ history
-    → len' + open_runs parts.runs ≤ capacity' → IsSite needs made x history' parts len' capacity'
-still needs made x history history' parts len capacity len' capacity' site same spare =
-    subst (λ h. IsSite needs made x h parts len' capacity') (sym same)
+pub still : {P : Type 0} (needs : Needs) (made : P → List File → List ℕ → Type 0) (x : Opening) (history history' : List Entry) (parts : Parts P) (room room' : ℕ) → IsSite needs made x history parts room → history' ≡ history
+    → open_runs parts.runs ≤ room' → IsSite needs made x history' parts room'
+still needs made x history history' parts room room' site same spare =
+    subst (λ h. IsSite needs made x h parts room') (sym same)
     (record { state = site.state; legal = site.legal; sound = site.sound; limit = site.limit; spare = spare; there = site.there; short = site.short; kept = site.kept })

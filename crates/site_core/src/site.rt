@@ -12,6 +12,7 @@ ghost use Rattle.site_core.specs.Lived.{first_opening};
 
 use crate::condition;
 use crate::opening::know_limit;
+use block_list::BlockList;
 use pg_text::Text;
 use pg_value::Attrs;
 use site_state::{Act, Done, Given, Held, session_id};
@@ -25,7 +26,7 @@ use std::marker::Model;
 pub struct Site<P: Compiled> {
     alloc: Global,
     opening: Opening,
-    history: Vec<Entry>,
+    history: BlockList<Entry>,
     held: Held<P>,
 }
 
@@ -33,7 +34,6 @@ impl<P: Compiled> Model for Site<P> {
     ghost use Rattle.site_core.specs.Lived.{Lived};
     ghost use Rattle.site_core.specs.ReadSite.{IsSite};
     ghost use Rattle.site_state.specs.Parts.{parts_of};
-    ghost use Rattle.std.specs.Vec.{vec_len, vec_capacity};
 
     ghost Value = { Lived };
 
@@ -44,7 +44,7 @@ impl<P: Compiled> Model for Site<P> {
 
     ghost view = { λ s. record { opening = s.opening; history = s.history.items } };
 
-    ghost invariant = { λ s. IsSite P.needs P.made s.opening s.history.items (parts_of s.held) (vec_len s.history) (vec_capacity s.history) };
+    ghost invariant = { λ s. IsSite P.needs P.made s.opening s.history.items (parts_of s.held) s.history.room };
 }
 
 /// A new site of these application attributes and this tree, whose journal weighs at most `limit`, for as many passes, whose
@@ -87,10 +87,11 @@ impl<P: Compiled> Site<P> {
     {
         know_limit(&opening);
         let held = Held::start(alloc, &opening)?;
+        let history = BlockList::new(alloc)?;
         Ok(Site {
             alloc,
             opening,
-            history: Vec::new(alloc),
+            history,
             held,
         })
     }
@@ -117,8 +118,8 @@ impl<P: Compiled> Site<P> {
         self.history.is_empty()
     }
 
-    pub fn history(&self) -> &[Entry]
-        ensures { result.now ≡ self.now.history }
+    pub fn history(&self) -> &BlockList<Entry>
+        ensures { result.now.items ≡ self.now.history }
     {
         &self.history
     }

@@ -87,7 +87,7 @@ fn count_text(alloc: Global, site: &Site<Word>) -> Result<String, AllocError> {
 }
 
 fn entry_at(alloc: Global, site: &Site<Word>, place: u64) -> Result<String, AllocError> {
-    match site.history().iter().nth(place as usize) {
+    match site.history().get(place as usize) {
         Some(entry) => entry_text(alloc, entry),
         None => String::from_str(alloc, "none"),
     }

@@ -1,12 +1,11 @@
-ghost use Rattle.std.specs.Prelude.{◌≡◌, ◌<◌, ◌^◌, length};
+ghost use Rattle.std.specs.Prelude.{◌≡◌, ◌<◌, ◌^◌, flat_map, length};
 ghost use Rattle.site_journal.specs.Codes.{of_bytes, of_list};
 ghost use Rattle.site_journal.specs.Journal.{kind_of, of_answer, of_edit, of_entry, of_op, of_reply, of_step, rolled};
 ghost use Rattle.site_journal.specs.Writing.{Writes};
 
 use crate::values::{put_attrs, put_value};
-use crate::writing::{
-    Item, put, put_byte, put_bytes, put_items, put_list, put_number, put_option, put_truth,
-};
+use crate::writing::{Item, put, put_byte, put_bytes, put_list, put_number, put_option, put_truth};
+use block_list::BlockList;
 use edges::Sink;
 use pg_text::Path;
 use site_words::{AppReply, AppStep, Entry, Op, Reply};
@@ -16,13 +15,22 @@ use source_tree::Edit;
 const ROLL: [u8; 2] = [0, 10];
 
 /// Writes a history with a Roll behind it.
-pub(crate) fn put_rolled<K: Sink>(sink: &mut K, failed: &mut bool, entries: &[Entry])
-    requires { length entries.now < 2 ^ 63 }
-    ensures { Writes (K.taken sink.old) (K.taken sink.new) (K.faults sink.old) (K.faults sink.new) failed.old failed.new (of_list of_entry (rolled entries.now)) }
+pub(crate) fn put_rolled<K: Sink>(sink: &mut K, failed: &mut bool, history: &BlockList<Entry>)
+    requires { length history.now.items < 2 ^ 63 }
+    ensures { Writes (K.taken sink.old) (K.taken sink.new) (K.faults sink.old) (K.faults sink.new) failed.old failed.new (of_list of_entry (rolled history.now.items)) }
 {
-    put_number(sink, failed, entries.len() as u64 + 1);
-    put_items(sink, failed, entries);
+    put_number(sink, failed, history.len() as u64 + 1);
+    put_entries(sink, failed, history);
     put(sink, failed, &ROLL);
+}
+
+// Writes the entries of a history.
+fn put_entries<K: Sink>(sink: &mut K, failed: &mut bool, history: &BlockList<Entry>)
+    ensures { Writes (K.taken sink.old) (K.taken sink.new) (K.faults sink.old) (K.faults sink.new) failed.old failed.new (flat_map of_entry history.now.items) }
+{
+    for entry in history.iter() {
+        entry.put(sink, failed);
+    }
 }
 
 impl Item for Entry {

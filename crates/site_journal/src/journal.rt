@@ -8,6 +8,7 @@ use crate::entries::put_rolled;
 use crate::opening::put_opening;
 use crate::talk::Talk;
 use crate::writing::{put, put_byte, put_bytes, put_list};
+use block_list::BlockList;
 use edges::Sink;
 use site_words::{Entry, Opening};
 
@@ -20,11 +21,11 @@ pub fn write_journal<K: Sink>(
     sink: &mut K,
     failed: &mut bool,
     opening: &Opening,
-    history: &[Entry],
+    history: &BlockList<Entry>,
     talk: Option<&Talk>,
 )
-    requires { length history.now < 2 ^ 63 }
-    ensures { Writes (K.taken sink.old) (K.taken sink.new) (K.faults sink.old) (K.faults sink.new) failed.old failed.new (journal opening.now (rolled history.now) (option_copied talk.entry)) }
+    requires { length history.now.items < 2 ^ 63 }
+    ensures { Writes (K.taken sink.old) (K.taken sink.new) (K.faults sink.old) (K.faults sink.new) failed.old failed.new (journal opening.now (rolled history.now.items) (option_copied talk.entry)) }
 {
     put(sink, failed, MARK);
     put_opening(sink, failed, opening);

@@ -90,8 +90,8 @@ pub(crate) fn put_list<K: Sink, T: Item>(sink: &mut K, failed: &mut bool, items:
     put_items(sink, failed, items);
 }
 
-/// Writes the items of a list.
-pub(crate) fn put_items<K: Sink, T: Item>(sink: &mut K, failed: &mut bool, items: &[T])
+// Writes the items of a list.
+fn put_items<K: Sink, T: Item>(sink: &mut K, failed: &mut bool, items: &[T])
     ensures { Writes (K.taken sink.old) (K.taken sink.new) (K.faults sink.old) (K.faults sink.new) failed.old failed.new (flat_map T.text items.now) }
 {
     for item in items {

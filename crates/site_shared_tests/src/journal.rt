@@ -1,5 +1,6 @@
 //! The journal of a site, and the site that does it again.
 use crate::visiting::Errand;
+use block_list::BlockList;
 use pg_text::{BadPath, Failure, Text, resolve};
 use site_core::{Given, Site};
 use site_core_tests::{Word, put, replied, step, told};
@@ -31,7 +32,11 @@ pub fn errand(alloc: Global, cookie: &str) -> Result<Errand, Failure<BadPath>> {
 }
 
 /// A line for each entry from this place on: its pass and what it was answered.
-pub fn entries(alloc: Global, history: &[Entry], from: usize) -> Result<String, AllocError> {
+pub fn entries(
+    alloc: Global,
+    history: &BlockList<Entry>,
+    from: usize,
+) -> Result<String, AllocError> {
     let mut lines = String::new(alloc);
     for entry in history.iter().skip(from) {
         add_entry(alloc, &mut lines, entry)?;
@@ -50,10 +55,10 @@ fn add_entry(alloc: Global, lines: &mut String, entry: &Entry) -> Result<(), All
 pub fn agreeing(
     alloc: Global,
     again: &mut Site<Word>,
-    history: &[Entry],
+    history: &BlockList<Entry>,
 ) -> Result<u64, AllocError> {
     let mut count: u64 = 0;
-    for entry in history {
+    for entry in history.iter() {
         if agrees(alloc, again, entry)? {
             count = count.saturating_add(1);
         }
@@ -80,9 +85,9 @@ fn given_text(
 }
 
 /// How many fetches of the history found something.
-pub fn hits(alloc: Global, history: &[Entry]) -> Result<u64, AllocError> {
+pub fn hits(alloc: Global, history: &BlockList<Entry>) -> Result<u64, AllocError> {
     let mut count: u64 = 0;
-    for entry in history {
+    for entry in history.iter() {
         if is_hit(alloc, entry)? {
             count = count.saturating_add(1);
         }

@@ -9,6 +9,7 @@ use crate::ranks::{Key, Row, append, place_of, take_out};
 use crate::request::Request;
 use crate::session::Session;
 use crate::sessions::holder_of;
+use block_list::BlockList;
 use site_words::{Entry, KeptSession, MAX_SESSIONS};
 use std::alloc::{AllocError, Global};
 use std::marker::Model;
@@ -60,9 +61,9 @@ impl SessionList {
         &self,
         alloc: Global,
         opened: &[KeptSession],
-        history: &[Entry],
+        history: &BlockList<Entry>,
     ) -> Result<Vec<KeptSession>, AllocError>
-        ensures { IfOk result (λ kept. kept.items ≡ sessions_of opened.now history.now self.now) }
+        ensures { IfOk result (λ kept. kept.items ≡ sessions_of opened.now history.now.items self.now) }
     {
         kept_of(alloc, opened, history, &self.rows)
     }
@@ -159,10 +160,10 @@ fn first_free(runs: &[Option<Request>], rows: &[Row]) -> Option<u64>
 fn kept_of(
     alloc: Global,
     opened: &[KeptSession],
-    history: &[Entry],
+    history: &BlockList<Entry>,
     rows: &[Row],
 ) -> Result<Vec<KeptSession>, AllocError>
-    ensures { IfOk result (λ kept. kept.items ≡ sessions_of opened.now history.now (map session_in rows.now)) }
+    ensures { IfOk result (λ kept. kept.items ≡ sessions_of opened.now history.now.items (map session_in rows.now)) }
 {
     let mut kept = Vec::with_capacity(alloc, rows.len())?;
     for row in rows {

@@ -5,4 +5,4 @@ use Rattle.site_state.proofs.session_list.kept_of.Given as goal
 
 -- the sessions so far, with their attributes
 abbrev pub invariant-loop-row : goal.invariant-loop-row
-invariant-loop-row l = l.kept.items ≡ sessions_of l.opened l.history (map session_in (take l.row-index l.rows))
+invariant-loop-row l = l.kept.items ≡ sessions_of l.opened l.history.items (map session_in (take l.row-index l.rows))

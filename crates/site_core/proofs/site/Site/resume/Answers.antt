@@ -1,4 +1,3 @@
-use Rattle.std.specs.Vec.{vec_capacity, vec_len}
 use Rattle.site_state.specs.Parts.{parts_of}
 use Rattle.site_core.proofs.Conditions.{opened_apart}
 use Rattle.site_core.proofs.Next.{starts}
@@ -9,5 +8,5 @@ start-requires g c = opened_apart c.args.opening c.requires
 
 pub invariant_of-result : goal.invariant_of-result
 invariant_of-result g c =
-    starts g.P.Compiled.needs g.P.Compiled.made c.args.opening c.new.result.items (parts_of c.in_ok-held.held) (vec_len c.new.result) (vec_capacity c.new.result) c.requires c.know_limit.ensures c.new.ensures.items
-    c.in_ok-held.ensures.state c.in_ok-held.ensures.kept c.in_ok-held.ensures.there c.new.ensures.len
+    starts g.P.Compiled.needs g.P.Compiled.made c.args.opening c.in_ok-history.history.items (parts_of c.in_ok-held.held) c.in_ok-history.history.room c.requires c.know_limit.ensures c.in_ok-history.ensures
+    c.in_ok-held.ensures.state c.in_ok-held.ensures.kept c.in_ok-held.ensures.there

@@ -18,7 +18,7 @@ returns-in-Err g c = (
 
 pub returns : goal.returns
 returns g c =
-    snapshot_done g.P.Compiled.needs g.P.Compiled.made c.args.opening.now c.args.history.now (parts_of c.args.self.now) _ c.args.pass c.args.weight c.saturating_add-self.result c.args.cookie.now c.shown-session.result c.in-Ok.done
+    snapshot_done g.P.Compiled.needs g.P.Compiled.made c.args.opening.now c.args.history.now.items (parts_of c.args.self.now) _ c.args.pass c.args.weight c.saturating_add-self.result c.args.cookie.now c.shown-session.result c.in-Ok.done
     c.requires.can
     (sym (subst (λ r. None ≡ full_of c.args.opening.now.limit c.args.self.now.weight (promised (map under_in r)) (op_weight (op.Snapshot c.args.cookie.now))) c.deref.ensures.value (c.in_default.ensures.fits (op_weight (op.Snapshot c.args.cookie.now)) (snapshot_claim c.args.weight c.args.cookie.now c.requires.can.asks c.requires.weight)).1))
     refl
