@@ -1,3 +1,4 @@
+// The command `play` over bytes in memory.
 ghost use Rattle.std.specs.Prelude.{◌≡◌, ◌<◌, ◌≤◌};
 
 use edges::{MemClock, MemSink, MemSource, Steps, Unseen};
@@ -25,21 +26,32 @@ pub fn failing(
 {
     let source = MemSource::new(input.to_vec(alloc)?, piece, reads.to_vec(alloc)?);
     let sink = MemSink::new(alloc, writes.to_vec(alloc)?);
-    played::<Brand>(alloc, Blank::new(1), &["play"], source, sink)
+    played::<Brand>(alloc, Blank::new(1), "play", source, sink)
 }
 
 /// The status of these words over an empty input, and what was written.
-pub fn worded(alloc: Global, words: &[&str]) -> Result<(u8, Vec<u8>), AllocError> {
+pub fn worded(alloc: Global, words: &str) -> Result<(u8, Vec<u8>), AllocError> {
     let source = MemSource::new(Vec::new(alloc), 1, Vec::new(alloc));
     let sink = MemSink::new(alloc, Vec::new(alloc));
     played::<Brand>(alloc, Blank::new(1), words, source, sink)
+}
+
+/// Words between blanks.
+pub fn words_of(alloc: Global, words: &str) -> Result<Vec<String>, AllocError> {
+    let mut owned = Vec::new(alloc);
+    if !words.is_empty() {
+        for word in words.split(' ') {
+            owned.push(String::from_str(alloc, word)?)?;
+        }
+    }
+    Ok(owned)
 }
 
 // The status of these words over this source and this sink, and what the sink took.
 fn played<N: Ledger>(
     alloc: Global,
     blank: Blank,
-    words: &[&str],
+    words: &str,
     mut source: MemSource,
     mut sink: MemSink,
 ) -> Result<(u8, Vec<u8>), AllocError>
@@ -47,15 +59,12 @@ fn played<N: Ledger>(
     requires parts { blank.parts ≡ N.parts }
     requires some { 0 < N.parts }
 {
-    let mut owned = Vec::new(alloc);
-    for word in words {
-        owned.push(String::from_str(alloc, word)?)?;
-    }
+    let words = words_of(alloc, words)?;
     let mut clock = MemClock::new(vec![in alloc; 0]?);
     let mut steps = Steps::<Unseen<N>>::unseen(blank);
     let status = play(
         alloc,
-        &owned,
+        &words,
         &mut source,
         &mut sink,
         &mut clock,

@@ -1,4 +1,4 @@
-use Rattle.pages_talk_tests.proofs.played.failing.Given as goal
+use Rattle.talk_rows.proofs.playing.worded.Given as goal
 
 abbrev pub ghosts-played : goal.ghosts-played
 ghosts-played a = record { name = a.blank.name; parts = a.blank.parts }
