@@ -1,4 +1,4 @@
-use crate::values::value;
+use crate::page_values::value;
 use el_coercion::to_text;
 use page_code::Over;
 use pg_value::{Failure, RunFault, Text, Value};
