@@ -1,18 +1,33 @@
+// The root of a page: its nodes in place, and the names on which it depends.
 use page_pieces::Leaf;
-use pg_text::{BadPath, Failure, resolve};
-use source_tree::{Edit, Edits, FileText, Tree};
+use pg_text::Path;
+use source_tree::Tree;
 use std::alloc::{AllocError, Global};
-use std::test::Fail;
 use unit_source::{Entry, PlacedNode, Root, UnitFiles};
 
-// A tree of these files.
-pub fn tree_of(alloc: Global, files: &[(&str, &str)]) -> Result<Tree, Fail> {
-    let mut edits = Edits::new(alloc);
-    for (path, text) in files {
-        let path = resolve(alloc, None, path)?;
-        edits.push(Edit::Put(path, FileText::copy_of(alloc, text)?))?;
+/// The nodes of the root at a path where a file stands.
+pub fn told(alloc: Global, tree: &Tree, path: &Path) -> Result<String, AllocError> {
+    match tree.fault() {
+        Some(_) => String::from_str(alloc, "the tree is too large"),
+        None => {
+            let mut files = UnitFiles::new(alloc, tree);
+            match files.read_root(path, false)? {
+                Some(root) => shown(alloc, &root),
+                None => String::from_str(alloc, "no file stands there"),
+            }
+        }
     }
-    Ok(Tree::new(alloc).apply(&edits, 1)?)
+}
+
+// The nodes of a root, and the names on which it depends.
+fn shown(alloc: Global, root: &Root) -> Result<String, AllocError> {
+    let mut out = String::new(alloc);
+    show_nodes(alloc, &root.nodes, &mut out)?;
+    for name in root.names.as_slice() {
+        out.push_str(name.as_str())?;
+        out.push_str(" ")?;
+    }
+    Ok(out)
 }
 
 // A leaf.
@@ -78,27 +93,4 @@ fn show_node(alloc: Global, node: &PlacedNode, out: &mut String) -> Result<(), A
             out.push_str("}")
         }
     }
-}
-
-// The root at a path, where a file stands there.
-pub fn read(alloc: Global, tree: &Tree, path: &str) -> Result<Option<Root>, Failure<BadPath>> {
-    let path = resolve(alloc, None, path)?;
-    match tree.fault() {
-        Some(_) => Ok(None),
-        None => {
-            let mut files = UnitFiles::new(alloc, tree);
-            Ok(files.read_root(&path, false)?)
-        }
-    }
-}
-
-// The nodes of a root, and the names on which it depends.
-pub fn shown(alloc: Global, root: &Root) -> Result<String, AllocError> {
-    let mut out = String::new(alloc);
-    show_nodes(alloc, &root.nodes, &mut out)?;
-    for name in root.names.as_slice() {
-        out.push_str(name.as_str())?;
-        out.push_str(" ")?;
-    }
-    Ok(out)
 }
