@@ -1,15 +1,11 @@
-//! Tests of values, their coercions, the operators, the functions and the scopes; and of the values that a run of a page makes: the rounds of
-//! loops, properties, and what a page sees of its request.
+//! Tests of values, their coercions, the functions and the scopes; and of the values that a run of a page makes: the status of a round,
+//! properties, and what a page sees of its request. What rows can say of them is in `value_rows`.
 #![tactic(auto)]
 
 #[cfg(test)]
 mod coercion;
 #[cfg(test)]
 mod functions;
-#[cfg(test)]
-mod json;
-#[cfg(test)]
-mod operators;
 #[cfg(test)]
 mod page_values;
 #[cfg(test)]

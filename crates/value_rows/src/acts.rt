@@ -1,0 +1,88 @@
+// What is done with values.
+use crate::operators::{binary_of, unary_of};
+use crate::rounds::rounds_told;
+use crate::shown::{fault_told, text_told, value_told};
+use el_coercion::{to_bool, to_int, to_text};
+use el_ops::{binary, index, unary};
+use jstl_functions::call;
+use pg_value::{Failure, Function, JsonFault, Value, from_json};
+use std::alloc::{AllocError, Global};
+
+/// Why the first of these texts has no value, where it has none.
+pub fn json_told(alloc: Global, written: &[String]) -> Result<String, AllocError> {
+    let text = match written.first() {
+        Some(text) => text.as_str(),
+        None => "",
+    };
+    let told = match from_json(alloc, text.as_bytes()) {
+        Ok(_) => "a value",
+        Err(Failure::Fault(JsonFault::NotJson)) => "NotJson",
+        Err(Failure::Fault(JsonFault::Decimal)) => "Decimal",
+        Err(Failure::Fault(JsonFault::TooDeep)) => "TooDeep",
+        Err(Failure::Fault(JsonFault::TooLarge)) => "TooLarge",
+        Err(Failure::NoMemory) => return Err(AllocError),
+    };
+    String::from_str(alloc, told)
+}
+
+/// The values of these texts, where each has one.
+pub fn values_of(alloc: Global, written: &[String]) -> Result<Option<Vec<Value>>, AllocError> {
+    let mut values = Vec::new(alloc);
+    for text in written {
+        match from_json(alloc, text.as_str().as_bytes()) {
+            Ok(value) => values.push(value)?,
+            Err(Failure::Fault(_)) => return Ok(None),
+            Err(Failure::NoMemory) => return Err(AllocError),
+        }
+    }
+    Ok(Some(values))
+}
+
+/// What comes of one value.
+pub fn one_told(alloc: Global, act: &str, word: &str, value: &Value) -> Result<String, AllocError> {
+    match act {
+        "text" => match to_text(alloc, value) {
+            Ok(text) => text_told(alloc, "", text.as_str()),
+            Err(failure) => fault_told(alloc, failure),
+        },
+        "number" => match to_int(value) {
+            Ok(number) => format!(in alloc; "{number}"),
+            Err(fault) => String::from_str(alloc, fault.name()),
+        },
+        "truth" => match to_bool(value) {
+            Ok(truth) => format!(in alloc; "{truth}"),
+            Err(fault) => String::from_str(alloc, fault.name()),
+        },
+        "unary" => value_told(alloc, unary(unary_of(word), value).map_err(Failure::Fault)),
+        "rounds" => rounds_told(alloc, word, value),
+        _ => call_told(alloc, word, value),
+    }
+}
+
+/// What comes of two values.
+pub fn two_told(
+    alloc: Global,
+    act: &str,
+    word: &str,
+    left: &Value,
+    right: &Value,
+) -> Result<String, AllocError> {
+    if act == "index" {
+        return value_told(alloc, index(alloc, left, right));
+    }
+    value_told(alloc, binary(alloc, binary_of(word), left, right))
+}
+
+// What a function answers for a list of as many arguments as it has.
+fn call_told(alloc: Global, word: &str, args: &Value) -> Result<String, AllocError> {
+    let Some(function) = Function::of_name(word) else {
+        return String::from_str(alloc, "no function");
+    };
+    if let Value::List(args) = args {
+        let args = args.as_slice();
+        if args.len() == function.arity() {
+            return value_told(alloc, call(alloc, function, args));
+        }
+    }
+    String::from_str(alloc, "not so many arguments")
+}

@@ -1,0 +1,58 @@
+//! The program `value_rows`: does what each row on standard input says with the values of JSON texts, and tells what comes of it.
+//!
+//! A row is some lines up to an empty one: first what is done, then a JSON text on each line. `json` tells whether a text is one and has a
+//! value; `text`, `number` and `truth` coerce a value; `unary` and `binary` and an operator, and `index`, take one value or two; `call` and
+//! the name of a function takes a list of its arguments; and `rounds` and what a loop goes over takes a record of what it is given. In
+//! writing `«9 x»` is x nine times. A line that begins with `# ` says what the rows behind it show. The lines are written as they are read,
+//! and behind each row, after `> `, comes what is told: of a value its kind and its text, and of a long text its size; or a fault.
+#![tactic(auto)]
+
+mod acts;
+mod operators;
+mod rounds;
+mod shown;
+
+use row_text::written_out;
+use std::alloc::{AllocError, Global};
+use std::io;
+
+fn main(rt: HostRuntime) -> io::Result<()> {
+    let alloc = rt.alloc();
+    let mut row = Vec::new(alloc);
+    for line in rt.lines(alloc) {
+        let line = line?;
+        println!(rt; "{}", line.as_str())?;
+        if line.starts_with("# ") {
+            continue;
+        }
+        if !line.is_empty() {
+            row.push(written_out(alloc, line.as_str(), &[])?)?;
+        } else if !row.is_empty() {
+            println!(rt; "> {}\n", told(alloc, &row)?.as_str())?;
+            row.clear();
+        }
+    }
+    Ok(())
+}
+
+// What is told of these lines.
+fn told(alloc: Global, lines: &[String]) -> Result<String, AllocError> {
+    let Some((first, written)) = lines.split_first() else {
+        return String::from_str(alloc, "nothing is done");
+    };
+    let (act, word) = first
+        .as_str()
+        .split_once(' ')
+        .unwrap_or((first.as_str(), ""));
+    if act == "json" {
+        return acts::json_told(alloc, written);
+    }
+    let Some(values) = acts::values_of(alloc, written)? else {
+        return String::from_str(alloc, "no values");
+    };
+    match values.as_slice() {
+        [value] => acts::one_told(alloc, act, word, value),
+        [left, right] => acts::two_told(alloc, act, word, left, right),
+        _ => String::from_str(alloc, "nothing is done with so many values"),
+    }
+}
