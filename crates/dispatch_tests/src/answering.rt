@@ -52,8 +52,8 @@ impl<N: Ledger> Answering<N> {
         method: &str,
         path: &str,
         fails: &[u64],
-    ) -> Result<Told, AllocError> {
-        let request = request(alloc, method, path)?;
+    ) -> Result<Told, Fail> {
+        let request = request(alloc, method, path, "")?;
         let mut sink = MemSink::new(alloc, fails.to_vec(alloc)?);
         let before = self.steps.count();
         let outcome = respond(

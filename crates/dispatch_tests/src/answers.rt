@@ -4,6 +4,46 @@ use conversation::Outcome;
 use std::alloc::{AllocError, Global};
 use std::test::Fail;
 
+// Requests one after the other, on a site of these files whose journal weighs at most `limit`, over a sink that fails at these calls; their
+// outcomes, what is read for their pages, and their answers; and what they add to the history.
+#[derive(Clone, Copy)]
+struct Row {
+    files: &'static [(&'static str, &'static str)],
+    limit: u64,
+    asked: &'static [(&'static str, &'static str)],
+    fails: &'static [u64],
+    answers: &'static [(Outcome, u64, &'static str)],
+    history: &'static str,
+}
+
+// Requests that are answered, one more than the journal has room for, and requests whose answers are not taken.
+const ROWS: [Row; 3] = [
+    Row {
+        files: &FILES,
+        limit: AMPLE,
+        asked: &ASKED,
+        fails: &[],
+        answers: &ANSWERS,
+        history: HISTORY,
+    },
+    Row {
+        files: &[],
+        limit: 4_325_376,
+        asked: &TO_FULL,
+        fails: &[],
+        answers: &FULL,
+        history: "BE",
+    },
+    Row {
+        files: &FILES,
+        limit: AMPLE,
+        asked: &NOT_TAKEN,
+        fails: &[0],
+        answers: &NOT_ANSWERED,
+        history: "BFOEBFOAEBE",
+    },
+];
+
 // Pages in files, by what comes of them.
 const FILES: [(&str, &str); 7] = [
     (
@@ -132,28 +172,6 @@ fn wanted(
     Ok(lines)
 }
 
-#[test]
-fn requests_are_answered(rt: HostRuntime) -> Result<(), Fail> {
-    let all = come(rt.alloc(), &FILES, AMPLE, &ASKED, &[])?;
-    assert_eq!(rt;
-        told(rt.alloc(), &all)?.as_str(),
-        wanted(rt.alloc(), &ANSWERS, HISTORY)?.as_str()
-    );
-    Ok(())
-}
-
-#[test]
-fn the_clock_is_asked_where_a_request_begins(rt: HostRuntime) -> Result<(), Fail> {
-    for &(asked, next) in &[
-        ([("PATCH", "/t.txt")].as_slice(), 0),
-        ([("GET", "/t.txt"), ("GET", "/none")].as_slice(), 2),
-    ] {
-        let all = come(rt.alloc(), &FILES, AMPLE, asked, &[])?;
-        assert_eq!(rt; all.next, next);
-    }
-    Ok(())
-}
-
 // Requests of a site whose journal has room for one, and the answers.
 const TO_FULL: [(&str, &str); 4] = [
     ("GET", "/none"),
@@ -185,16 +203,6 @@ const FULL: [(Outcome, u64, &str); 4] = [
     ),
 ];
 
-#[test]
-fn a_full_journal_is_told(rt: HostRuntime) -> Result<(), Fail> {
-    let all = come(rt.alloc(), &[], 4_325_376, &TO_FULL, &[])?;
-    assert_eq!(rt;
-        told(rt.alloc(), &all)?.as_str(),
-        wanted(rt.alloc(), &FULL, "BE")?.as_str()
-    );
-    Ok(())
-}
-
 // Requests whose answers are not taken.
 const NOT_TAKEN: [(&str, &str); 3] = [("GET", "/b.jsp"), ("GET", "/h.jsp"), ("GET", "/none")];
 
@@ -205,11 +213,25 @@ const NOT_ANSWERED: [(Outcome, u64, &str); 3] = [
 ];
 
 #[test]
-fn a_request_ends_whose_answer_is_not_taken(rt: HostRuntime) -> Result<(), Fail> {
-    let all = come(rt.alloc(), &FILES, AMPLE, &NOT_TAKEN, &[0])?;
-    assert_eq!(rt;
-        told(rt.alloc(), &all)?.as_str(),
-        wanted(rt.alloc(), &NOT_ANSWERED, "BFOEBFOAEBE")?.as_str()
-    );
+fn requests_are_answered(rt: HostRuntime) -> Result<(), Fail> {
+    for row in &ROWS {
+        let all = come(rt.alloc(), row.files, row.limit, row.asked, row.fails)?;
+        assert_eq!(rt;
+            told(rt.alloc(), &all)?.as_str(),
+            wanted(rt.alloc(), row.answers, row.history)?.as_str()
+        );
+    }
+    Ok(())
+}
+
+#[test]
+fn the_clock_is_asked_where_a_request_begins(rt: HostRuntime) -> Result<(), Fail> {
+    for &(asked, next) in &[
+        ([("PATCH", "/t.txt")].as_slice(), 0),
+        ([("GET", "/t.txt"), ("GET", "/none")].as_slice(), 2),
+    ] {
+        let all = come(rt.alloc(), &FILES, AMPLE, asked, &[])?;
+        assert_eq!(rt; all.next, next);
+    }
     Ok(())
 }

@@ -1,4 +1,5 @@
-//! Tests of the response of a request, over the port of a pass that is alone on its site.
+//! Tests of the response of a request: over the port of a pass that is alone on its site, also from one request of a session to the next,
+//! and over a site on which another pass publishes meanwhile.
 #![tactic(auto)]
 
 #[cfg(test)]
@@ -6,10 +7,18 @@ mod answering;
 #[cfg(test)]
 mod answers;
 #[cfg(test)]
+mod asking;
+#[cfg(test)]
 mod opening;
+#[cfg(test)]
+mod publishing;
 #[cfg(test)]
 mod request;
 #[cfg(test)]
+mod sessions;
+#[cfg(test)]
 mod streams;
+#[cfg(test)]
+mod versions;
 #[cfg(test)]
 mod watching;

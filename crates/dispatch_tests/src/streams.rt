@@ -78,7 +78,7 @@ const PAGES: [(&str, &str, &str, &str); 3] = [
 
 // What the sink had taken when a page first asked a step, a bar, and what it took in all.
 fn told(alloc: Global, method: &str, files: &[(&str, &str)]) -> Result<String, Fail> {
-    let asked = request(alloc, method, "/a.jsp")?;
+    let asked = request(alloc, method, "/a.jsp", "")?;
     let (first, all) = streamed::<Brand>(alloc, Blank::new(1), files, &asked)?;
     let first = str::from_utf8(&first).unwrap_or("no text");
     let all = str::from_utf8(&all).unwrap_or("no text");

@@ -1,10 +1,9 @@
 ghost use Rattle.std.specs.Prelude.{◌≡◌, ◌<◌};
 
 use crate::asking::{Told, ask};
-use crate::opening::opened;
+use crate::opening::{AMPLE, opened};
 use conversation::Outcome;
 use edges::{MemClock, Steps, Unseen};
-use site_core::solo;
 use std::alloc::Global;
 use std::marker::Brand;
 use std::sync::ledger::{Blank, Ledger};
@@ -34,7 +33,7 @@ fn come_of<N: Ledger>(alloc: Global, blank: Blank) -> Result<Vec<Told>, Fail>
     requires parts { blank.parts ≡ N.parts }
     requires some { 0 < N.parts }
 {
-    let mut port = solo(opened(alloc, &FILES, 0, 1)?);
+    let mut port = opened(alloc, &FILES, AMPLE)?;
     let mut clock = MemClock::new(vec![in alloc; 0, 1_800, 3_601]?);
     let mut steps = Steps::<Unseen<N>>::unseen(blank);
     let first = ask(alloc, &mut port, PAGE, "", &mut clock, &mut steps)?;

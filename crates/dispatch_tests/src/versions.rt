@@ -3,7 +3,7 @@ ghost use Rattle.pass_course.specs.Course.{IsIdle};
 ghost use Rattle.turn_table.specs.Passes.{IsPassOf};
 
 use crate::asking::{Told, ask};
-use crate::opening::{edits_of, opened};
+use crate::opening::{AMPLE, edits_of, resumed};
 use crate::publishing::Publishing;
 use conversation::Outcome;
 use edges::{MemClock, OpenGate, Steps, Unseen};
@@ -65,7 +65,7 @@ fn come_of<N: Ledger, R: Wait>(rt: &R, alloc: Global, blank: Blank) -> Result<Ca
     requires parts { blank.parts ≡ N.parts }
     requires some { 0 < N.parts }
 {
-    let site = opened(alloc, &FILES, 3, 2)?;
+    let site = resumed(alloc, &FILES, AMPLE, 3, 2)?;
     let (site, mut passes) = start(alloc, site, OpenGate)?;
     let other = port_of(rt, &site, &mut passes);
     let port = port_of(rt, &site, &mut passes);
