@@ -70,7 +70,7 @@ def main():
         tally.check("two pots are in the cart behind a redirect", "<td>2</td><td>A pot</td>" in page and "60.00" in page, page)
         page = browse(f"{here}/index.jsp", "--dump-dom")
         tally.check("the shop's list", "Plum jam" in page and "3 things to buy; 1 times" in page, page)
-        browse(f"{here}/index.jsp", f"--screenshot={picture}", "--window-size=720,400")
+        browse(f"{here}/index.jsp", f"--screenshot={picture}", "--window-size=960,420")
         tally.check("a picture of it", os.path.exists(picture) and os.path.getsize(picture) > 2_000)
     print(f"{tally.held} held, {tally.failed} failed")
     return 1 if tally.failed else 0
