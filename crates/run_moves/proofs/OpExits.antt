@@ -59,14 +59,19 @@ module _ (serving : Serving) (seat : Seat) (place : Place) (pc : ℕ) (o : Open)
 ok_err : {A : Type 0} (a : A) (f : Failure RunFault) → Ok a ≡ Err f → ⊥
 ok_err a f h = cc
 
+-- the failure of what failed
+abbrev failure_of : {A : Type 0} → Result A (Failure RunFault) → Failure RunFault
+failure_of (Ok a) = failure.NoMemory
+failure_of (Err f) = f
+
 -- where memory was wanting for what an operation leaves, it was wanting for what it did
 none_short : (done : Result Unit (Failure RunFault)) → none_of done ≡ Err failure.NoMemory → done ≡ Err failure.NoMemory
 none_short (Ok u) e = absurd (ok_err None failure.NoMemory e)
-none_short (Err f) e = e
+none_short (Err f) e = ap Err (ap failure_of e)
 
 one_short : (made : Result Value (Failure RunFault)) → one_of made ≡ Err failure.NoMemory → made ≡ Err failure.NoMemory
 one_short (Ok v) e = absurd (ok_err (Some v) failure.NoMemory e)
-one_short (Err f) e = e
+one_short (Err f) e = ap Err (ap failure_of e)
 
 module _ {W : Type 0} {reached : W → Origin → W → State → Type 0} {replies : W → List Answer} (serving : Serving) (seat : Seat) (place : Place) (pc : ℕ) (o : Open) (op this : Op) (count : ℕ) (ds stack : List Datum)
     (enough : takes op ≤ length o.stack) (all : count ≡ takes op) (taken : ds ≡ reverse (take count o.stack)) (rest : stack ≡ drop count o.stack) (is : op ≡ this) where

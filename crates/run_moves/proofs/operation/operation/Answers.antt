@@ -45,6 +45,9 @@ returns-in-Put-clause-acted g c =
     act_plain (seat_of c.args.seat.now) c.args.place.now c.args.pc (open_of c.args.open.now) (instr.Op c.args.op.now) (instr.Op op.Put) c.args.world.now c.put_top.new.world (open_of c.put_top.new.open) c.put_top.result
     (ap instr.Op c.in-Put.is) (λ serving. c.put_top.ensures.acted serving (seat_of c.args.seat.now))
 
+pub returns-in-Const-clause-acted : goal.returns-in-Const-clause-acted
+returns-in-Const-clause-acted g c = record { for = λ serving h. c.value_at_top.ensures.acted serving (seat_of c.args.seat.now) }
+
 pub returns-in-Value-clause-acted : goal.returns-in-Value-clause-acted
 returns-in-Value-clause-acted g c =
     act_plain (seat_of c.args.seat.now) c.args.place.now c.args.pc (open_of c.args.open.now) (instr.Op c.args.op.now) (instr.Op (op.SetProperty c.in-SetProperty.name (mode.Value c.in-Value.property c.in-Value.value_place)))
