@@ -68,8 +68,11 @@ impl<'r> Course<'r> {
         let stands = self.root.where_stands(&directive);
         let declaring = self.declaring(stands, &directive);
         if self.root.has_own(place) {
-            let own = replace(&mut self.own, DeclaredBefore::new(alloc));
-            self.own = own.behind(Directive::new(alloc, name, attributes, place)?)?;
+            keep(
+                alloc,
+                &mut self.own,
+                Directive::new(alloc, name, attributes, place)?,
+            )?;
         }
         let faults = self.root.meet(stands, &mut self.before, directive)?;
         Ok(faults.and(declaring))
@@ -85,4 +88,17 @@ impl<'r> Course<'r> {
     {
         self.before.meet_text(text)
     }
+}
+
+// Keeps a directive behind these; after an error none is kept.
+fn keep<'r>(
+    alloc: Global,
+    own: &mut DeclaredBefore<'r>,
+    directive: Directive<'r>,
+) -> Result<(), AllocError>
+    ensures { OnOk result (own.new ≡ own.old ++ directive.entry ∷ []) }
+{
+    let before = replace(own, DeclaredBefore::new(alloc));
+    let _none = replace(own, before.behind(directive)?);
+    Ok(())
 }
