@@ -1,6 +1,7 @@
-// Codes in writing: words between semicolons, each one cell. A word that begins with a colon names the place of the cell behind it; `>name` in a
-// word is that place ahead, and `<name` that place before. What stands open before each cell follows from the words before it, or, at a
-// place with a name, from the word that leads there.
+// Codes in writing: words between semicolons, each one cell. A word that begins with a colon names
+// the place of the cell behind it; `>name` in a word is that place ahead, and `<name` that place
+// before. What stands open before each cell follows from the words before it, or, at a place with a
+// name, from the word that leads there.
 use crate::instructions::{bean, call_of, given_call, is_true, leave_of, loop_kind};
 use crate::operations::{count, operation};
 use crate::unreadable::Unreadable;
@@ -211,7 +212,8 @@ impl<'a> Cells<'a> {
         Ok(())
     }
 
-    // The call of a tag file: its name, its attributes, and `body` and names of fragments, each with the place behind its cells.
+    // The call of a tag file: its name, its attributes, and `body` and names of fragments, each
+    // with the place behind its cells.
     fn put_tag(&mut self, operands: &'a str) -> Result<(), Unreadable> {
         let parts = split_words(self.alloc, operands)?;
         let mut sizes = Vec::new(self.alloc);

@@ -1,4 +1,5 @@
-// Rows of codes in writing: each line is a page, a tag file, a file of the site, or what surrounds the run. The page that runs is that behind `page`.
+// Rows of codes in writing: each line is a page, a tag file, a file of the site, or what surrounds
+// the run. The page that runs is that behind `page`.
 use crate::cells::code_of;
 use crate::instructions::tag_path;
 use crate::machine_run::run_page;

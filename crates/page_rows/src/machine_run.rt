@@ -32,7 +32,8 @@ fn know_files(files: &[SiteFile])
     }
 }
 
-/// Runs the page in a site of these files and in these surroundings, and tells of it. Of counts over their limits the limit is taken.
+/// Runs the page in a site of these files and in these surroundings, and tells of it. Of counts
+/// over their limits the limit is taken.
 pub fn run_page(
     alloc: Global,
     program: &Program,

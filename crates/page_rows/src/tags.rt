@@ -4,9 +4,9 @@ use pg_text::Listed;
 use std::alloc::{AllocError, Global};
 use tag_decl::{AttrDecl, AttrKind, BodyKind, TagDecl, VarDecl, VarScope};
 
-/// What these words declare: `number=a`, `truth=a`, `any=a` and `text=a` an attribute, `fragment=a` a fragment, `nested=v`, `begin=v`
-/// and `end=v` a variable, `alias=v,a` a nested one whose name is that of an attribute, and `dynamic=d` the record of the attributes
-/// that aren't declared.
+/// What these words declare: `number=a`, `truth=a`, `any=a` and `text=a` an attribute, `fragment=a`
+/// a fragment, `nested=v`, `begin=v` and `end=v` a variable, `alias=v,a` a nested one whose name is
+/// that of an attribute, and `dynamic=d` the record of the attributes that aren't declared.
 pub fn tag_of(alloc: Global, words: &str) -> Result<TagDecl, AllocError> {
     let mut decl = TagDecl {
         attributes: Listed::empty(alloc),

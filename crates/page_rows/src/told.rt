@@ -23,8 +23,9 @@ pub struct Ran<'a> {
     pub bytes: u64,
 }
 
-/// What these words ask: `end` for how a run ended, `cell` for the same with the cells of faults, `rest` between brackets for what stands in
-/// the buffer, behind a star where something was committed, `asked` for the steps, `sent` for what the sink has; or counts.
+/// What these words ask: `end` for how a run ended, `cell` for the same with the cells of faults,
+/// `rest` between brackets for what stands in the buffer, behind a star where something was
+/// committed, `asked` for the steps, `sent` for what the sink has; or counts.
 pub fn told(alloc: Global, words: &str, ran: Ran<'_>) -> Result<String, AllocError> {
     let mut told = String::new(alloc);
     for word in words.split(' ') {
@@ -121,7 +122,8 @@ fn raised_told(
     format!(in alloc; "X{number} {place}")
 }
 
-// A file, and the line and column; or in the place of these the byte, which in writing is the number of a cell.
+// A file, and the line and column; or in the place of these the byte, which in writing is the
+// number of a cell.
 fn place_told(alloc: Global, place: &Place, cells: bool) -> Result<String, AllocError> {
     let file = place.file.as_str();
     if cells {

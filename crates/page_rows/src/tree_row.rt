@@ -1,5 +1,5 @@
-// Rows of the files of a tree: a line is a path, a blank and the file's text. The page that runs is the first file. In writing `¶` ends a line,
-// and `«9 x»` is x nine times.
+// Rows of the files of a tree: a line is a path, a blank and the file's text. The page that runs is
+// the first file. In writing `¶` ends a line, and `«9 x»` is x nine times.
 ghost use Rattle.std.specs.Prelude.{◌≡◌, ◌<◌};
 
 use crate::surroundings::Surroundings;

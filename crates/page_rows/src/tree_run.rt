@@ -16,7 +16,8 @@ use std::sync::ledger::{Blank, Ledger};
 use tree_pages::run_at;
 use tree_site::TreeSite;
 
-/// Runs the page at a path of a tree where a file stands, and tells of it. It begins with a request: nothing ran before.
+/// Runs the page at a path of a tree where a file stands, and tells of it. It begins with a
+/// request: nothing ran before.
 pub fn run_page<N: Ledger>(
     alloc: Global,
     blank: Blank,

@@ -1,13 +1,17 @@
-//! The program `reader_rows`: reads the text of each row on standard input as a page or as a piece of one, and tells what is read.
+//! The program `reader_rows`: reads the text of each row on standard input as a page or as a piece
+//! of one, and tells what is read.
 //!
-//! A row is some lines up to an empty one. The first says what is done. `piece` reads the piece at the front, `repeats` tells whether its
-//! attributes repeat, and `plain` and a name what an attribute has that is plain; `end`, a prefix and a name tells whether the file could
-//! end in the end of such an element. `tree` reads a page under a setting with the prefix c, and `first` reads one for the first time;
-//! `sizes` and `stop` behind them tell of the tree in short, and `holds` whether what is told of it has a part, which is the last line. A
-//! setting may be `off`, without expressions, `hash`, where a hash is text, or `brought`, where an include at byte 6 brings the prefix d.
-//! The second line is the text; a row without it has an empty one. In writing `¶` ends a line, and `«9 x»` is x nine times. A line that
-//! begins with `#` says what the rows behind it show. The lines are written as they are read, and behind each row, after `> `, comes what
-//! is told.
+//! A row is some lines up to an empty one. The first says what is done. `piece` reads the piece at
+//! the front, `repeats` tells whether its attributes repeat, and `plain` and a name what an
+//! attribute has that is plain; `end`, a prefix and a name tells whether the file could end in the
+//! end of such an element. `tree` reads a page under a setting with the prefix c, and `first` reads
+//! one for the first time; `sizes` and `stop` behind them tell of the tree in short, and `holds`
+//! whether what is told of it has a part, which is the last line. A setting may be `off`, without
+//! expressions, `hash`, where a hash is text, or `brought`, where an include at byte 6 brings the
+//! prefix d. The second line is the text; a row without it has an empty one. In writing `¶` ends a
+//! line, and `«9 x»` is x nine times. A line that begins with `# ` says what the rows behind it
+//! show. The lines are written as they are read, and behind each row, after `> `, comes what is
+//! told.
 #![tactic(auto)]
 
 mod pieces;

@@ -53,7 +53,8 @@ fn stop_told(alloc: Global, stop: &Option<PageFault>) -> Result<String, AllocErr
     Ok(out)
 }
 
-// How many nodes a whole tree has, and what the last of them is; of one that isn't whole, where the reading breaks off.
+// How many nodes a whole tree has, and what the last of them is; of one that isn't whole, where the
+// reading breaks off.
 fn sizes_told(alloc: Global, tree: &PageTree) -> Result<String, AllocError> {
     if let Some(fault) = &tree.stop {
         let byte = fault.place.byte;

@@ -8,8 +8,9 @@ pub fn show_place(out: &mut String, place: &Place) -> Result<(), AllocError> {
     write!(out, "{line}:{column}")
 }
 
-// Nodes, each behind its line and column: 'text', ${expression}, a comment as --, @directive and <element> with its body
-// in brackets, which stay open where its end was not read, and are left out where there is then no body.
+// Nodes, each behind its line and column: 'text', ${expression}, a comment as --, @directive and
+// <element> with its body in brackets, which stay open where its end was not read, and are left out
+// where there is then no body.
 #[cycle(show)]
 fn show(out: &mut String, node: &Node) -> Result<(), AllocError> {
     match node {
@@ -81,7 +82,8 @@ fn show_all(out: &mut String, nodes: &Vec<Node>) -> Result<(), AllocError> {
     Ok(())
 }
 
-/// A page on a line: its nodes, and behind them the number and the place of the fault that broke the reading off.
+/// A page on a line: its nodes, and behind them the number and the place of the fault that broke
+/// the reading off.
 pub fn shown(alloc: Global, tree: &PageTree) -> Result<String, AllocError> {
     let mut out = String::new(alloc);
     show_all(&mut out, &tree.nodes)?;

@@ -1,4 +1,5 @@
-//! Texts of rows in writing: `«9 x»` is x nine times, and some signs stand for what a row has no room for.
+//! Texts of rows in writing: `«9 x»` is x nine times, and some signs stand for what a row has no
+//! room for.
 #![tactic(auto)]
 
 use pg_text::whole_number;

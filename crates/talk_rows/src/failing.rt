@@ -2,7 +2,8 @@
 use crate::playing::{failing, told};
 use std::alloc::{AllocError, Global};
 
-/// From which size on a conversation that ends there has another status, or another number of bytes answered.
+/// From which size on a conversation that ends there has another status, or another number of bytes
+/// answered.
 pub fn cuts(alloc: Global, input: &[u8]) -> Result<String, AllocError> {
     let mut cuts = String::from_str(alloc, "cut at each byte")?;
     let (_, whole) = told(alloc, input, 80)?;
@@ -33,8 +34,8 @@ pub fn writes(alloc: Global, input: &[u8]) -> Result<String, AllocError> {
     format!(in alloc; "more than two writes may fail: {many} {right}")
 }
 
-// At how many calls, in turn from the first, a failure is told with this status and a front of the answers is written; and whether all is
-// answered where a later one would fail.
+// At how many calls, in turn from the first, a failure is told with this status and a front of the
+// answers is written; and whether all is answered where a later one would fail.
 fn failures(alloc: Global, input: &[u8], status: u8) -> Result<(u64, bool), AllocError> {
     let (_, whole) = told(alloc, input, 4_096)?;
     for call in 0..2_000 {

@@ -1,11 +1,13 @@
 //! The program `talk_rows`: has each conversation on standard input, and tells what is answered.
 //!
-//! A row is some lines up to an empty one: first what is done, then what is said. `play` has a conversation in pieces of one byte and of
-//! 4,096; `cut` ends it at each byte in turn; `reads` and `writes` let one read or write after the other fail; `both` has one as an editor
-//! and a reader, and behind a line `reader` another as a reader alone; `words` gives the command `play` other words, and `load` gives `load`
-//! a number. A line that begins with `#` says what the rows behind it show. In writing `¶` ends a line as HTTP does and `↵` by a line feed
-//! alone, and `«9 x»` is x nine times. The lines are written as they are read, and behind each row, after `> `, comes what is told: a
-//! status, and the answers.
+//! A row is some lines up to an empty one: first what is done, then what is said. `play` has a
+//! conversation in pieces of one byte and of 4,096; `cut` ends it at each byte in turn; `reads` and
+//! `writes` let one read or write after the other fail; `both` has one as an editor and a reader,
+//! and behind a line `reader` another as a reader alone; `words` gives the command `play` other
+//! words, and `load` gives `load` a number. A line that begins with `# ` says what the rows behind
+//! it show. In writing `¶` ends a line as HTTP does and `↵` by a line feed alone, and `«9 x»` is x
+//! nine times. The lines are written as they are read, and behind each row, after `> `, comes what
+//! is told: a status, and the answers.
 #![tactic(auto)]
 
 mod failing;
@@ -60,7 +62,8 @@ fn told(alloc: Global, lines: &[String]) -> Result<String, AllocError> {
     }
 }
 
-// What is told of a conversation in small pieces, and where that is something else what is told of it in large ones.
+// What is told of a conversation in small pieces, and where that is something else what is told of
+// it in large ones.
 fn played(alloc: Global, said: &[String]) -> Result<String, AllocError> {
     let input = input_of(alloc, said)?;
     let (status, text) = playing::told(alloc, &input, 1)?;

@@ -8,8 +8,8 @@ use std::alloc::{AllocError, Global};
 use std::marker::Brand;
 use std::sync::ledger::{Blank, Ledger};
 
-/// What is answered to the lines behind `reader`, which a reader says behind an editor who says those before. The status is 0 where the
-/// connection is done.
+/// What is answered to the lines behind `reader`, which a reader says behind an editor who says
+/// those before. The status is 0 where the connection is done.
 pub fn told(alloc: Global, said: &[String]) -> Result<String, AllocError> {
     let mut editors = Vec::new(alloc);
     let mut readers = Vec::new(alloc);

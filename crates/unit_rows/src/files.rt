@@ -13,7 +13,8 @@ pub fn path_of(alloc: Global, line: &str) -> Result<Option<Path>, AllocError> {
     }
 }
 
-/// The tree of the files on these lines, or None where it is too large. Lines without a path have no file.
+/// The tree of the files on these lines, or None where it is too large. Lines without a path have
+/// no file.
 pub fn tree_of(alloc: Global, lines: &[String]) -> Result<Option<Tree>, AllocError> {
     let mut edits = Edits::new(alloc);
     for line in lines {

@@ -1,10 +1,13 @@
-//! The program `unit_rows`: for each row of files on standard input, of which the first is a page, what is told of that page.
+//! The program `unit_rows`: for each row of files on standard input, of which the first is a page,
+//! what is told of that page.
 //!
-//! A row is some lines up to an empty one: first what is told, then a line for each file, its path, a blank and its text. `unit` tells `ok` or
-//! the fault of the unit, behind `names` also the names on which it depends, a dash before those of absent files, and behind `bytes` how
-//! many were counted; `root` tells the nodes that stand in place and the names, and with a last line `holds` whether these hold what is
-//! behind it. In writing `¶` ends a line, `§` declares the core tags, and `«9 x»` is x nine times. A line that begins with `#` says what the
-//! rows behind it show. The lines are written as they are read, and behind each row, after `> `, comes what is told.
+//! A row is some lines up to an empty one: first what is told, then a line for each file, its path,
+//! a blank and its text. `unit` tells `ok` or the fault of the unit, behind `names` also the names
+//! on which it depends, a dash before those of absent files, and behind `bytes` how many were
+//! counted; `root` tells the nodes that stand in place and the names, and with a last line `holds`
+//! whether these hold what is behind it. In writing `¶` ends a line, `§` declares the core tags,
+//! and `«9 x»` is x nine times. A line that begins with `# ` says what the rows behind it show. The
+//! lines are written as they are read, and behind each row, after `> `, comes what is told.
 #![tactic(auto)]
 
 mod files;

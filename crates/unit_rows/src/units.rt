@@ -15,7 +15,8 @@ pub fn told(alloc: Global, tree: &Tree, path: &Path, words: &str) -> Result<Stri
     told_by::<Brand>(alloc, Blank::new(1), tree, path, words)
 }
 
-// `ok` or the fault of the unit; the names on which it depends, a dash before those of absent files; and the bytes that were counted for it.
+// `ok` or the fault of the unit; the names on which it depends, a dash before those of absent
+// files; and the bytes that were counted for it.
 fn told_by<N: Ledger>(
     alloc: Global,
     blank: Blank,

@@ -6,8 +6,8 @@ use pg_value::{Failure, RunFault, Value};
 use run_values::rounds_of;
 use std::alloc::{AllocError, Global};
 
-/// The first four rounds of a loop over a record of what it is given: each its place, its count and its item, with a bang behind the last of
-/// all; or the fault.
+/// The first four rounds of a loop over a record of what it is given: each its place, its count and
+/// its item, with a bang behind the last of all; or the fault.
 pub fn rounds_told(alloc: Global, word: &str, given: &Value) -> Result<String, AllocError> {
     let over = match word {
         "numbers" => Over::Numbers,
