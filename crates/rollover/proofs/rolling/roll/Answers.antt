@@ -4,29 +4,29 @@ use Rattle.rollover.proofs.Rolls.{comes_to_new, comes_to_nothing, comes_to_old, 
 use Rattle.rollover.specs.Roll.{is_spent}
 use Rattle.rollover.proofs.rolling.roll.Goals as goal
 
-pub returns-in_default : goal.returns-in_default
-returns-in_default g c = comes_to_nothing c.args.site (g.K.Sink.taken c.args.sink.now)
+pub returns-in_default-clause-rolls : goal.returns-in_default-clause-rolls
+returns-in_default-clause-rolls g c = comes_to_nothing c.args.site (g.K.Sink.taken c.args.sink.now)
 
-pub returns-then-is_spent : goal.returns-then-is_spent
-returns-then-is_spent g c = (comes_to_nothing c.args.site (g.K.Sink.taken c.args.sink.now), is_spent_behind g.P.Compiled.needs c.args.site c.in-Ok.opening c.in-Ok.ensures (sym c.is_spent.ensures ∙ c.if-is_spent.true))
+pub returns-then-is_spent-clause-rolls : goal.returns-then-is_spent-clause-rolls
+returns-then-is_spent-clause-rolls g c = (comes_to_nothing c.args.site (g.K.Sink.taken c.args.sink.now), is_spent_behind g.P.Compiled.needs c.args.site c.in-Ok.opening c.in-Ok.ensures (sym c.is_spent.ensures ∙ c.if-is_spent.true))
 
 pub resume-requires : goal.resume-requires
 resume-requires g c =
     let room = ap is_spent (sym c.in-Ok.ensures) ∙ sym c.is_spent.ensures ∙ c.if-is_spent.false in
     subst (λ x. is_sound x ≡ true) (sym c.in-Ok.ensures) (next_is_sound c.rollover.ensures.sound g.P.Compiled.needs c.args.site c.law.ensures.sound c.law.ensures.legal room)
 
-pub returns-in_default-resume : goal.returns-in_default-resume
-returns-in_default-resume g c = comes_to_nothing c.args.site (g.K.Sink.taken c.args.sink.now)
+pub returns-in_default-resume-clause-rolls : goal.returns-in_default-resume-clause-rolls
+returns-in_default-resume-clause-rolls g c = comes_to_nothing c.args.site (g.K.Sink.taken c.args.sink.now)
 
 pub write_journal-requires : goal.write_journal-requires
 write_journal-requires g c = subst (λ h. length h < 2 ^ 63) (sym c.history.ensures) c.law.ensures.short
 
-pub returns-then-failed : goal.returns-then-failed
-returns-then-failed g c =
+pub returns-then-failed-clause-rolls : goal.returns-then-failed-clause-rolls
+returns-then-failed-clause-rolls g c =
     comes_to_old g.P.Compiled.needs c.args.site c.in-Ok.opening _ _ _ _ _ _ c.law.ensures.sound c.law.ensures.legal c.requires c.in-Ok.ensures (sym c.is_spent.ensures ∙ c.if-is_spent.false)
     (rw (c.opening.ensures, c.history.ensures) at c.write_journal.ensures) c.if-failed.true
 
-pub returns-else-failed : goal.returns-else-failed
-returns-else-failed g c =
+pub returns-else-failed-clause-rolls : goal.returns-else-failed-clause-rolls
+returns-else-failed-clause-rolls g c =
     comes_to_new g.P.Compiled.needs c.args.site c.in-Ok-resume.next c.in-Ok.opening _ _ _ _ _ _ c.law.ensures.sound c.law.ensures.legal c.requires c.in-Ok.ensures (sym c.is_spent.ensures ∙ c.if-is_spent.false)
     c.in-Ok-resume.ensures.0 c.in-Ok-resume.ensures.1 (rw (c.opening.ensures, c.history.ensures) at c.write_journal.ensures) c.if-failed.false
