@@ -1,17 +1,23 @@
 ghost use Rattle.std.specs.Prelude.{◌≡◌};
 
 use crate::accept::TcpAccept;
+use crate::round::{Place, Round, SharedRound, local};
 use edges::{Bind, Failed};
 use std::alloc::Global;
-use std::net::{Ipv4Addr, Net, SocketAddr, SocketAddrV4, TcpListener, TcpStream};
+use std::io;
+use std::net::{Net, TcpListener, TcpStream};
+use std::sync::Arc;
 use std::sync::atomic::AtomicU64;
 use std::time::Clock;
 
-/// Binds listeners to ports of 127.0.0.1. It counts each that can't be had.
+/// Binds listeners to ports of 127.0.0.1. It counts each that can't be had. Two in a row share their rounds.
 #[derive(Drop)]
 pub struct TcpBind<'a, R> {
     rt: &'a R,
     alloc: Global,
+
+    /// The round that has one listener.
+    half: Option<SharedRound>,
     faults: u64,
 }
 
@@ -20,8 +26,42 @@ impl<'a, R> TcpBind<'a, R> {
         TcpBind {
             rt,
             alloc,
+            half: None,
             faults: 0,
         }
+    }
+}
+
+impl<'a, R: Net<Listener = TcpListener, Stream = TcpStream> + Clock> TcpBind<'a, R> {
+    // A listener on this port.
+    fn listen(&mut self, port: u16, numbers: Option<u32>) -> io::Result<TcpAccept<'a, R>>
+        ensures { self.new.faults ≡ self.old.faults }
+    {
+        let listener = TcpListener::bind(self.rt, local(port))?;
+        let (round, place) = self.next_round()?;
+        round.door(place).open(listener.local_addr()?.port());
+        Ok(TcpAccept {
+            rt: self.rt,
+            alloc: self.alloc,
+            listener,
+            numbers,
+            drawn: AtomicU64::new(0),
+            settled: AtomicU64::new(0),
+            round,
+            place,
+        })
+    }
+
+    // The round of the next listener, and its place there.
+    fn next_round(&mut self) -> io::Result<(SharedRound, Place)>
+        ensures { self.new.faults ≡ self.old.faults }
+    {
+        if let Some(round) = self.half.take() {
+            return Ok((round, Place::Second));
+        }
+        let round: SharedRound = Arc::new(self.alloc, Round::new())?;
+        self.half = Some(Arc::try_clone(&round)?);
+        Ok((round, Place::First))
     }
 }
 
@@ -32,15 +72,8 @@ impl<'a, R: Net<Listener = TcpListener, Stream = TcpStream> + Clock + Sync> Bind
     ghost faults = { λ bind. bind.faults };
 
     fn bind(&mut self, port: u16, round: Option<u32>) -> Result<TcpAccept<'a, R>, Failed> {
-        let address = SocketAddr::V4(SocketAddrV4::new(Ipv4Addr::LOCALHOST, port));
-        match TcpListener::bind(self.rt, address) {
-            Ok(listener) => Ok(TcpAccept {
-                rt: self.rt,
-                alloc: self.alloc,
-                listener,
-                round,
-                drawn: AtomicU64::new(0),
-            }),
+        match self.listen(port, round) {
+            Ok(listener) => Ok(listener),
             Err(_) => {
                 self.faults = self.faults.saturating_add(1);
                 Err(Failed)

@@ -8,6 +8,9 @@
 //!   that came last at 500 a second, and 20 seconds more,
 //! - 20 seconds until the peer takes more of an answer.
 //!
+//! Listeners may have rounds. Two of them end together: once one has taken as many connections as its round has, who waits at the other is
+//! woken, by a connection that says nothing. Connections that are open go on to the end of their request, and new ones wait for the next round.
+//!
 //! A whole answer goes out at once, and so does each chunk. A socket is closed for writing first, and what the peer still sends is
 //! dropped for up to a second, so that an answer that refuses a request reaches a peer that is still sending it.
 #![tactic(auto)]
@@ -15,6 +18,7 @@
 mod accept;
 mod bind;
 mod link;
+mod round;
 mod sink;
 mod source;
 mod wait;

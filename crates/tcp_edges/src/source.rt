@@ -2,6 +2,7 @@ ghost use Rattle.std.specs.Prelude.{◌≡◌};
 ghost use Rattle.std.specs.Io.{ReadsAtMost};
 
 use crate::link::{MOST_INTERRUPTIONS, Shared, is_interruption};
+use crate::round::SharedRound;
 use crate::wait::{BETWEEN_SECONDS, Begun, INSIDE_SECONDS};
 use edges::{Failed, Source};
 use std::io;
@@ -23,6 +24,7 @@ const MOST_PIECES: u32 = 1_000_000;
 pub struct TcpSource<'a, R: Clock> {
     rt: &'a R,
     link: Shared,
+    round: SharedRound,
     faults: u64,
 
     /// How many pieces were written when it last read.
@@ -40,11 +42,12 @@ pub struct TcpSource<'a, R: Clock> {
 
 impl<'a, R: Clock> TcpSource<'a, R> {
     /// The way from the peer of this connection.
-    pub(crate) fn new(rt: &'a R, link: Shared) -> io::Result<Self> {
+    pub(crate) fn new(rt: &'a R, link: Shared, round: SharedRound) -> io::Result<Self> {
         wait_for(&link.stream, BETWEEN_SECONDS)?;
         Ok(TcpSource {
             rt,
             link,
+            round,
             faults: 0,
             pieces: 0,
             seconds: BETWEEN_SECONDS,
@@ -59,6 +62,9 @@ impl<'a, R: Clock> TcpSource<'a, R> {
         ensures faults { self.new.faults ≡ self.old.faults }
     {
         self.be_patient()?;
+        if self.ends_here() {
+            return Ok(0);
+        }
         let count = received(&self.link.stream, into)?;
         if count == 0 {
             self.is_over = true;
@@ -70,6 +76,11 @@ impl<'a, R: Clock> TcpSource<'a, R> {
             None => self.begun = Some(Begun::new(Instant::now(self.rt)?, came)),
         }
         Ok(count)
+    }
+
+    // Whether the round is over between two requests. A connection that hasn't asked yet may ask once.
+    fn ends_here(&self) -> bool {
+        self.begun.is_none() && self.pieces > 0 && self.round.is_over()
     }
 
     // Sets how long the socket waits.
@@ -125,6 +136,7 @@ impl<'a, R: Clock> Drop for TcpSource<'a, R> {
         let TcpSource {
             rt: _,
             link: _,
+            round: _,
             faults: _,
             pieces: _,
             seconds: _,

@@ -2,6 +2,7 @@ use edges::{Accept, Accepted, Bind, Sink, Source};
 use std::io::{ErrorKind, Read, Write};
 use std::net::{Ipv4Addr, SocketAddr, SocketAddrV4, TcpListener, TcpStream};
 use std::test::Fail;
+use std::thread::join;
 use tcp_edges::{TcpAccept, TcpBind, TcpSink, TcpSource};
 
 const LOCAL: Ipv4Addr = Ipv4Addr::LOCALHOST;
@@ -104,6 +105,56 @@ fn a_round_is_over_until_it_is_renewed(rt: HostRuntime) -> Result<(), Fail> {
     listener.renew();
     drop(next(&listener)?);
     drop((first, second));
+    Ok(())
+}
+
+// Two listeners whose rounds have one number each, and the port of the first.
+fn both_bound(
+    rt: &HostRuntime,
+) -> Result<(TcpAccept<'_, HostRuntime>, TcpAccept<'_, HostRuntime>, u16), Fail> {
+    let port = free_port(rt)?;
+    let mut bind = TcpBind::new(rt, rt.alloc());
+    match (bind.bind(port, Some(1)), bind.bind(free_port(rt)?, Some(1))) {
+        (Ok(first), Ok(second)) => Ok((first, second, port)),
+        _ => Err(Fail::new("a port can't be had")),
+    }
+}
+
+#[test]
+fn a_round_is_over_for_both_listeners(rt: HostRuntime) -> Result<(), Fail> {
+    let (first, second, port) = both_bound(&rt)?;
+    let peer = connected(&rt, port)?;
+    drop(next(&first)?);
+    assert!(rt; is_over(&second));
+    drop(peer);
+    Ok(())
+}
+
+#[test]
+fn a_kept_connection_ends_with_the_round(rt: HostRuntime) -> Result<(), Fail> {
+    let (first, _second, port) = both_bound(&rt)?;
+    let mut peer = connected(&rt, port)?;
+    let (mut source, mut sink) = next(&first)?;
+    peer.write(b"ask")?;
+    let mut asked = [0; 8];
+    assert_eq!(rt; source.read(&mut asked), Ok(3));
+    assert_eq!(rt; sink.write(b"tell"), Ok(4));
+    peer.write(b"more")?;
+    assert_eq!(rt; source.read(&mut asked), Ok(0));
+    Ok(())
+}
+
+#[test]
+fn a_listener_that_waits_is_woken(rt: HostRuntime) -> Result<(), Fail> {
+    let (first, second, port) = both_bound(&rt)?;
+    let peer = connected(&rt, port)?;
+    let (woken, _) = join(
+        &rt,
+        || second.accept(&mut 0).is_ok(),
+        || first.accept(&mut 0).is_ok(),
+    );
+    assert!(rt; woken);
+    drop(peer);
     Ok(())
 }
 
