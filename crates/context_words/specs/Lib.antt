@@ -1,0 +1,4 @@
+pub mod Grown
+pub mod Parts
+pub mod Said
+pub mod Shared
