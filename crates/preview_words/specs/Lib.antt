@@ -1,0 +1,4 @@
+pub mod Laws
+pub mod Own
+pub mod Previewed
+pub mod Shown
