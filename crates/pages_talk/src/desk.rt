@@ -1,4 +1,4 @@
-ghost use Rattle.std.specs.Prelude.{◌≡◌, ◌≤◌, ◌<◌, ◌+◌, ℕ};
+ghost use Rattle.std.specs.Prelude.{◌≡◌, ◌≤◌, ◌<◌, ◌+◌, ℕ, []};
 
 use crate::editing::{edit, find_nothing};
 use conversation::{Desk, Outcome};
@@ -14,12 +14,29 @@ use talk_words::{Role, Way, way_for};
 
 /// What answers the requests of a connection over a port to a site.
 #[derive(Drop)]
-pub(crate) struct PortDesk<P, C, L> {
-    pub(crate) role: Role,
-    pub(crate) draft: Draft,
-    pub(crate) port: PhantomData<P>,
-    pub(crate) clock: PhantomData<C>,
-    pub(crate) count: PhantomData<L>,
+pub struct PortDesk<P, C, L> {
+    pub role: Role,
+    /// What the editor at the other end has said that isn't published yet.
+    pub draft: Draft,
+    port: PhantomData<P>,
+    clock: PhantomData<C>,
+    count: PhantomData<L>,
+}
+
+impl<P, C, L> PortDesk<P, C, L> {
+    /// The desk of a connection that begins, with an empty draft.
+    pub fn new(alloc: Global, role: Role) -> Self
+        ensures role { result.role ≡ role }
+        ensures draft { result.draft ≡ [] }
+    {
+        PortDesk {
+            role,
+            draft: Draft::new(alloc),
+            port: PhantomData,
+            clock: PhantomData,
+            count: PhantomData,
+        }
+    }
 }
 
 impl<P: Port<Made>, C: Clock, L: Ledger> Desk for PortDesk<P, C, L> {

@@ -11,7 +11,10 @@ mod words;
 pub use command::play;
 pub use connection::talk;
 pub use conversation::Ended;
+pub use desk::PortDesk;
+pub use editing::tell_editor;
 pub use starting::start_alone;
 pub use talk_words::{
     Role, each_once, exact_refusals, exact_work, one_history, told_again, versions,
 };
+pub use words::seed_of;

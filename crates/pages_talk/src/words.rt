@@ -16,8 +16,8 @@ pub(crate) fn seed_asked(words: &[String]) -> Option<[u8; 32]>
     }
 }
 
-// The seed that a text is.
-fn seed_of(text: &str) -> Option<[u8; 32]>
+/// The seed that a text is: 64 hexadecimal digits of either case.
+pub fn seed_of(text: &str) -> Option<[u8; 32]>
     ensures { result ≡ seed_of text.now }
 {
     let mut seed = [0; 32];

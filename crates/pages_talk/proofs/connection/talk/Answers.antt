@@ -6,7 +6,7 @@ use Rattle.talk_words.specs.Connection.{Connection, Stand, connection_of, stand_
 use Rattle.pages_talk.proofs.connection.talk.Goals as goal
 
 pub returns-clause-talk : goal.returns-clause-talk
-returns-clause-talk g c = (c.walk.new.desk.draft, rw c.new.ensures at c.walk.ensures.talk)
+returns-clause-talk g c = (c.walk.new.desk.draft, rw (c.new-desk.ensures.role, c.new-desk.ensures.draft) at c.walk.ensures.talk)
 
 pub returns-clause-grown : goal.returns-clause-grown
 returns-clause-grown g c =
@@ -14,4 +14,4 @@ returns-clause-grown g c =
     let start : Stand = stand_of [] (standing_of (g.P.Port.seen c.args.port.now) (g.C.Clock.moments c.args.clock.now) c.args.steps.now) in
     let now : Stand = stand_of c.walk.new.desk.draft (standing_of (g.P.Port.seen c.walk.new.port) (g.C.Clock.moments c.walk.new.clock) c.walk.new.count) in
     one_history w start now (g.S.Source.left c.args.source.now) (g.S.Source.left c.walk.new.source) (g.K.Sink.faults c.args.sink.now) (g.K.Sink.faults c.walk.new.sink) (g.K.Sink.taken c.args.sink.now) (g.K.Sink.taken c.walk.new.sink) c.walk.result
-    c.requires.idle c.law.ensures.legal (rw c.new.ensures at c.walk.ensures.talk)
+    c.requires.idle c.law.ensures.legal (rw (c.new-desk.ensures.role, c.new-desk.ensures.draft) at c.walk.ensures.talk)
