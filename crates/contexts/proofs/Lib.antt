@@ -1,0 +1,3 @@
+pub mod ApartLemmas
+pub mod Loops
+pub mod StartLemmas

@@ -1,0 +1,9 @@
+//! Several contexts, each with a site of its own.
+#![tactic(auto)]
+
+mod laws;
+mod sites;
+
+pub use context_names::{ContextNames, PortList, read_names};
+pub use laws::{apart, two_worlds};
+pub use sites::{Contexts, start};
