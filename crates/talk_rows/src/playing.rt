@@ -26,14 +26,16 @@ pub fn failing(
 {
     let source = MemSource::new(input.to_vec(alloc)?, piece, reads.to_vec(alloc)?);
     let sink = MemSink::new(alloc, writes.to_vec(alloc)?);
-    played::<Brand>(alloc, Blank::new(1), "play", source, sink)
+    let words = words_of(alloc, "play")?;
+    played::<Brand>(alloc, Blank::new(1), &words, source, sink)
 }
 
 /// The status of these words over an empty input, and what was written.
 pub fn worded(alloc: Global, words: &str) -> Result<(u8, Vec<u8>), AllocError> {
     let source = MemSource::new(Vec::new(alloc), 1, Vec::new(alloc));
     let sink = MemSink::new(alloc, Vec::new(alloc));
-    played::<Brand>(alloc, Blank::new(1), words, source, sink)
+    let words = words_of(alloc, words)?;
+    played::<Brand>(alloc, Blank::new(1), &words, source, sink)
 }
 
 /// Words between blanks.
@@ -51,7 +53,7 @@ pub fn words_of(alloc: Global, words: &str) -> Result<Vec<String>, AllocError> {
 fn played<N: Ledger>(
     alloc: Global,
     blank: Blank,
-    words: &str,
+    words: &[String],
     mut source: MemSource,
     mut sink: MemSink,
 ) -> Result<(u8, Vec<u8>), AllocError>
@@ -59,16 +61,8 @@ fn played<N: Ledger>(
     requires parts { blank.parts ≡ N.parts }
     requires some { 0 < N.parts }
 {
-    let words = words_of(alloc, words)?;
     let mut clock = MemClock::new(vec![in alloc; 0]?);
     let mut steps = Steps::<Unseen<N>>::unseen(blank);
-    let status = play(
-        alloc,
-        &words,
-        &mut source,
-        &mut sink,
-        &mut clock,
-        &mut steps,
-    );
+    let status = play(alloc, words, &mut source, &mut sink, &mut clock, &mut steps);
     Ok((status, sink.taken().to_vec(alloc)?))
 }

@@ -10,33 +10,36 @@ use std::sync::ledger::{Blank, Ledger};
 use unit_build::build;
 use unit_nodes::{Unit, UnitBody};
 
-/// What is told of the unit of the page at a path, with what these words ask beside its body.
+/// What is told of the unit of the page at a path, with what these words ask beside its body: `ok`
+/// or its fault; the names on which it depends, a dash before those of absent files; and the bytes
+/// that were counted for it.
 pub fn told(alloc: Global, tree: &Tree, path: &Path, words: &str) -> Result<String, AllocError> {
-    told_by::<Brand>(alloc, Blank::new(1), tree, path, words)
+    match counted::<Brand>(alloc, Blank::new(1), tree, path)? {
+        Some((unit, bytes)) => shown(alloc, &unit, words, bytes),
+        None => String::from_str(alloc, "no file stands there, or the tree is too large"),
+    }
 }
 
-// `ok` or the fault of the unit; the names on which it depends, a dash before those of absent
-// files; and the bytes that were counted for it.
-fn told_by<N: Ledger>(
+// The unit of a page, where it is there, and the bytes that were counted for it.
+fn counted<N: Ledger>(
     alloc: Global,
     blank: Blank,
     tree: &Tree,
     path: &Path,
-    words: &str,
-) -> Result<String, AllocError>
+) -> Result<Option<(Unit, u64)>, AllocError>
     requires name { blank.name ≡ N.name }
     requires parts { blank.parts ≡ N.parts }
     requires some { 0 < N.parts }
 {
     let None = tree.fault() else {
-        return String::from_str(alloc, "the tree is too large");
+        return Ok(None);
     };
     let Some(_) = tree.get(path) else {
-        return String::from_str(alloc, "no file stands there");
+        return Ok(None);
     };
     let mut steps = Steps::<Counting<N>>::counting(blank);
     let unit = build(alloc, tree, path, &mut steps)?;
-    shown(alloc, &unit, words, steps.count())
+    Ok(Some((unit, steps.count())))
 }
 
 fn shown(alloc: Global, unit: &Unit, words: &str, bytes: u64) -> Result<String, AllocError> {

@@ -1,4 +1,4 @@
 use Rattle.unit_rows.proofs.units.told.Given as goal
 
-abbrev pub ghosts-told_by : goal.ghosts-told_by
-ghosts-told_by a = record { name = a.blank.name; parts = a.blank.parts }
+abbrev pub ghosts-counted : goal.ghosts-counted
+ghosts-counted a = record { name = a.blank.name; parts = a.blank.parts }
