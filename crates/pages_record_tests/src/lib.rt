@@ -1,0 +1,9 @@
+//! Tests of the command `record`: which inputs are lists of connections, and what is written for them.
+#![tactic(auto)]
+
+#[cfg(test)]
+mod lists;
+#[cfg(test)]
+mod recorded;
+#[cfg(test)]
+mod sessions;

@@ -1,0 +1,64 @@
+use crate::recorded::told;
+use std::test::Fail;
+
+// The journal of a connection without a byte.
+const EMPTY: [&[u8]; 6] = [
+    // the mark
+    b"PGJRNL1\n",
+    // the seed
+    b"\0\0\0\0\0\0\0\0\0\0\0\0\0\0\0\0\0\0\0\0\0\0\0\0\0\0\0\0\0\0\0\0",
+    // limit, passes, idle time, version, Begins, Freshes, moment
+    b"\0\0\0\0\x80\0\0\0\0\0\0\0\0\0\0\x01\0\0\0\0\0\0\x07\x08\0\0\0\0\0\0\0\0\0\0\0\0\0\0\0\0\0\0\0\0\0\0\0\0\0\0\0\0\0\0\0\0",
+    // attributes, files, sessions
+    b"\0\0\0\0\0\0\0\0\0\0\0\0\0\0\0\0\0\0\0\0\0\0\0\0",
+    // one entry: a Roll of pass 0
+    b"\0\0\0\0\0\0\0\x01\0\n",
+    // a talk: bytes, moments, answers, end
+    b"\x01\0\0\0\0\0\0\0\0\0\0\0\0\0\0\0\0\0\0\0\0\0\0\0\0\0",
+];
+
+// No lists of connections.
+const FAULTY: [&str; 12] = [
+    "5\n",
+    "1",
+    "\n",
+    "-1\n",
+    "+1\nx",
+    " 1\nx",
+    "1 \nx",
+    "000000001\nx",
+    "0\n1\n",
+    "0\nx",
+    "1\r\nx",
+    "99999999\n",
+];
+
+#[test]
+fn an_empty_connection_is_a_journal(rt: HostRuntime) -> Result<(), Fail> {
+    let mut wanted = Vec::new(rt.alloc());
+    for part in &EMPTY {
+        wanted.extend_from_slice(part)?;
+    }
+    let (status, text) = told(rt.alloc(), b"0\n", 1, &[])?;
+    assert_eq!(rt; status, 0);
+    assert_eq!(rt; text.as_slice(), wanted.as_slice());
+    Ok(())
+}
+
+#[test]
+fn nothing_is_written_for_what_is_no_list(rt: HostRuntime) -> Result<(), Fail> {
+    for input in &FAULTY {
+        let (status, text) = told(rt.alloc(), input.as_bytes(), 4_096, &[])?;
+        assert_eq!(rt; status, 2);
+        assert!(rt; text.is_empty());
+    }
+    Ok(())
+}
+
+#[test]
+fn a_failed_write_ends_it(rt: HostRuntime) -> Result<(), Fail> {
+    let (status, text) = told(rt.alloc(), b"0\n0\n", 4_096, &[0])?;
+    assert_eq!(rt; status, 4);
+    assert!(rt; text.is_empty());
+    Ok(())
+}
