@@ -5,6 +5,7 @@ use Rattle.std.specs.Str.{bytes_eq}
 use Rattle.pages_check.specs.Words.{path_asked}
 use Rattle.pages_cli.specs.Words.{first_is}
 use Rattle.pages_load.specs.Load.{number_asked}
+use Rattle.pages_record.specs.Words.{record_asked}
 use Rattle.pages_talk.specs.Play.{seed_asked}
 use Rattle.serve_words.specs.Words.{settings_asked}
 
@@ -35,3 +36,10 @@ no_path (word ∷ path ∷ next ∷ words) is = refl
 pub no_settings : (words : List (List ℕ)) → first_is (codes "serve") words ≡ false → settings_asked words ≡ None
 no_settings [] is = refl
 no_settings (word ∷ words) is = rw is refl
+
+pub no_record : (words : List (List ℕ)) → first_is (codes "record") words ≡ false → record_asked words ≡ None
+no_record [] is = refl
+no_record (word ∷ []) is = rw is refl
+no_record (word ∷ option ∷ []) is = refl
+no_record (word ∷ option ∷ digits ∷ []) is = rw is refl
+no_record (word ∷ option ∷ digits ∷ next ∷ words) is = refl
