@@ -1,8 +1,9 @@
 //! The program `pages`: a page container, over standard input and output and over two ports of this machine.
 //!
-//! `pages serve --port P --editor-port E --workers W [--seed HEX] [--idle SECONDS]` serves a site without files at 127.0.0.1: W
-//! workers answer readers on P, and one answers editors on E. An option and its value may also stand in one word, as `--port=80`. Its
-//! status is 7 where a port can't be had, and 8 where the workers can't have a thread each; otherwise it isn't meant to end.
+//! `pages serve --port P --editor-port E --workers W [--seed HEX] [--idle SECONDS] [--round N --editor-round M]` serves a site without files
+//! at 127.0.0.1: W workers answer readers on P, and one answers editors on E. An option and its value may also stand in one word, as
+//! `--port=80`. With rounds it writes a journal behind each and goes on with an empty one. Its status is 7 where a port can't be had, and 8
+//! where the workers can't have a thread each; otherwise it isn't meant to end.
 //! `pages play [--seed HEX]` answers the requests that it reads from standard input, and writes the answers to standard output. Its
 //! status is 0 where the input ended between requests, a request asked to close, a response broke off or 65,536 requests were answered, 2 where
 //! the input shows a fault.
@@ -150,7 +151,7 @@ fn run<N: Ledger, R: Threads + Wait + Sync>(
     )
 }
 
-// Serves over TCP, and says on standard error where.
+// Serves over TCP, says on standard error where, and writes the journals of rounds to standard output.
 fn served<R: Threads + Wait + Sync>(rt: &HostRuntime, threads: &R, words: &[String]) -> u8
     ensures words { settings_asked (map string_bytes words.now) ≡ None → result ≡ 1 }
     ensures only_words { result ≡ 1 → settings_asked (map string_bytes words.now) ≡ None }
@@ -161,6 +162,7 @@ fn served<R: Threads + Wait + Sync>(rt: &HostRuntime, threads: &R, words: &[Stri
         words,
         &mut TcpBind::new(rt, rt.alloc()),
         &WallClocks { rt },
+        &mut WriteSink::new(io::writer(rt)),
         &mut WriteSink::new(rt.stderr()),
     )
 }

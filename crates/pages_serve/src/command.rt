@@ -3,6 +3,7 @@ ghost use Rattle.edges.specs.Faults.{Rose};
 ghost use Rattle.site_words.specs.Invariants.{AllRest};
 ghost use Rattle.serve_words.specs.Words.{settings_asked};
 
+use crate::next_round::onward;
 use crate::notice::announce;
 use crate::pages::Pages;
 use crate::threads::can_run;
@@ -23,18 +24,20 @@ const JOURNAL_LIMIT: u64 = 2_147_483_648;
 
 /// Serves a new site without files on two ports: to readers by as many workers as the words say, and by one more to editors. The answer
 /// is the program's status: 1 for other words, 7 where a listener can't be had, 8 where the workers can't have a thread each, 5 where
-/// memory was wanting. Otherwise it isn't meant to end. What it has to say at the start goes to `notices`.
-pub fn serve<R: Threads + Wait + Sync, B: Bind, W: Clocks + Sync, K: Sink>(
+/// memory was wanting. Otherwise it isn't meant to end. What it has to say at the start goes to `notices`, and the journal of each round to
+/// `journals`.
+pub fn serve<R: Threads + Wait + Sync, B: Bind, W: Clocks + Sync, J: Sink, K: Sink>(
     rt: &R,
     alloc: Global,
     words: &[String],
     bind: &mut B,
     clocks: &W,
+    journals: &mut J,
     notices: &mut K,
 ) -> u8
     ensures words { settings_asked (map string_bytes words.now) ≡ None → result ≡ 1 }
     ensures only_words { result ≡ 1 → settings_asked (map string_bytes words.now) ≡ None }
-    ensures silent { result ≡ 1 → (bind.new ≡ bind.old) × (notices.new ≡ notices.old) }
+    ensures silent { result ≡ 1 → (bind.new ≡ bind.old) × (journals.new ≡ journals.old) × (notices.new ≡ notices.old) }
     ensures bound { result ≡ 7 → Rose (B.faults bind.old) (B.faults bind.new) }
     ensures statuses { result ≢ 1 → result ≢ 7 → result ≢ 8 → result ≡ 5 }
 {
@@ -51,16 +54,17 @@ pub fn serve<R: Threads + Wait + Sync, B: Bind, W: Clocks + Sync, K: Sink>(
         return 5;
     };
     announce(alloc, &settings, JOURNAL_LIMIT, notices);
-    rounds(rt, alloc, site, listeners, clocks)
+    rounds(rt, alloc, site, listeners, clocks, journals)
 }
 
-// Serves one round after the other. It ends where memory is wanting.
-fn rounds<R: Threads + Wait + Sync, A: Accept + Sync + Drop, W: Clocks + Sync>(
+// Serves one round after the other, and writes the journal of each. It ends where memory is wanting.
+fn rounds<R: Threads + Wait + Sync, A: Accept + Sync + Drop, W: Clocks + Sync, J: Sink>(
     rt: &R,
     alloc: Global,
     mut site: Site<Made>,
     mut listeners: Listeners<A>,
     clocks: &W,
+    journals: &mut J,
 ) -> u8
     requires { AllRest site.opening site.history }
     ensures { result ≡ 5 }
@@ -77,7 +81,7 @@ fn rounds<R: Threads + Wait + Sync, A: Accept + Sync + Drop, W: Clocks + Sync>(
     };
     for _ in rt.forever() {
         match round(rt, alloc, site, OpenGate, &talks, &listeners, clocks) {
-            Ok(after) => site = after,
+            Ok(after) => site = onward(alloc, after, journals),
             Err(AllocError) => return 5,
         }
         listeners.readers.renew();
@@ -90,8 +94,9 @@ fn rounds<R: Threads + Wait + Sync, A: Accept + Sync + Drop, W: Clocks + Sync>(
 fn listeners_of<B: Bind>(bind: &mut B, settings: &Settings) -> Result<Listeners<B::On>, Failed>
     ensures { OnErr result (Rose (B.faults bind.old) (B.faults bind.new)) }
 {
-    let readers = bind.bind(settings.port, None)?;
-    let editors = bind.bind(settings.editor_port, None)?;
+    let rounds = settings.rounds;
+    let readers = bind.bind(settings.port, rounds.map(|rounds| rounds.readers))?;
+    let editors = bind.bind(settings.editor_port, rounds.map(|rounds| rounds.editors))?;
     Ok(Listeners { readers, editors })
 }
 

@@ -4,9 +4,11 @@
 #![tactic(auto)]
 
 mod command;
+mod next_round;
 mod notice;
 mod pages;
 mod threads;
 
 pub use command::serve;
+pub use next_round::onward;
 pub use pages::Pages;

@@ -4,7 +4,7 @@ use pages_serve::serve;
 use std::test::Fail;
 
 // The status for these words where no port can be had.
-const WORDS: [(&[&str], u8); 14] = [
+const WORDS: [(&[&str], u8); 17] = [
     (
         &[
             "serve",
@@ -42,6 +42,39 @@ const WORDS: [(&[&str], u8); 14] = [
             SEED,
         ],
         7,
+    ),
+    (
+        &[
+            "serve",
+            "--port=1",
+            "--editor-port=2",
+            "--workers=1",
+            "--round=1",
+            "--editor-round",
+            "1000000",
+        ],
+        7,
+    ),
+    (
+        &[
+            "serve",
+            "--port=1",
+            "--editor-port=2",
+            "--workers=1",
+            "--round=1",
+        ],
+        1,
+    ),
+    (
+        &[
+            "serve",
+            "--port=1",
+            "--editor-port=2",
+            "--workers=1",
+            "--round=1000001",
+            "--editor-round=1",
+        ],
+        1,
     ),
     (&[], 1),
     (&["serves", "--port=1", "--editor-port=2", "--workers=1"], 1),
@@ -97,7 +130,16 @@ fn words_ask_to_serve(rt: HostRuntime) -> Result<(), Fail> {
         let mut notices = MemSink::new(rt.alloc(), Vec::new(rt.alloc()));
         let mut bind = NoBind { faults: 0 };
         let clocks = StillClock { moment: 0 };
-        let ended = serve(&rt, rt.alloc(), &words, &mut bind, &clocks, &mut notices);
+        let mut journals = MemSink::new(rt.alloc(), Vec::new(rt.alloc()));
+        let ended = serve(
+            &rt,
+            rt.alloc(),
+            &words,
+            &mut bind,
+            &clocks,
+            &mut journals,
+            &mut notices,
+        );
         assert_eq!(rt; ended, status);
         assert_eq!(rt; bind.faults, u64::from(status == 7));
         assert!(rt; notices.taken().is_empty());

@@ -1,4 +1,5 @@
-//! Tests of a site that is served in threads: two requests are answered at the same time, readers can't edit, and what words ask for.
+//! Tests of a site that is served in threads: two requests are answered at the same time, readers can't edit, rounds go on from each other,
+//! and what words ask for.
 #![tactic(auto)]
 
 #[cfg(test)]
@@ -7,6 +8,8 @@ mod asked;
 mod at_once;
 #[cfg(test)]
 mod opening;
+#[cfg(test)]
+mod rolling;
 #[cfg(test)]
 mod serving;
 #[cfg(test)]

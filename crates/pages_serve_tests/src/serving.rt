@@ -22,9 +22,10 @@ pub struct Said<'a> {
     pub editors: &'a [&'a str],
 }
 
-/// What was written to each connection, and whether the gate gave up.
+/// The site behind the round, what was written to each connection, and whether the gate gave up.
 #[derive(Drop)]
 pub struct Came {
+    pub site: Site<Made>,
     pub readers: Vec<Vec<u8>>,
     pub editors: Vec<Vec<u8>>,
     pub gave_up: bool,
@@ -46,7 +47,7 @@ pub fn come_of<R: Threads + Wait + Sync>(
         passed: AtomicU64::new(if is_held { 0 } else { 1 }),
         gave_up: &gave_up,
     };
-    serve_once(
+    let site = serve_once(
         rt,
         alloc,
         site,
@@ -56,6 +57,7 @@ pub fn come_of<R: Threads + Wait + Sync>(
     )?;
     let gave_up = gave_up.load(Ordering::SeqCst) > 0;
     Ok(Came {
+        site,
         readers: taken_of(alloc, readers)?,
         editors: taken_of(alloc, editors)?,
         gave_up,
@@ -86,7 +88,7 @@ fn serve_once<R: Threads + Wait + Sync>(
     gate: HeldGate<'_>,
     readers: &[Wire],
     editors: &[Wire],
-) -> Result<(), Fail> {
+) -> Result<Site<Made>, Fail> {
     if !site.at_rest() {
         return Err(Fail::new("a request is under way"));
     }
@@ -105,6 +107,5 @@ fn serve_once<R: Threads + Wait + Sync>(
         },
     };
     let clocks = StillClock { moment: 0 };
-    round(rt, alloc, site, gate, &talks, &listeners, &clocks)?;
-    Ok(())
+    Ok(round(rt, alloc, site, gate, &talks, &listeners, &clocks)?)
 }

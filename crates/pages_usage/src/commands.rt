@@ -50,7 +50,14 @@ fn serve<'a>(alloc: Global) -> Result<Command<'a>, AllocError> {
             "HEX",
             "What sessions are named by, 64 digits",
         ))?
-        .arg(option(alloc, "idle", "SECONDS", "How long an unused session lasts"))
+        .arg(option(alloc, "idle", "SECONDS", "How long an unused session lasts"))?
+        .arg(option(alloc, "round", "N", "Readers' connections to a journal"))?
+        .arg(option(
+            alloc,
+            "editor-round",
+            "M",
+            "Editors' connections to a journal",
+        ))
 }
 
 fn play<'a>(alloc: Global) -> Result<Command<'a>, AllocError> {

@@ -6,11 +6,12 @@ use Rattle.std.specs.Str.{bytes_eq}
 use Rattle.hex.specs.Hex.{decode_sized}
 use Rattle.pg_text.specs.Numbers.{whole_number}
 use Rattle.serve_words.specs.declared.given.Given.{Given}
+use Rattle.serve_words.specs.declared.setting.Rounds.{Rounds}
 use Rattle.serve_words.specs.declared.setting.Settings.{Settings}
 
 -- no option was read yet
 abbrev pub nothing_given : Given
-nothing_given = record { port = None; editor_port = None; workers = None; seed = None; idle = None }
+nothing_given = record { port = None; editor_port = None; workers = None; seed = None; idle = None; round = None; editor_round = None }
 
 -- the number that a text writes, where it is from one to the most
 abbrev pub number_up_to : (most : ℕ) → List ℕ → Option ℕ
@@ -37,6 +38,8 @@ with_option name value g =
     else if bytes_eq name (codes "--workers") then option_and_then (λ n. Some (record g { workers = Some n })) (once g.workers (number_up_to 63 value))
     else if bytes_eq name (codes "--seed") then option_and_then (λ s. Some (record g { seed = Some s })) (once g.seed (seed_in value))
     else if bytes_eq name (codes "--idle") then option_and_then (λ n. Some (record g { idle = Some n })) (once g.idle (number_up_to 1000000000 value))
+    else if bytes_eq name (codes "--round") then option_and_then (λ n. Some (record g { round = Some n })) (once g.round (number_up_to 1000000 value))
+    else if bytes_eq name (codes "--editor-round") then option_and_then (λ n. Some (record g { editor_round = Some n })) (once g.editor_round (number_up_to 1000000 value))
     else None
 
 -- one byte more before a name
@@ -70,12 +73,18 @@ abbrev pub or_else : {A : Type 0} → A → Option A → A
 or_else other None = other
 or_else other (Some value) = value
 
+-- the rounds: both numbers are given, or neither
+abbrev pub rounds_of : (readers editors : Option ℕ) → Option (Option Rounds)
+rounds_of None None = Some None
+rounds_of (Some readers) (Some editors) = Some (Some (record { readers = readers; editors = editors }))
+rounds_of readers editors = None
+
 -- three options have to stand there
 abbrev pub settings_of : Given → Option Settings
 settings_of g =
-    option_and_then (λ port. option_and_then (λ editor_port. option_and_then (λ workers.
-    Some (record { port = port; editor_port = editor_port; workers = workers; seed = or_else (replicate 32 0) g.seed; idle = or_else 1800 g.idle }))
-    g.workers) g.editor_port) g.port
+    option_and_then (λ port. option_and_then (λ editor_port. option_and_then (λ workers. option_and_then (λ rounds.
+    Some (record { port = port; editor_port = editor_port; workers = workers; seed = or_else (replicate 32 0) g.seed; idle = or_else 1800 g.idle; rounds = rounds }))
+    (rounds_of g.round g.editor_round)) g.workers) g.editor_port) g.port
 
 -- how the words ask to serve: they are `serve` and options
 abbrev pub settings_asked : List (List ℕ) → Option Settings

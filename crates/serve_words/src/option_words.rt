@@ -1,8 +1,8 @@
 ghost use Rattle.std.specs.Prelude.{◌≡◌, ◌≤◌, ◌<◌, map, string_bytes, IfSome, length, option_map};
-ghost use Rattle.serve_words.specs.Words.{FewWorkers, nothing_given, number_up_to, once, read, seed_in, settings_asked, settings_of, split_at_equals, with_option};
+ghost use Rattle.serve_words.specs.Words.{FewWorkers, nothing_given, number_up_to, once, read, rounds_of, seed_in, settings_asked, settings_of, split_at_equals, with_option};
 
 use crate::given::Given;
-use crate::setting::Settings;
+use crate::setting::{Rounds, Settings};
 use hex::decode_to_slice;
 use pg_text::whole_number;
 
@@ -11,6 +11,8 @@ const MOST_PORT: u64 = 65_535;
 const MOST_WORKERS: u64 = 63;
 
 const MOST_IDLE: u64 = 1_000_000_000;
+
+const MOST_ROUND: u64 = 1_000_000;
 
 /// How many seconds a session lasts that isn't used, where the words don't say.
 const IDLE_SECONDS: u64 = 1_800;
@@ -39,6 +41,8 @@ fn nothing_given() -> Given
         workers: None,
         seed: None,
         idle: None,
+        round: None,
+        editor_round: None,
     }
 }
 
@@ -87,6 +91,10 @@ fn with_option(name: &[u8], value: &[u8], mut given: Given) -> Option<Given>
         given.seed = Some(once(given.seed, seed_in(value))?);
     } else if name == b"--idle".as_slice() {
         given.idle = Some(once(given.idle, number_up_to(MOST_IDLE, value))?);
+    } else if name == b"--round".as_slice() {
+        given.round = Some(once(given.round, round_in(value))?);
+    } else if name == b"--editor-round".as_slice() {
+        given.editor_round = Some(once(given.editor_round, round_in(value))?);
     } else {
         return None;
     }
@@ -118,6 +126,13 @@ fn workers_in(text: &[u8]) -> Option<u8>
     Some(number as u8)
 }
 
+fn round_in(text: &[u8]) -> Option<u32>
+    ensures { result ≡ number_up_to 1000000 text.now }
+{
+    let number = number_up_to(MOST_ROUND, text)?;
+    Some(number as u32)
+}
+
 // The number that a text writes, where it is from one to the most.
 fn number_up_to(most: u64, text: &[u8]) -> Option<u64>
     ensures value { result ≡ number_up_to most text.now }
@@ -141,6 +156,17 @@ fn seed_in(text: &[u8]) -> Option<[u8; 32]>
     }
 }
 
+// The rounds: both numbers are given, or neither.
+fn rounds_of(readers: Option<u32>, editors: Option<u32>) -> Option<Option<Rounds>>
+    ensures { result ≡ rounds_of readers editors }
+{
+    match (readers, editors) {
+        (None, None) => Some(None),
+        (Some(readers), Some(editors)) => Some(Some(Rounds { readers, editors })),
+        _ => None,
+    }
+}
+
 // How options ask to serve: three have to stand there.
 fn settings_of(given: &Given) -> Option<Settings>
     requires { FewWorkers given.now }
@@ -153,5 +179,6 @@ fn settings_of(given: &Given) -> Option<Settings>
         workers: given.workers?,
         seed: given.seed.unwrap_or([0; 32]),
         idle: given.idle.unwrap_or(IDLE_SECONDS),
+        rounds: rounds_of(given.round, given.editor_round)?,
     })
 }

@@ -6,4 +6,14 @@ pub struct Settings {
     pub workers: u8,
     pub seed: [u8; 32],
     pub idle: u64,
+
+    /// The site's rounds, or one without an end.
+    pub rounds: Option<Rounds>,
+}
+
+/// After how many connections a round is over, of readers and of editors.
+#[derive(Clone, Copy)]
+pub struct Rounds {
+    pub readers: u32,
+    pub editors: u32,
 }
