@@ -1,0 +1,5 @@
+pub mod AskedLemmas
+pub mod DraftedLemmas
+pub mod OwnLemmas
+pub mod PlayLemmas
+pub mod ShownLemmas
