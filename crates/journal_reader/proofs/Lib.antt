@@ -4,3 +4,6 @@ pub mod Tags
 pub mod Views
 pub mod NumberLemmas
 pub mod Compounds
+pub mod RisingLemmas
+pub mod TextLemmas
+pub mod ValueLemmas

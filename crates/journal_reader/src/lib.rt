@@ -4,7 +4,10 @@
 mod lists;
 mod numbers;
 mod part;
+mod rising;
+mod texts;
 mod unread;
+mod values;
 
 pub use part::Part;
 pub use unread::Unread;
