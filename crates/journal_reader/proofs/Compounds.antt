@@ -1,5 +1,5 @@
 -- Pairs, lists and optional parts that are read.
-use Rattle.std.proofs.Common.{◌≡◌, ℕ, ◌+◌, List, [], ◌∷◌, ◌++◌, length, refl, sym, ap, subst, ◌∙◌, append-nil, arith, Option, Some, None, Ok, Err}
+use Rattle.std.proofs.Common.{◌≡◌, ℕ, List, [], ◌∷◌, ◌++◌, length, refl, sym, ap, subst, ◌∙◌, append-nil, arith, Option, Some, None, Ok, Err}
 use Rattle.std.specs.Prelude.{Result, flat_map, ⊤}
 use Rattle.journal_reader.proofs.Parts.{GoesOn, Opens, both_read, first_stops, second_stops}
 use Rattle.journal_reader.proofs.Views.{rest_read}

@@ -1,8 +1,8 @@
 -- Parts of one kind that are read one behind the other.
-use Rattle.std.proofs.Common.{◌≡◌, ◌≤◌, ◌<◌, ℕ, zero, suc, ◌+◌, List, [], ◌∷◌, ◌++◌, length, refl, sym, ap, subst, ◌∙◌, append_assoc, append-nil, arith, Option, Some, None, Ok, Err}
+use Rattle.std.proofs.Common.{◌≡◌, ◌<◌, ℕ, zero, suc, ◌+◌, List, [], ◌∷◌, ◌++◌, length, refl, sym, ap, subst, ◌∙◌, append-nil, arith, Option, Some, None, Ok, Err}
 use Rattle.std.proofs.lemmas.List.{length-append}
 use Rattle.std.proofs.lemmas.Grind.{flat_map-append}
-use Rattle.std.specs.Prelude.{IfSome, Result, flat_map, ⊤}
+use Rattle.std.specs.Prelude.{IfSome, flat_map, ⊤}
 use Rattle.edges.proofs.ToldBytes.{consumes_none}
 use Rattle.journal_reader.proofs.Parts.{GoesOn, both_read, second_memory, second_stops}
 use Rattle.journal_reader.specs.Reads.{AreSo, BeginOnlyWith, Reads}

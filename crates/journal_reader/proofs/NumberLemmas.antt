@@ -1,13 +1,13 @@
 -- Bytes, numbers and truth values that are read.
-use Rattle.std.proofs.Common.{◌≡◌, ◌≤◌, ◌<◌, ℕ, ◌+◌, List, [], ◌∷◌, ◌++◌, length, take, get_or, refl, sym, ap, subst, ◌∙◌, append-nil, arith, Option, Some, None, Ok, Err, true, false, Bool}
+use Rattle.std.proofs.Common.{◌≡◌, ◌≤◌, ◌<◌, ℕ, ◌+◌, List, [], ◌∷◌, length, take, get_or, refl, sym, ap, subst, ◌∙◌, append-nil, arith, Option, Some, None, Ok, Err, true, false, Bool}
 use Rattle.std.proofs.lemmas.Nat.{be_bytes_8, from_be_bytes-to_be_bytes_8}
 use Rattle.std.proofs.lemmas.Int.{of_z-to_z, to_z-of_z}
 use Rattle.std.specs.Int.{w64, cast_signed, cast_unsigned, from_be_bytes}
 use Rattle.std.specs.Io.KnownBytes.{Consumes, IsAtEnd, Keeps}
-use Rattle.std.specs.Prelude.{IfSome, flat_map, ⊤, ℤ, pos, negsuc}
+use Rattle.std.specs.Prelude.{IfSome, flat_map, ℤ, pos, negsuc}
 use Rattle.edges.proofs.ToldBytes.{consumes_kept}
 use Rattle.edges.specs.Faults.{Rose}
-use Rattle.journal_reader.proofs.Parts.{first_stops, stands_for}
+use Rattle.journal_reader.proofs.Parts.{stands_for}
 use Rattle.journal_reader.proofs.Tags.{IsByte, of_byte}
 use Rattle.journal_reader.proofs.Views.{seen_stops}
 use Rattle.journal_reader.specs.Reads.{AreBeyond, AreSo, BeginOnlyWith, Reads}

@@ -1,12 +1,11 @@
 -- Parts that are read one behind the other.
-use Rattle.std.proofs.Common.{◌≡◌, ◌≤◌, ◌<◌, ℕ, ◌+◌, List, [], ◌∷◌, ◌++◌, length, refl, sym, ap, subst, ◌∙◌, append_assoc, append-nil, arith, Option, Some, None, Ok, Err}
+use Rattle.std.proofs.Common.{◌≡◌, ◌≤◌, ◌<◌, ℕ, ◌+◌, List, ◌++◌, length, refl, sym, ap, subst, ◌∙◌, append_assoc, arith, Option, Some, None, Ok, Err}
 use Rattle.std.proofs.lemmas.List.{length-append}
 use Rattle.std.specs.Prelude.{IfSome, IsErrAnd, Result, ⊤}
 use Rattle.std.proofs.lemmas.Result.{err_from_is_err_and}
 use Rattle.std.specs.Io.KnownBytes.{Consumes}
 use Rattle.edges.proofs.ToldBytes.{consumes_both}
-use Rattle.edges.specs.Faults.{Rose}
-use Rattle.journal_reader.specs.Reads.{AreBeyond, BeginOnlyWith, HasRead, Reads, Stopped}
+use Rattle.journal_reader.specs.Reads.{BeginOnlyWith, HasRead, Reads, Stopped}
 use Rattle.journal_reader.specs.declared.unread.Unread.{Unread}
 use Rattle.journal_reader.specs.declared.unread.Unread.TheVariants.{Failed, NotThere, TooLong}
 use Rattle.pg_text.specs.declared.failure.Failure.{Failure}

@@ -1,5 +1,5 @@
 -- Parts that begin with a byte for their kind.
-use Rattle.std.proofs.Common.{◌≡◌, ℕ, List, [], ◌∷◌, ◌++◌, refl, sym, ap, ◌∙◌, append-nil, Option, Ok, Err}
+use Rattle.std.proofs.Common.{◌≡◌, ℕ, List, [], ◌∷◌, sym, ap, ◌∙◌, append-nil, Option, Ok, Err}
 use Rattle.std.specs.Prelude.{⊤}
 use Rattle.journal_reader.proofs.Parts.{both_read, first_stops, memory_stops, refuses, second_memory, second_stops, stands_for}
 use Rattle.journal_reader.specs.Reads.{Reads}

@@ -1,6 +1,6 @@
 -- Bytes, texts, paths and names that are read.
-use Rattle.std.proofs.Common.{◌≡◌, ℕ, List, [], ◌++◌, refl, sym, ap, subst, ◌∙◌, append-nil, length, Option, Ok, Err}
-use Rattle.std.specs.Prelude.{IsUtf8, Result, flat_map}
+use Rattle.std.proofs.Common.{◌≡◌, ℕ, List, ◌++◌, refl, sym, ap, subst, ◌∙◌, length, Option, Ok, Err}
+use Rattle.std.specs.Prelude.{IsUtf8, Result}
 use Rattle.journal_reader.proofs.NumberLemmas.{all_bytes, flat_bytes}
 use Rattle.journal_reader.proofs.Tags.{IsByte, of_byte}
 use Rattle.journal_reader.proofs.Views.{seen_read, seen_stops, sorted}

@@ -1,6 +1,6 @@
 -- Parts that are other parts seen otherwise, and those of them that are as they should be.
-use Rattle.std.proofs.Common.{◌≡◌, ℕ, List, [], ◌++◌, refl, sym, ap, subst, ◌∙◌, append-nil, Option, Ok, Err}
-use Rattle.std.specs.Prelude.{Result, ⊤}
+use Rattle.std.proofs.Common.{◌≡◌, ℕ, List, [], ◌++◌, sym, ap, subst, ◌∙◌, append-nil, Option, Ok, Err}
+use Rattle.std.specs.Prelude.{Result}
 use Rattle.journal_reader.proofs.Parts.{GoesOn, both_read, first_stops, memory_stops, refuses, second_stops, stands_for}
 use Rattle.journal_reader.specs.Reads.{Reads, Sorts}
 use Rattle.journal_reader.specs.declared.unread.Unread.{Unread}

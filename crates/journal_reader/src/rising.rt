@@ -22,6 +22,14 @@ impl Keyed for Path {
     }
 }
 
+impl Keyed for (Text, Value) {
+    ghost key = { λ entry. entry.0 };
+
+    fn key(&self) -> &[u8] {
+        self.0.as_bytes()
+    }
+}
+
 /// Whether the keys rise in byte order.
 pub(crate) fn are_rising<T: Keyed>(items: &[T]) -> bool
     ensures { IsTrue result ↔ IsStrictlySortedBy (slice_cmp nat_cmp) (map T.key items.now) }
@@ -39,12 +47,4 @@ fn stands_before<T: Keyed>(item: &T, other: &T) -> bool
     ensures { result ≡ is_lt (slice_cmp nat_cmp (T.key item.now) (T.key other.now)) }
 {
     item.key().cmp(other.key()).is_lt()
-}
-
-impl Keyed for (Text, Value) {
-    ghost key = { λ entry. entry.0 };
-
-    fn key(&self) -> &[u8] {
-        self.0.as_bytes()
-    }
 }

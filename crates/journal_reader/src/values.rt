@@ -17,9 +17,8 @@ use pg_value::{Attrs, Record, Value, Values};
 use std::alloc::Global;
 
 /// The most lists and records that may stand in one another where a value is read: for more of them the stack isn't trusted
-/// to have room, which is a want of memory. A session's attributes weigh at most 65,536, 16 for each level, so no right
-/// journal has a value that is deeper.
-const MAX_LEVELS: u32 = 4_096;
+/// to have room, which is a want of memory. A value of the application is at most 32 deep.
+const MAX_LEVELS: u32 = 512;
 
 impl Part for Value {
     ghost use Rattle.journal_reader.specs.Values.{IsValue};

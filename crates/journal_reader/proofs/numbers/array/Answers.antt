@@ -1,4 +1,4 @@
-use Rattle.std.proofs.Common.{◌<◌, ◌≤◌, ◌∙◌, arith, length, take}
+use Rattle.std.proofs.Common.{◌<◌, ◌≤◌, arith, length}
 use Rattle.std.proofs.lemmas.List.{length-set, take_all, take_more_set}
 use Rattle.journal_reader.proofs.ItemLemmas.{all_read, next_read, next_stops}
 use Rattle.journal_reader.proofs.Parts.{passed}

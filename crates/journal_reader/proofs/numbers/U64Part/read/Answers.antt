@@ -1,4 +1,4 @@
-use Rattle.std.proofs.Common.{arith, rules}
+use Rattle.std.proofs.Common.{rules}
 use Rattle.journal_reader.proofs.NumberLemmas.{number_read, number_stops}
 use Rattle.journal_reader.proofs.Parts.{passed}
 use Rattle.journal_reader.proofs.numbers.U64Part.read.Goals as goal
