@@ -5,6 +5,8 @@ mod lists;
 mod numbers;
 mod part;
 mod rising;
+#[cfg(test)]
+mod tests;
 mod texts;
 mod unread;
 mod values;
