@@ -38,8 +38,8 @@ alone_rests x history one none k within = let first : 0 ≡ k = omega (arith, on
 pub rests_at_start : (x : Opening) (history : List Entry) → history ≡ [] → AllRest x history
 rests_at_start x history empty k within = subst (λ h. run_of (own k h) ≡ None) (sym empty) refl
 
-pub idle_at_start : (x : Opening) (history : List Entry) → x.passes ≡ 1 → history ≡ [] → IsIdle x 0 history
-idle_at_start x history one empty = (omega (arith, one), subst (λ h. run_of (own 0 h) ≡ None) (sym empty) refl)
+pub idle_before : (site before : Lived) → before ≡ site → site.opening.passes ≡ 1 → site.history ≡ [] → IsIdle before.opening 0 before.history
+idle_before site before same one empty = subst (λ (s : Lived). IsIdle s.opening 0 s.history) (sym same) (omega (arith, one), subst (λ h. run_of (own 0 h) ≡ None) (sym empty) refl)
 
 -- nor behind a connection
 pub rests_behind : (site before now done : Lived) → site.opening.passes ≡ 1 → before ≡ site → now.opening ≡ before.opening → done ≡ now → HasGrown needs_at before.opening 0 before.history now.history → AllRest done.opening done.history

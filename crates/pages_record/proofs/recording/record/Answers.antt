@@ -16,9 +16,9 @@ returns-in-Err-Fault-clause-comes g c =
     let stopped = c.in-Err-Fault.ensures.stopped in
     record { came = stopped.0; consumed = stopped.1; silent = appends_none _; unread = refl }
 
-pub returns-then-input-gt-MAX_INPUT_BYTES-clause-comes : goal.returns-then-input-gt-MAX_INPUT_BYTES-clause-comes
-returns-then-input-gt-MAX_INPUT_BYTES-clause-comes g c =
-    too_long _ _ (g.K.Sink.taken c.args.sink.now) c.args.steps.now c.in-Ok.input.items c.in-Ok.ensures.come (omega (arith, c.if-input-gt-MAX_INPUT_BYTES.true, c.in-Ok.input.ok.0))
+pub returns-then-len-gt-MAX_INPUT_BYTES-clause-comes : goal.returns-then-len-gt-MAX_INPUT_BYTES-clause-comes
+returns-then-len-gt-MAX_INPUT_BYTES-clause-comes g c =
+    too_long _ _ (g.K.Sink.taken c.args.sink.now) c.args.steps.now c.in-Ok.input.items c.in-Ok.ensures.come (omega (arith, c.if-len-gt-MAX_INPUT_BYTES.true, c.in-Ok.input.ok.0))
 
 pub returns-then-not-is_list-clause-comes : goal.returns-then-not-is_list-clause-comes
 returns-then-not-is_list-clause-comes g c =
@@ -39,7 +39,7 @@ record_all-requires-clause-listed g c = rw (c.deref-2.ensures.value, ← c.deref
 pub returns-clause-comes : goal.returns-clause-comes
 returns-clause-comes g c =
     whole_comes c.record_all.result _ _ _ _ _ _ _ _ c.in-Ok.input.items c.deref.result.now c.deref-2.result.now (ap (λ (s : Lived). s.opening) c.into_site.ensures ∙ c.in-Ok-start_alone.ensures.opening) c.deref.ensures.value c.deref-2.ensures.value
-    c.in-Ok.ensures.come (omega (arith, c.if-input-gt-MAX_INPUT_BYTES.false, c.in-Ok.input.ok.0)) (c.if-not-is_list.ensures.listed refl) c.record_all.ensures.comes
+    c.in-Ok.ensures.come (omega (arith, c.if-len-gt-MAX_INPUT_BYTES.false, c.in-Ok.input.ok.0)) (c.if-not-is_list.ensures.listed refl) c.record_all.ensures.comes
 
 pub returns-clause-unfailing : goal.returns-clause-unfailing
 returns-clause-unfailing g c = λ never. (never_read c.record_all.result _ _ _ _ _ _ c.record_all.ensures.comes, (c.in-Ok.ensures.unfailing never).1)

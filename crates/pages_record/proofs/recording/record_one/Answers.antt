@@ -16,5 +16,5 @@ returns-in-WriteFault-clause-comes g c =
 pub returns-in-Spent-clause-comes : goal.returns-in-Spent-clause-comes
 returns-in-Spent-clause-comes g c = is_silent _ _ _ _ c.in-Spent.ensures.rolls.0
 
-pub returns-in-NoMemory-clause-comes : goal.returns-in-NoMemory-clause-comes
-returns-in-NoMemory-clause-comes g c = is_silent _ _ _ _ c.in-NoMemory.ensures.rolls
+pub returns-clause-comes : goal.returns-clause-comes
+returns-clause-comes g c = is_silent _ _ _ _ c.in-NoMemory.ensures.rolls
