@@ -1,5 +1,5 @@
 -- Connections that are recorded one after the other.
-use Rattle.std.proofs.Common.{◌≡◌, ◌≤◌, ◌<◌, ◌+◌, ◌-◌, ◌^◌, ℕ, List, [], ◌∷◌, ◌++◌, Option, Some, None, true, min, refl, sym, ap, subst, ◌∙◌, append_assoc, append-nil, arith, length}
+use Rattle.std.proofs.Common.{◌≡◌, ◌≤◌, ◌<◌, ℕ, List, [], ◌∷◌, ◌++◌, Option, Some, None, refl, sym, ap, subst, ◌∙◌, append_assoc, append-nil, arith, length}
 use Rattle.std.specs.Io.KnownBytes.{Appends}
 use Rattle.edges.proofs.ToldBytes.{appends_both, appends_none}
 use Rattle.edges.specs.Clock.{Moments}
@@ -11,7 +11,7 @@ use Rattle.conversation.specs.declared.ended.Ended.{Ended}
 use Rattle.connection_list.proofs.Lists.{begins_next, last_behind}
 use Rattle.connection_list.specs.List.{BeginsWith, IsListOf, first_connection}
 use Rattle.pages_record.specs.Once.{BreaksOffIn, Ends, GoesOn}
-use Rattle.pages_record.specs.Recorded.{AreBrokenOff, AreCutShort, AreRecorded, Comes, ComesOn, IsNotListed, IsRecorded, IsTalked, Records, end_number, most_bytes}
+use Rattle.pages_record.specs.Recorded.{AreCutShort, AreRecorded, Comes, ComesOn, IsNotListed, IsRecorded, IsTalked, Records, end_number, most_bytes}
 use Rattle.pages_record.specs.declared.recorded.Recorded.{Recorded}
 use Rattle.pages_record.specs.declared.recorded.Recorded.TheVariants.{Done, NotListed, ReadFault, WriteFault, NoMemory}
 use Rattle.pages_talk.specs.Play.{only_connection}

@@ -1,5 +1,5 @@
 -- What the command `record` writes.
-use Rattle.std.specs.Prelude.{◌≡◌, ◌≤◌, ◌<◌, ℕ, List, [], ◌∷◌, ◌++◌, length, take, Option, Some, None}
+use Rattle.std.specs.Prelude.{◌≡◌, ◌≤◌, ℕ, List, [], ◌∷◌, ◌++◌, length, Option, Some, None}
 use Rattle.std.specs.Io.KnownBytes.{Appends, Consumes}
 use Rattle.connection_list.specs.List.{BeginsWith, IsListOf, first_connection}
 use Rattle.conversation.specs.Conversation.{Tells}

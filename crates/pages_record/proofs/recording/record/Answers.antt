@@ -1,9 +1,7 @@
-use Rattle.std.proofs.Common.{◌≡◌, ◌≤◌, ◌∙◌, [], ap, arith, length, refl, subst, sym}
+use Rattle.std.proofs.Common.{◌∙◌, ap, arith, refl}
 use Rattle.edges.proofs.ToldBytes.{appends_none}
 use Rattle.pages_record.proofs.Chain.{never_read, none_recorded, too_long, unlisted, whole_comes}
-use Rattle.pages_record.specs.Recorded.{most_bytes}
 use Rattle.site_core.specs.Lived.{Lived}
-use Rattle.site_words.specs.declared.words.Entry.{Entry}
 use Rattle.pages_record.proofs.recording.record.Goals as goal
 
 pub returns-in-Err-NoMemory-clause-comes : goal.returns-in-Err-NoMemory-clause-comes

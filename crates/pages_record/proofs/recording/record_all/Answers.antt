@@ -1,4 +1,4 @@
-use Rattle.std.proofs.Common.{arith, refl}
+use Rattle.std.proofs.Common.{arith}
 use Rattle.connection_list.proofs.Lists.{first_is, none_is}
 use Rattle.pages_record.proofs.Chain.{all_recorded, at_start, ends, further, rose_in}
 use Rattle.pages_record.proofs.recording.record_all.Goals as goal
