@@ -18,7 +18,7 @@ pub returns-in-Done-clause-goes_on : goal.returns-in-Done-clause-goes_on
 returns-in-Done-clause-goes_on g c = inl c.in-Done.ensures.rolls
 
 pub returns-in-Done-clause-rest : goal.returns-in-Done-clause-rest
-returns-in-Done-clause-rest g c = rests_at_start _ _ c.in-Done.ensures.rolls.history
+returns-in-Done-clause-rest g c = rests_at_start c.in-Done.next.opening c.in-Done.next.history c.in-Done.ensures.rolls.history
 
 pub returns-in-WriteFault-clause-goes_on : goal.returns-in-WriteFault-clause-goes_on
 returns-in-WriteFault-clause-goes_on g c = inr (inl c.in-WriteFault.ensures.rolls)
