@@ -40,10 +40,11 @@ pub fn play_contexts<S: Source, K: Sink, C: Clock, L: Ledger>(
     ensures write { result ≡ 4 → Rose (K.faults sink.old) (K.faults sink.new) }
     ensures unfailing { S.unfailing source.old → (result ≢ 3) × S.unfailing source.new }
 {
-    let Some((list, seed)) = words_told(words) else {
+    let Some(told) = words_told(words) else {
         return 1;
     };
-    let names = match read_names(alloc, list) {
+    let seed = told.1;
+    let names = match read_names(alloc, told.0) {
         Ok(Some(names)) => names,
         Ok(None) => return 1,
         Err(AllocError) => return 5,

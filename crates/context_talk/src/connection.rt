@@ -1,4 +1,4 @@
-ghost use Rattle.std.specs.Prelude.{◌≡◌, ◌≢◌, ℕ, All, Some, length, map, vec_len, IfOk, []};
+ghost use Rattle.std.specs.Prelude.{◌≡◌, ◌≢◌, ℕ, All, Some, length, map, IfOk, []};
 ghost use Rattle.std.specs.List.{slice_get};
 ghost use Rattle.context_talk.specs.Among.{TalkedAmong, connections_of};
 ghost use Rattle.context_words.specs.Parts.{lent_of};
@@ -7,13 +7,10 @@ ghost use Rattle.edges.specs.Faults.{Rose};
 ghost use Rattle.http_in.specs.declared.fault.HttpFault.{HttpFault};
 ghost use Rattle.page_made.specs.Pages.{needs_at};
 ghost use Rattle.pass_course.specs.Course.{IsIdle};
-ghost use Rattle.site_words.specs.Law.{Legal};
-ghost use Rattle.talk_words.specs.Grown.{HasGrown};
 
 use crate::desk::SiteDesk;
 use context_desk::ContextDesk;
 use context_names::{ContextNames, PortList};
-use context_words::histories;
 use conversation::{Ended, walk};
 use edges::{Clock, Ledger, Sink, Source, Steps};
 use page_made::Made;
@@ -23,7 +20,7 @@ use std::alloc::{AllocError, Global};
 use talk_words::Role;
 
 /// Answers the requests of one connection to several contexts, each before it reads the next. Each is answered over the port
-/// of its context alone, whose law of shares is `shares`.
+/// of its context alone; what each walks of its own is the law `shares`, and what each site has seen the law `histories`.
 pub fn talk_contexts<P: Port<Made>, S: Source, K: Sink, C: Clock, L: Ledger>(
     alloc: Global,
     names: &ContextNames,
@@ -50,11 +47,6 @@ pub fn talk_contexts<P: Port<Made>, S: Source, K: Sink, C: Clock, L: Ledger>(
         (map (λ (port : P). P.seen port) ports.old.ports.items) (map (λ (port : P). P.seen port) ports.new.ports.items)
         (lent_of (C.moments clock.old) steps.old) (lent_of (C.moments clock.new) steps.new)
         (S.left source.old) (S.left source.new) (K.faults sink.old) (K.faults sink.new) (K.taken sink.old) (K.taken sink.new) result }
-
-    // What each pass has seen is one legal history, and no request is under way.
-    ensures grown { (context : ℕ) (before now : P) → slice_get ports.old.ports.items context ≡ Some before
-        → slice_get ports.new.ports.items context ≡ Some now
-        → HasGrown needs_at (P.opening before) (P.pass before) (P.seen before) (P.seen now) }
     ensures shown { (fault : HttpFault) → result ≡ Ended.Refused fault → IsShown fault }
 
     // A fault of the outside is told only where it was counted.
@@ -62,23 +54,11 @@ pub fn talk_contexts<P: Port<Made>, S: Source, K: Sink, C: Clock, L: Ledger>(
     ensures write { result ≡ Ended.WriteFault → Rose (K.faults sink.old) (K.faults sink.new) }
     ensures unfailing { S.unfailing source.old → (result ≢ Ended.ReadFault) × S.unfailing source.new }
 {
-    all_legal(ports);
-    histories::<P::Home>();
     let Ok(desks) = desks_of(alloc, names.len(), role) else {
         return Ended::NoMemory;
     };
     let mut desk = ContextDesk { names, desks };
     walk(alloc, &mut desk, ports, clock, steps, source, sink)
-}
-
-// What the pass of each port has seen is legal.
-fn all_legal<P: Port<Made>>(ports: &PortList<P>)
-    ensures { (context : ℕ) (port : P) → slice_get ports.now.ports.items context ≡ Some port
-        → Legal needs_at (P.opening port) (P.seen port) }
-{
-    for port in &ports.ports {
-        port.law();
-    }
 }
 
 // So many desks of a connection that begins.
@@ -87,7 +67,7 @@ fn desks_of<P: Port<Made>, C: Clock, L: Ledger>(
     count: usize,
     role: Role,
 ) -> Result<Vec<SiteDesk<P, C, L>>, AllocError>
-    ensures count { IfOk result (λ desks. vec_len desks ≡ count) }
+    ensures count { IfOk result (λ desks. length desks.items ≡ count) }
     ensures fresh { IfOk result (λ desks. All (λ desk. (desk.desk.role ≡ role) × (desk.desk.draft ≡ [])) desks.items) }
 {
     let mut desks = Vec::with_capacity(alloc, count)?;
