@@ -11,7 +11,7 @@ use Rattle.preview.proofs.asking.ask.Goals as goal
 pub snapshot-requires : goal.snapshot-requires
 snapshot-requires g c =
     let short : nat_le (length c.args.request.cookie) most_cookie ≡ true = grind (arith, nat_tests, c.requires.cookie) in
-    (c.requires.pass, short, tt)
+    record { may = (c.requires.pass, short, tt) }
 
 pub show-requires : goal.show-requires
 show-requires g c =
@@ -20,8 +20,10 @@ show-requires g c =
     let seen = g.P.Port.seen c.args.port.now in
     let now = g.P.Port.seen c.snapshot.new.self in
     let snapped = c.in-Did.snapped in
-    runnable_by needs_at x now c.args.draft.now snapped c.own_sites.ensures c.law.ensures.sound c.in-Did.ensures.call.is_legal c.in-Did.ensures.shows
-    (c.pictures.ensures.latest needs_at x pass seen now c.args.request.cookie snapped.version snapped.session c.in-Did.ensures.call)
+    record {
+      runnable = runnable_by needs_at x now c.args.draft.now snapped c.own_sites.ensures c.law.ensures.sound c.in-Did.ensures.call.is_legal c.in-Did.ensures.shows
+          (c.pictures.ensures.latest needs_at x pass seen now c.args.request.cookie snapped.version snapped.session c.in-Did.ensures.call);
+    }
 
 pub returns-in-Did-clause-served : goal.returns-in-Did-clause-served
 returns-in-Did-clause-served g c =
@@ -31,8 +33,8 @@ returns-in-Did-clause-served g c =
 
 pub tell_full-requires : goal.tell_full-requires
 tell_full-requires g c =
-    is_full c.in-Refused.refusal
-    (refused_full needs_at (g.P.Port.opening c.args.port.now) (g.P.Port.pass c.args.port.now) (g.P.Port.seen c.snapshot.new.self) c.args.request.cookie c.in-Refused.refusal c.in-Refused.ensures.call.1)
+    let by = refused_full needs_at (g.P.Port.opening c.args.port.now) (g.P.Port.pass c.args.port.now) (g.P.Port.seen c.snapshot.new.self) c.args.request.cookie c.in-Refused.refusal c.in-Refused.ensures.call.1 in
+    record { full = is_full c.in-Refused.refusal by }
 
 pub returns-in-Refused-clause-served : goal.returns-in-Refused-clause-served
 returns-in-Refused-clause-served g c =

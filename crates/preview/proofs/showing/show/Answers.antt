@@ -7,7 +7,9 @@ use Rattle.conversation.specs.Exchange.{Exchange}
 use Rattle.preview.proofs.showing.show.Goals as goal
 
 pub show_tree-requires : goal.show_tree-requires
-show_tree-requires g c = λ behind. runnable_tree c.args.draft.now (picture_in c.args.snapped) c.in-Ok.tree (c.in-Ok.ensures.files behind) (c.requires.runnable behind c.in-Ok.ensures.limits)
+show_tree-requires g c = record {
+  sound = λ behind. runnable_tree c.args.draft.now (picture_in c.args.snapped) c.in-Ok.tree (c.in-Ok.ensures.files behind) (c.requires.runnable behind c.in-Ok.ensures.limits);
+}
 
 pub returns-in-Ok-clause-served : goal.returns-in-Ok-clause-served
 returns-in-Ok-clause-served g c =
