@@ -2,6 +2,7 @@
 use Rattle.std.proofs.Common.{◌≡◌, ℕ, Bool, true, false, List, [], ◌∷◌, None, codes, refl, sym, ap, ◌∙◌}
 use Rattle.std.proofs.lemmas.Slice.Eq.{bytes_eq-Decides}
 use Rattle.std.specs.Str.{bytes_eq}
+use Rattle.context_talk.specs.Contexts.{asked as contexts_asked}
 use Rattle.pages_check.specs.Words.{path_asked}
 use Rattle.pages_cli.specs.Words.{first_is}
 use Rattle.pages_load.specs.Load.{number_asked}
@@ -43,3 +44,11 @@ no_record (word ∷ []) is = rw is refl
 no_record (word ∷ option ∷ []) is = refl
 no_record (word ∷ option ∷ digits ∷ []) is = rw is refl
 no_record (word ∷ option ∷ digits ∷ next ∷ words) is = refl
+
+pub no_contexts : (words : List (List ℕ)) → first_is (codes "contexts") words ≡ false → contexts_asked words ≡ None
+no_contexts [] is = refl
+no_contexts (word ∷ []) is = refl
+no_contexts (word ∷ names ∷ []) is = rw is refl
+no_contexts (word ∷ names ∷ option ∷ []) is = refl
+no_contexts (word ∷ names ∷ option ∷ digits ∷ []) is = rw is refl
+no_contexts (word ∷ names ∷ option ∷ digits ∷ next ∷ words) is = refl

@@ -6,7 +6,8 @@
 //! where the workers can't have a thread each; otherwise it isn't meant to end.
 //! `pages play [--seed HEX]` answers the requests that it reads from standard input, and writes the answers to standard output. Its
 //! status is 0 where the input ended between requests, a request asked to close, a response broke off or 65,536 requests were answered, 2 where
-//! the input shows a fault.
+//! the input shows a fault. `pages contexts NAMES [--seed HEX]` does the same over several sites, whose names, joined by commas, begin the
+//! targets.
 //! `pages record [--seed HEX]` reads a list of connections, each a line with the number of its bytes and then these, and writes the journal of each,
 //! one behind the other: status 0, or 2 where the input is no such list.
 //! `pages check PATH` reads the text of a page, and writes `ok` or the line of its fault: status 0 or 6. `pages load N` talks with a
@@ -16,6 +17,7 @@
 #![tactic(auto)]
 
 ghost use Rattle.std.specs.Prelude.{◌≡◌, ◌≢◌, ◌<◌, None, map, string_bytes};
+ghost use Rattle.context_talk.specs.Contexts.{asked as contexts_asked};
 ghost use Rattle.pages_check.specs.Words.{path_asked};
 ghost use Rattle.pages_cli.specs.Words.{first_is};
 ghost use Rattle.pages_load.specs.Load.{number_asked};
@@ -23,6 +25,7 @@ ghost use Rattle.pages_record.specs.Words.{record_asked};
 ghost use Rattle.pages_talk.specs.Play.{seed_asked};
 ghost use Rattle.serve_words.specs.Words.{settings_asked};
 
+use context_talk::play_contexts;
 use edges::{ReadSource, Steps, Unseen, WallClock, WallClocks, WriteSink};
 use pages_check::check;
 use pages_load::load;
@@ -115,8 +118,8 @@ fn run<N: Ledger, R: Threads + Wait + Sync>(
     requires name { blank.name ≡ N.name }
     requires parts { blank.parts ≡ N.parts }
     requires some { 0 < N.parts }
-    ensures refused { seed_asked (map string_bytes words.now) ≡ None → path_asked (map string_bytes words.now) ≡ None → number_asked (map string_bytes words.now) ≡ None → settings_asked (map string_bytes words.now) ≡ None → record_asked (map string_bytes words.now) ≡ None → result ≢ 5 → result ≡ 1 }
-    ensures only_refused { result ≡ 1 → (seed_asked (map string_bytes words.now) ≡ None) × (path_asked (map string_bytes words.now) ≡ None) × (number_asked (map string_bytes words.now) ≡ None) × (settings_asked (map string_bytes words.now) ≡ None) × (record_asked (map string_bytes words.now) ≡ None) }
+    ensures refused { seed_asked (map string_bytes words.now) ≡ None → path_asked (map string_bytes words.now) ≡ None → number_asked (map string_bytes words.now) ≡ None → settings_asked (map string_bytes words.now) ≡ None → record_asked (map string_bytes words.now) ≡ None → contexts_asked (map string_bytes words.now) ≡ None → result ≢ 5 → result ≡ 1 }
+    ensures only_refused { result ≡ 1 → (seed_asked (map string_bytes words.now) ≡ None) × (path_asked (map string_bytes words.now) ≡ None) × (number_asked (map string_bytes words.now) ≡ None) × (settings_asked (map string_bytes words.now) ≡ None) × (record_asked (map string_bytes words.now) ≡ None) × (contexts_asked (map string_bytes words.now) ≡ None) }
 {
     let mut source = ReadSource::new(rt.reader());
     let mut sink = WriteSink::new(io::writer(rt));
@@ -133,6 +136,16 @@ fn run<N: Ledger, R: Threads + Wait + Sync>(
     let mut clock = WallClock::new(rt);
     if first_is(words, "record") {
         return play_record(
+            rt.alloc(),
+            words,
+            &mut source,
+            &mut sink,
+            &mut clock,
+            &mut steps,
+        );
+    }
+    if first_is(words, "contexts") {
+        return play_contexts(
             rt.alloc(),
             words,
             &mut source,

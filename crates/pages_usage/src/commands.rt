@@ -23,6 +23,7 @@ fn all(alloc: Global, how: Told) -> Result<String, AllocError> {
     add(&mut text, serve(alloc)?, how)?;
     add(&mut text, play(alloc)?, how)?;
     add(&mut text, record(alloc)?, how)?;
+    add(&mut text, contexts(alloc)?, how)?;
     add(&mut text, check(alloc)?, how)?;
     add(&mut text, load(alloc)?, how)?;
     Ok(text)
@@ -74,6 +75,18 @@ fn play<'a>(alloc: Global) -> Result<Command<'a>, AllocError> {
 fn record<'a>(alloc: Global) -> Result<Command<'a>, AllocError> {
     command(alloc, "pages record")
         .about("Writes the journals of the connections on standard input")
+        .arg(option(
+            alloc,
+            "seed",
+            "HEX",
+            "What sessions are named by, 64 digits",
+        ))
+}
+
+fn contexts<'a>(alloc: Global) -> Result<Command<'a>, AllocError> {
+    command(alloc, "pages contexts")
+        .about("Answers the requests on standard input to several sites")
+        .arg(value(alloc, "NAMES", "The sites' names, joined by commas"))?
         .arg(option(
             alloc,
             "seed",
