@@ -1,5 +1,5 @@
 -- The site with which the next round is served.
-use Rattle.std.specs.Prelude.{◌≡◌, ◌⊎◌, ℕ, List, Option, None}
+use Rattle.std.specs.Prelude.{◌⊎◌, ℕ, List, Option, None}
 use Rattle.rollover.specs.Roll.{IsCutShort, IsRolled, IsUnrolled}
 use Rattle.site_core.specs.Lived.{Lived}
 use Rattle.site_words.specs.Trees.{Needs}
