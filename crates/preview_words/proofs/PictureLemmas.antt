@@ -6,7 +6,7 @@ use Rattle.conversation.specs.Conversation.{IsLast, IsNext, Walked, closes}
 use Rattle.conversation.specs.Exchange.{Exchange, exchange_of}
 use Rattle.conversation.specs.declared.ended.Ended.TheVariants as ended
 use Rattle.http_in.specs.declared.request.Request.{Request}
-use Rattle.page_answers.specs.Answers.{takes_method}
+use Rattle.http_out.specs.Methods.{takes_method}
 use Rattle.preview_words.specs.Laws.{AreLatest, GrewByPictures, IsPicture, TakesPicturesAlone}
 use Rattle.preview_words.specs.Previewed.{IsDropped, IsEdited, IsNotTaken, IsPictured, IsPreviewed, IsRefused, IsShown, IsUnasked, IsUntold, Leaves, PreviewStand}
 use Rattle.site_words.proofs.Items.{each_both}

@@ -15,7 +15,7 @@ use Rattle.http_in.specs.declared.request.Request.{Request}
 use Rattle.http_out.specs.Full.{full_line}
 use Rattle.http_out.specs.Response.{plain}
 use Rattle.http_out.specs.declared.status.Status.TheVariants as status
-use Rattle.page_answers.specs.Answers.{shows_body, takes_method}
+use Rattle.http_out.specs.Methods.{shows_body, takes_method}
 use Rattle.pg_text.specs.declared.failure.Failure.{Failure}
 use Rattle.preview_words.specs.Own.{Picture, picture_of}
 use Rattle.preview_words.specs.Shown.{Hides, IsPlain, Shows}
@@ -58,14 +58,14 @@ pub record IsEdited (request : Request) (close : Bool) (old : PreviewStand) (tex
   pub told : Result EditorAnswer EditorFault
   pub drafts : IsDrafted (message request) old.edits new.edits old.seen new.seen (taken_as told)
   pub read : new.steps ≡ old.steps
-  pub text_is : text ≡ told_text told close (shows_body request)
+  pub text_is : text ≡ told_text told close (shows_body request.method)
   pub broken_is : broken ≡ false
 
 -- the request has another method, and nothing was asked of the site
 pub record IsNotTaken (request : Request) (close : Bool) (old : PreviewStand) (text : List ℕ) (broken : Bool)
     (new : PreviewStand) : Type 0 where
   pub same : new ≡ old
-  pub text_is : text ≡ plain status.MethodNotAllowed close (codes "MethodNotAllowed") (shows_body request)
+  pub text_is : text ≡ plain status.MethodNotAllowed close (codes "MethodNotAllowed") (shows_body request.method)
   pub broken_is : broken ≡ false
 
 -- memory was wanting for an editor's message: before it was done, or, where it was done, for telling so
