@@ -6,7 +6,8 @@ use Rattle.edges.specs.Clock.{Answers as Tells}
 use Rattle.context_words.specs.Parts.{Lent, Part, stand_at}
 use Rattle.context_words.specs.Shared.{Taken, Takes}
 use Rattle.conversation.specs.Exchange.{Exchange}
-use Rattle.page_answers.specs.Answers.{IsAnswered, IsNotTaken, IsRefused, takes_method}
+use Rattle.http_out.specs.Methods.{takes_method}
+use Rattle.page_answers.specs.Answers.{IsAnswered, IsNotTaken, IsRefused}
 use Rattle.page_answers.specs.Standing.{AtMoment, Standing, tree_at}
 use Rattle.page_answers.specs.Turns.{all_bytes}
 use Rattle.talk_words.specs.Connection.{Connection, Stand}

@@ -11,7 +11,7 @@ use Rattle.http_in.specs.declared.request.Request.{Request}
 use Rattle.http_out.specs.Full.{full_line}
 use Rattle.http_out.specs.Response.{plain}
 use Rattle.http_out.specs.declared.status.Status.TheVariants as status
-use Rattle.page_answers.specs.Answers.{shows_body, takes_method}
+use Rattle.http_out.specs.Methods.{shows_body, takes_method}
 use Rattle.pg_value.specs.Datum.{Datum}
 use Rattle.preview_words.specs.Laws.{AreRunnable, IsRunnable}
 use Rattle.preview_words.specs.Own.{Picture, picture_in, picture_of}
@@ -111,12 +111,12 @@ module _ (needs : Needs) (x : Opening) (pass : ℕ) (edits : List Edit) (close :
 
   -- the picture was refused, and that was told
   pub refused_served : (steps weight promised : ℕ) (refusal : Refusal) → Stays needs x pass seen seen' → step needs x (site_after needs x seen') pass (op.Snapshot request.cookie) ≡ Refused refusal
-      → refusal ≡ refusal_is.JournalFull weight promised → IsTold (plain status.ServiceUnavailable close (full_line weight promised) (shows_body request)) taken now answer
+      → refusal ≡ refusal_is.JournalFull weight promised → IsTold (plain status.ServiceUnavailable close (full_line weight promised) (shows_body request.method)) taken now answer
       → ServedPreview needs x pass close request (preview_stand edits seen steps) (preview_stand edits seen' steps) before after taken now answer
   refused_served steps weight promised refusal stays refused is told =
       let old : PreviewStand = preview_stand edits seen steps in
       let new : PreviewStand = preview_stand edits seen' steps in
-      let text : List ℕ = plain status.ServiceUnavailable close (full_line weight promised) (shows_body request) in
+      let text : List ℕ = plain status.ServiceUnavailable close (full_line weight promised) (shows_body request.method) in
       told_served (IsPreviewed needs x pass) (λ close old request text new. Leaves needs x pass request close old text new) close request old new text before after taken now answer
       (previews_pages needs x pass request close old text false new pages takes
       (inr (record {
@@ -148,9 +148,9 @@ leaves_other needs x pass request close at text pages other none =
 
 -- the request has another method, and that was told
 pub method_served : (needs : Needs) (x : Opening) (pass : ℕ) (close : Bool) (request : Request) (at : PreviewStand) (before after : ℕ) (taken now : Option (List ℕ)) (answer : Outcome) → is_editors request.target ≡ false
-    → takes_method request.method ≡ false → IsTold (plain status.MethodNotAllowed close (codes "MethodNotAllowed") (shows_body request)) taken now answer → ServedPreview needs x pass close request at at before after taken now answer
+    → takes_method request.method ≡ false → IsTold (plain status.MethodNotAllowed close (codes "MethodNotAllowed") (shows_body request.method)) taken now answer → ServedPreview needs x pass close request at at before after taken now answer
 method_served needs x pass close request at before after taken now answer pages other told =
-    let text : List ℕ = plain status.MethodNotAllowed close (codes "MethodNotAllowed") (shows_body request) in
+    let text : List ℕ = plain status.MethodNotAllowed close (codes "MethodNotAllowed") (shows_body request.method) in
     told_served (IsPreviewed needs x pass) (λ close old request text new. Leaves needs x pass request close old text new) close request at at text before after taken now answer
     (subst (λ test. MatchBool test (IsEdited request close at text false at) (MatchBool (takes_method request.method) (IsShown needs x pass request close at text false at ⊎ IsRefused needs x pass request close at text false at) (IsNotTaken request close at text false at))) (sym pages)
     (subst (λ test. MatchBool test (IsShown needs x pass request close at text false at ⊎ IsRefused needs x pass request close at text false at) (IsNotTaken request close at text false at)) (sym other) (record { same = refl; text_is = refl; broken_is = refl })))

@@ -16,7 +16,7 @@ use Rattle.editor.specs.declared.fault.EditorFault.TheVariants as fault
 use Rattle.http_in.specs.declared.request.Request.{Request}
 use Rattle.http_out.specs.Response.{plain}
 use Rattle.http_out.specs.declared.status.Status.TheVariants as status
-use Rattle.page_answers.specs.Answers.{shows_body}
+use Rattle.http_out.specs.Methods.{shows_body}
 use Rattle.preview_words.specs.Own.{Picture, drafted_tree, own_opening}
 use Rattle.preview_words.specs.Shown.{Hides, HidesTree, IsPlain, IsRun, IsRunDropped, IsSilent, ServedRun, ServedShown, ServedTree, Shows, ShowsTree}
 use Rattle.site_words.specs.Opening.{is_sound}
@@ -74,10 +74,10 @@ module _ (needs : Needs) (tree : List File) (picture : Picture) (close : Bool) (
 
 module _ (needs : Needs) (picture : Picture) (close : Bool) (request : Request) (steps before after : ℕ) (taken now : Option (List ℕ)) (answer : Outcome) where
   -- that no version is behind the picture's was told
-  pub version_served : (tree : List File) → 2 ^ 63 - 1 ≤ picture.version → IsTold (plain status.ContentTooLarge close (codes "TreeTooLarge Version") (shows_body request)) taken now answer
+  pub version_served : (tree : List File) → 2 ^ 63 - 1 ≤ picture.version → IsTold (plain status.ContentTooLarge close (codes "TreeTooLarge Version") (shows_body request.method)) taken now answer
       → ServedTree needs tree picture close request steps steps before after taken now answer
   version_served tree last told =
-      let text : List ℕ = plain status.ContentTooLarge close (codes "TreeTooLarge Version") (shows_body request) in
+      let text : List ℕ = plain status.ContentTooLarge close (codes "TreeTooLarge Version") (shows_body request.method) in
       let more : nat_le (2 ^ 63 - 1) picture.version ≡ true = grind (arith, nat_tests) in
       told_served (λ close steps (e : Exchange) later. ShowsTree needs tree picture e.request close steps e.text e.broken later) (λ close steps request text later. HidesTree needs tree picture request close steps text later)
       close request steps steps text before after taken now answer
@@ -86,10 +86,10 @@ module _ (needs : Needs) (picture : Picture) (close : Bool) (request : Request) 
       (inl (refl, refl)) told
 
   -- the limit that the tree passes was told
-  pub fault_served : (edits : List Edit) (reason : TreeFault) → tree_fault (drafted_tree edits picture) ≡ Some reason → IsTold (plain status.ContentTooLarge close (fault_text (fault.TreeTooLarge reason)) (shows_body request)) taken now answer
+  pub fault_served : (edits : List Edit) (reason : TreeFault) → tree_fault (drafted_tree edits picture) ≡ Some reason → IsTold (plain status.ContentTooLarge close (fault_text (fault.TreeTooLarge reason)) (shows_body request.method)) taken now answer
       → ServedShown needs edits picture close request steps steps before after taken now answer
   fault_served edits reason is told =
-      let text : List ℕ = plain status.ContentTooLarge close (fault_text (fault.TreeTooLarge reason)) (shows_body request) in
+      let text : List ℕ = plain status.ContentTooLarge close (fault_text (fault.TreeTooLarge reason)) (shows_body request.method) in
       told_served (λ close steps (e : Exchange) later. Shows needs edits picture e.request close steps e.text e.broken later) (λ close steps request text later. Hides needs edits picture request close steps text later)
       close request steps steps text before after taken now answer
       (subst (λ o. MatchOption o (ShowsTree needs (drafted_tree edits picture) picture request close steps text false steps)

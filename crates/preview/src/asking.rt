@@ -1,7 +1,7 @@
 ghost use Rattle.std.specs.Prelude.{◌≡◌, ◌≤◌, ◌<◌, length, false, true};
 ghost use Rattle.edges.specs.Faults.{Rose};
 ghost use Rattle.http_in.specs.declared.limits.TheConstants.{SESSION_ID_BYTES};
-ghost use Rattle.page_answers.specs.Answers.{takes_method};
+ghost use Rattle.http_out.specs.Methods.{takes_method};
 ghost use Rattle.page_made.specs.Pages.{needs_at};
 ghost use Rattle.preview_words.specs.Previewed.{ServedPreview, preview_stand};
 ghost use Rattle.site_words.specs.Answers.{IsSamePort};

@@ -1,5 +1,5 @@
 ghost use Rattle.std.specs.Prelude.{◌≡◌, ◌≤◌, ◌<◌, ◌+◌, ℕ, []};
-ghost use Rattle.page_answers.specs.Answers.{takes_method};
+ghost use Rattle.http_out.specs.Methods.{takes_method};
 ghost use Rattle.talk_words.specs.Said.{is_editors};
 
 use crate::asking::ask;

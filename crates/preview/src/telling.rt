@@ -5,7 +5,7 @@ ghost use Rattle.edges.specs.Faults.{Rose};
 ghost use Rattle.editor.specs.Telling.{fault_text};
 ghost use Rattle.http_out.specs.Full.{full_line};
 ghost use Rattle.http_out.specs.Response.{plain};
-ghost use Rattle.page_answers.specs.Answers.{shows_body};
+ghost use Rattle.http_out.specs.Methods.{shows_body};
 ghost use Rattle.site_words.specs.Answers.{IsFull};
 
 use conversation::Outcome;
@@ -26,7 +26,7 @@ pub(crate) fn tell<K: Sink>(
     close: bool,
     sink: &mut K,
 ) -> Outcome
-    ensures told { IsTold (plain status close line.now (shows_body request.now)) (K.taken sink.old) (K.taken sink.new) result }
+    ensures told { IsTold (plain status close line.now (shows_body request.now.method)) (K.taken sink.old) (K.taken sink.new) result }
     ensures later { K.faults sink.old ≤ K.faults sink.new }
     ensures failed { result ≡ Outcome.WriteFault → Rose (K.faults sink.old) (K.faults sink.new) }
 {
@@ -48,7 +48,7 @@ pub(crate) fn tell_full<K: Sink>(
 ) -> Outcome
     requires full { IsFull refusal.now }
     ensures told { (weight promised : ℕ) → refusal.now ≡ Refusal.JournalFull weight promised
-        → IsTold (plain Status.ServiceUnavailable close (full_line weight promised) (shows_body request.now))
+        → IsTold (plain Status.ServiceUnavailable close (full_line weight promised) (shows_body request.now.method))
         (K.taken sink.old) (K.taken sink.new) result }
     ensures later { K.faults sink.old ≤ K.faults sink.new }
     ensures failed { result ≡ Outcome.WriteFault → Rose (K.faults sink.old) (K.faults sink.new) }
@@ -86,7 +86,7 @@ pub(crate) fn tell_fault<K: Sink>(
     close: bool,
     sink: &mut K,
 ) -> Outcome
-    ensures told { IsTold (plain Status.ContentTooLarge close (fault_text (EditorFault.TreeTooLarge reason)) (shows_body request.now))
+    ensures told { IsTold (plain Status.ContentTooLarge close (fault_text (EditorFault.TreeTooLarge reason)) (shows_body request.now.method))
         (K.taken sink.old) (K.taken sink.new) result }
     ensures later { K.faults sink.old ≤ K.faults sink.new }
     ensures failed { result ≡ Outcome.WriteFault → Rose (K.faults sink.old) (K.faults sink.new) }
@@ -99,7 +99,7 @@ pub(crate) fn tell_fault<K: Sink>(
 
 /// Whether the response to a request shows its body.
 pub(crate) fn shows_body(request: &Request) -> bool
-    ensures { result ≡ shows_body request.now }
+    ensures { result ≡ shows_body request.now.method }
 {
     http_out::shows_body(request.method.as_bytes())
 }

@@ -12,7 +12,8 @@ use Rattle.http_in.specs.declared.request.Request.{Request}
 use Rattle.http_out.specs.Response.{plain}
 use Rattle.http_out.specs.declared.status.Status.{Status}
 use Rattle.http_out.specs.declared.status.Status.TheVariants as status
-use Rattle.page_answers.specs.Answers.{Answers, shows_body}
+use Rattle.http_out.specs.Methods.{shows_body}
+use Rattle.page_answers.specs.Answers.{Answers}
 use Rattle.page_answers.specs.Dropped.{Drops}
 use Rattle.page_answers.specs.Standing.{standing_of}
 use Rattle.preview_words.specs.Own.{Picture, drafted_tree, own_opening, own_request}
@@ -31,7 +32,7 @@ no_time = record { ahead = Some (0 ∷ []); noted = None }
 pub record IsPlain (status : Status) (line : List ℕ) (request : Request) (close : Bool) (steps : ℕ) (text : List ℕ)
     (broken : Bool) (later : ℕ) : Type 0 where
   pub read : later ≡ steps
-  pub text_is : text ≡ plain status close line (shows_body request)
+  pub text_is : text ≡ plain status close line (shows_body request.method)
   pub broken_is : broken ≡ false
 
 -- nothing was read, and nothing was written
