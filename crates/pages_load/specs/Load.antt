@@ -48,6 +48,11 @@ is_hit e = of_reply e.reply
 abbrev pub count : (Entry → Bool) → List Entry → ℕ
 count is history = length (filter is history)
 
+-- one where there is such an entry, else none
+abbrev pub one_if : (Entry → Bool) → Option Entry → ℕ
+one_if is None = 0
+one_if is (Some e) = if is e then 1 else 0
+
 -- how the answer to a page that went well begins
 abbrev pub good_mark : List ℕ
 good_mark = codes "HTTP/1.1 200 OK\r\nContent-Type: text/html"

@@ -1,6 +1,6 @@
 ghost use Rattle.std.specs.Prelude.{◌≡◌, ◌≤◌, nat_eq, if◌then◌else◌};
-ghost use Rattle.std.specs.List.{starts_with};
-ghost use Rattle.pages_load.specs.Load.{count, good_mark, is_hit, is_publishing, places};
+ghost use Rattle.std.specs.List.{slice_get, starts_with};
+ghost use Rattle.pages_load.specs.Load.{count, good_mark, is_hit, is_publishing, one_if, places};
 
 use block_list::BlockList;
 use site_words::{Entry, Op, Reply};
@@ -11,7 +11,22 @@ const GOOD_MARK: &[u8] = b"HTTP/1.1 200 OK\r\nContent-Type: text/html";
 pub(crate) fn publishings(history: &BlockList<Entry>) -> usize
     ensures { result ≡ count is_publishing history.now.items }
 {
-    history.iter().filter(|entry| is_publishing(entry)).count()
+    let mut count = 0;
+    for place in 0..history.len() {
+        count += publishing_at(history, place);
+    }
+    count
+}
+
+// One where the entry at a place publishes, else none.
+fn publishing_at(history: &BlockList<Entry>, place: usize) -> usize
+    ensures value { result ≡ one_if is_publishing (slice_get history.now.items place) }
+    ensures small { result ≤ 1 }
+{
+    match history.get(place) {
+        Some(entry) if is_publishing(entry) => 1,
+        _ => 0,
+    }
 }
 
 fn is_publishing(entry: &Entry) -> bool
@@ -24,7 +39,22 @@ fn is_publishing(entry: &Entry) -> bool
 pub(crate) fn hits(history: &BlockList<Entry>) -> usize
     ensures { result ≡ count is_hit history.now.items }
 {
-    history.iter().filter(|entry| is_hit(entry)).count()
+    let mut count = 0;
+    for place in 0..history.len() {
+        count += hit_at(history, place);
+    }
+    count
+}
+
+// One where the entry at a place is such, else none.
+fn hit_at(history: &BlockList<Entry>, place: usize) -> usize
+    ensures value { result ≡ one_if is_hit (slice_get history.now.items place) }
+    ensures small { result ≤ 1 }
+{
+    match history.get(place) {
+        Some(entry) if is_hit(entry) => 1,
+        _ => 0,
+    }
 }
 
 fn is_hit(entry: &Entry) -> bool

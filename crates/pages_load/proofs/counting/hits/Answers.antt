@@ -1,9 +1,10 @@
-use Rattle.std.proofs.Common.{rules, tests}
-use Rattle.std.proofs.lemmas.Iterator.Consumers.{YieldsList-from_filter, YieldsList-from_first, count_from_yields_List}
+use Rattle.std.proofs.Common.{arith}
 use Rattle.pages_load.specs.Load.{is_hit}
+use Rattle.pages_load.proofs.CountLemmas.{next_entry}
 use Rattle.pages_load.proofs.counting.hits.Goals as goal
 
-pub returns : goal.returns
-returns c =
-    count_from_yields_List c.filter.result _ c.count.ensures.ran
-    (YieldsList-from_filter _ is_hit (YieldsList-from_first (λ e. e.now) (λ i. i) c.args.history.now.items cc) c.filter.ensures.closure (λ x b q k. search (rules, tests)))
+pub loop-place-preserved : goal.loop-place-preserved
+loop-place-preserved c = record {
+  counted = next_entry is_hit c.args.history.now.items c.loop-place.place c.loop-place.count c.hit_at-count.result (omega (arith, c.loop-place-test.true, c.len-place-end.ensures)) c.hit_at-count.ensures.value c.loop-place.invariant.counted;
+  few = omega (arith, c.loop-place.invariant.few, c.hit_at-count.ensures.small);
+}
