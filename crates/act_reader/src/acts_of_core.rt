@@ -25,7 +25,8 @@ pub(crate) fn core_act<'u>(
     action: &'u Action,
     parts: Parts<'u>,
 ) -> Result<Act<'u>, AllocError>
-    ensures { IfOk result (λ act. act_of act ≡ core_node name (map given_of action.now.attributes) (parts_view parts.entry).attributes (parts_view parts.entry).content action.now.place) }
+    ensures { IfOk result (λ act. act_of act ≡ core_node name (map given_of action.now.attributes)
+        (parts_view parts.entry).attributes (parts_view parts.entry).content action.now.place) }
 {
     match name {
         CoreName::Out => Ok(out(action, parts)),
@@ -47,7 +48,8 @@ pub(crate) fn core_act<'u>(
 
 // `c:out`.
 fn out<'u>(action: &'u Action, parts: Parts<'u>) -> Act<'u>
-    ensures { act_of result ≡ page.out (parts_view parts.entry).attributes (parts_view parts.entry).content.nodes action.now.place }
+    ensures { act_of result ≡ page.out (parts_view parts.entry).attributes
+        (parts_view parts.entry).content.nodes action.now.place }
 {
     Act::Out {
         attributes: parts.attributes,
@@ -58,7 +60,8 @@ fn out<'u>(action: &'u Action, parts: Parts<'u>) -> Act<'u>
 
 // `c:set`, of a variable or of an entry.
 fn set<'u>(alloc: Global, action: &'u Action, parts: Parts<'u>) -> Result<Act<'u>, AllocError>
-    ensures { IfOk result (λ act. act_of act ≡ core_node core.Set (map given_of action.now.attributes) (parts_view parts.entry).attributes (parts_view parts.entry).content action.now.place) }
+    ensures { IfOk result (λ act. act_of act ≡ core_node core.Set (map given_of action.now.attributes)
+        (parts_view parts.entry).attributes (parts_view parts.entry).content action.now.place) }
 {
     let attributes = action.attributes.as_slice();
     match target_in(alloc, attributes)? {
@@ -79,7 +82,8 @@ fn set<'u>(alloc: Global, action: &'u Action, parts: Parts<'u>) -> Result<Act<'u
 
 // `c:remove`.
 fn remove<'u>(alloc: Global, action: &'u Action) -> Result<Act<'u>, AllocError>
-    ensures { IfOk result (λ act. act_of act ≡ page.remove (variable_in (map given_of action.now.attributes)) action.now.place) }
+    ensures { IfOk result (λ act. act_of act ≡ page.remove (variable_in (map given_of action.now.attributes))
+        action.now.place) }
 {
     Ok(Act::Remove {
         variable: variable_in(alloc, action.attributes.as_slice())?,
@@ -89,7 +93,9 @@ fn remove<'u>(alloc: Global, action: &'u Action) -> Result<Act<'u>, AllocError>
 
 // `c:catch`.
 fn catch<'u>(alloc: Global, action: &'u Action, parts: Parts<'u>) -> Result<Act<'u>, AllocError>
-    ensures { IfOk result (λ act. act_of act ≡ page.catch (static_text (codes "var") (map given_of action.now.attributes)) (parts_view parts.entry).content.nodes action.now.place) }
+    ensures { IfOk result (λ act. act_of act
+        ≡ page.catch (static_text (codes "var") (map given_of action.now.attributes))
+        (parts_view parts.entry).content.nodes action.now.place) }
 {
     Ok(Act::Catch {
         variable: static_text(alloc, action.attributes.as_slice(), "var")?,
@@ -100,7 +106,9 @@ fn catch<'u>(alloc: Global, action: &'u Action, parts: Parts<'u>) -> Result<Act<
 
 // `c:if`.
 fn when_true<'u>(alloc: Global, action: &'u Action, parts: Parts<'u>) -> Result<Act<'u>, AllocError>
-    ensures { IfOk result (λ act. act_of act ≡ page.when_true (some_variable (map given_of action.now.attributes)) (parts_view parts.entry).attributes (parts_view parts.entry).content.nodes action.now.place) }
+    ensures { IfOk result (λ act. act_of act
+        ≡ page.when_true (some_variable (map given_of action.now.attributes))
+        (parts_view parts.entry).attributes (parts_view parts.entry).content.nodes action.now.place) }
 {
     Ok(Act::If {
         variable: some_variable(alloc, action.attributes.as_slice())?,
@@ -122,7 +130,10 @@ fn choose<'u>(action: &'u Action, parts: Parts<'u>) -> Act<'u>
 
 // `c:forEach`.
 fn for_each<'u>(alloc: Global, action: &'u Action, parts: Parts<'u>) -> Result<Act<'u>, AllocError>
-    ensures { IfOk result (λ act. act_of act ≡ page.each (static_text (codes "var") (map given_of action.now.attributes)) (static_text (codes "varStatus") (map given_of action.now.attributes)) (parts_view parts.entry).attributes (parts_view parts.entry).content.nodes action.now.place) }
+    ensures { IfOk result (λ act. act_of act
+        ≡ page.each (static_text (codes "var") (map given_of action.now.attributes))
+        (static_text (codes "varStatus") (map given_of action.now.attributes))
+        (parts_view parts.entry).attributes (parts_view parts.entry).content.nodes action.now.place) }
 {
     let attributes = action.attributes.as_slice();
     Ok(Act::ForEach {
@@ -140,7 +151,10 @@ fn for_tokens<'u>(
     action: &'u Action,
     parts: Parts<'u>,
 ) -> Result<Act<'u>, AllocError>
-    ensures { IfOk result (λ act. act_of act ≡ page.each_token (static_text (codes "var") (map given_of action.now.attributes)) (static_text (codes "varStatus") (map given_of action.now.attributes)) (parts_view parts.entry).attributes (parts_view parts.entry).content.nodes action.now.place) }
+    ensures { IfOk result (λ act. act_of act
+        ≡ page.each_token (static_text (codes "var") (map given_of action.now.attributes))
+        (static_text (codes "varStatus") (map given_of action.now.attributes))
+        (parts_view parts.entry).attributes (parts_view parts.entry).content.nodes action.now.place) }
 {
     let attributes = action.attributes.as_slice();
     Ok(Act::ForTokens {
@@ -154,7 +168,9 @@ fn for_tokens<'u>(
 
 // `c:import`.
 fn import<'u>(alloc: Global, action: &'u Action, parts: Parts<'u>) -> Result<Act<'u>, AllocError>
-    ensures { IfOk result (λ act. act_of act ≡ page.import (some_variable (map given_of action.now.attributes)) (parts_view parts.entry).attributes (parts_view parts.entry).content.params action.now.place) }
+    ensures { IfOk result (λ act. act_of act
+        ≡ page.import (some_variable (map given_of action.now.attributes)) (parts_view parts.entry).attributes
+        (parts_view parts.entry).content.params action.now.place) }
 {
     Ok(Act::Import {
         variable: some_variable(alloc, action.attributes.as_slice())?,
@@ -166,7 +182,8 @@ fn import<'u>(alloc: Global, action: &'u Action, parts: Parts<'u>) -> Result<Act
 
 // `c:url`.
 fn url<'u>(alloc: Global, action: &'u Action, parts: Parts<'u>) -> Result<Act<'u>, AllocError>
-    ensures { IfOk result (λ act. act_of act ≡ page.url (some_variable (map given_of action.now.attributes)) (parts_view parts.entry).attributes (parts_view parts.entry).content.params action.now.place) }
+    ensures { IfOk result (λ act. act_of act ≡ page.url (some_variable (map given_of action.now.attributes))
+        (parts_view parts.entry).attributes (parts_view parts.entry).content.params action.now.place) }
 {
     Ok(Act::Url {
         variable: some_variable(alloc, action.attributes.as_slice())?,
@@ -178,7 +195,8 @@ fn url<'u>(alloc: Global, action: &'u Action, parts: Parts<'u>) -> Result<Act<'u
 
 // `c:redirect`.
 fn redirect<'u>(action: &'u Action, parts: Parts<'u>) -> Act<'u>
-    ensures { act_of result ≡ page.redirect (parts_view parts.entry).attributes (parts_view parts.entry).content.params action.now.place }
+    ensures { act_of result ≡ page.redirect (parts_view parts.entry).attributes
+        (parts_view parts.entry).content.params action.now.place }
 {
     Act::Redirect {
         attributes: parts.attributes,

@@ -24,7 +24,8 @@ pub(crate) fn jsp_act<'u>(
     action: &'u Action,
     parts: Parts<'u>,
 ) -> Result<Act<'u>, AllocError>
-    ensures { IfOk result (λ act. act_of act ≡ jsp_node name (map given_of action.now.attributes) (parts_view parts.entry).attributes (parts_view parts.entry).content action.now.place) }
+    ensures { IfOk result (λ act. act_of act ≡ jsp_node name (map given_of action.now.attributes)
+        (parts_view parts.entry).attributes (parts_view parts.entry).content action.now.place) }
 {
     match name {
         JspName::Include => include(alloc, action, parts),
@@ -43,7 +44,10 @@ pub(crate) fn jsp_act<'u>(
 
 // `jsp:include`.
 fn include<'u>(alloc: Global, action: &'u Action, parts: Parts<'u>) -> Result<Act<'u>, AllocError>
-    ensures { IfOk result (λ act. act_of act ≡ page.include (bytes_eq (text_of_attribute (codes "flush") (map given_of action.now.attributes)) (codes "true")) (parts_view parts.entry).attributes (parts_view parts.entry).content.params action.now.place) }
+    ensures { IfOk result (λ act. act_of act
+        ≡ page.include (bytes_eq (text_of_attribute (codes "flush") (map given_of action.now.attributes))
+        (codes "true")) (parts_view parts.entry).attributes (parts_view parts.entry).content.params
+        action.now.place) }
 {
     let flush = text_of_attribute(alloc, action.attributes.as_slice(), "flush")?;
     Ok(Act::Include {
@@ -56,7 +60,8 @@ fn include<'u>(alloc: Global, action: &'u Action, parts: Parts<'u>) -> Result<Ac
 
 // `jsp:forward`.
 fn forward<'u>(action: &'u Action, parts: Parts<'u>) -> Act<'u>
-    ensures { act_of result ≡ page.forward (parts_view parts.entry).attributes (parts_view parts.entry).content.params action.now.place }
+    ensures { act_of result ≡ page.forward (parts_view parts.entry).attributes
+        (parts_view parts.entry).content.params action.now.place }
 {
     Act::Forward {
         attributes: parts.attributes,
@@ -67,7 +72,11 @@ fn forward<'u>(action: &'u Action, parts: Parts<'u>) -> Act<'u>
 
 // `jsp:useBean`.
 fn use_bean<'u>(alloc: Global, action: &'u Action, parts: Parts<'u>) -> Result<Act<'u>, AllocError>
-    ensures { IfOk result (λ act. act_of act ≡ page.use_bean (text_of_attribute (codes "id") (map given_of action.now.attributes)) (scope_named (text_of_attribute (codes "scope") (map given_of action.now.attributes))) (text_of_attribute (codes "class") (map given_of action.now.attributes)) (parts_view parts.entry).content.nodes action.now.place) }
+    ensures { IfOk result (λ act. act_of act
+        ≡ page.use_bean (text_of_attribute (codes "id") (map given_of action.now.attributes))
+        (scope_named (text_of_attribute (codes "scope") (map given_of action.now.attributes)))
+        (text_of_attribute (codes "class") (map given_of action.now.attributes))
+        (parts_view parts.entry).content.nodes action.now.place) }
 {
     let attributes = action.attributes.as_slice();
     let scope = text_of_attribute(alloc, attributes, "scope")?;
@@ -82,7 +91,9 @@ fn use_bean<'u>(alloc: Global, action: &'u Action, parts: Parts<'u>) -> Result<A
 
 // `jsp:getProperty`.
 fn get_property<'u>(alloc: Global, action: &'u Action) -> Result<Act<'u>, AllocError>
-    ensures { IfOk result (λ act. act_of act ≡ page.get_property (text_of_attribute (codes "name") (map given_of action.now.attributes)) (text_of_attribute (codes "property") (map given_of action.now.attributes)) action.now.place) }
+    ensures { IfOk result (λ act. act_of act
+        ≡ page.get_property (text_of_attribute (codes "name") (map given_of action.now.attributes))
+        (text_of_attribute (codes "property") (map given_of action.now.attributes)) action.now.place) }
 {
     let attributes = action.attributes.as_slice();
     Ok(Act::GetProperty {
@@ -98,7 +109,9 @@ fn set_property<'u>(
     action: &'u Action,
     parts: Parts<'u>,
 ) -> Result<Act<'u>, AllocError>
-    ensures { IfOk result (λ act. act_of act ≡ page.set_property (text_of_attribute (codes "name") (map given_of action.now.attributes)) (property_in (map given_of action.now.attributes)) (parts_view parts.entry).attributes action.now.place) }
+    ensures { IfOk result (λ act. act_of act
+        ≡ page.set_property (text_of_attribute (codes "name") (map given_of action.now.attributes))
+        (property_in (map given_of action.now.attributes)) (parts_view parts.entry).attributes action.now.place) }
 {
     let attributes = action.attributes.as_slice();
     Ok(Act::SetProperty {
@@ -121,7 +134,8 @@ fn text<'u>(action: &'u Action, parts: Parts<'u>) -> Act<'u>
 
 // `jsp:doBody`.
 fn do_body<'u>(alloc: Global, action: &'u Action) -> Result<Act<'u>, AllocError>
-    ensures { IfOk result (λ act. act_of act ≡ page.do_body (some_variable (map given_of action.now.attributes)) action.now.place) }
+    ensures { IfOk result (λ act. act_of act
+        ≡ page.do_body (some_variable (map given_of action.now.attributes)) action.now.place) }
 {
     Ok(Act::DoBody {
         variable: some_variable(alloc, action.attributes.as_slice())?,
@@ -131,7 +145,9 @@ fn do_body<'u>(alloc: Global, action: &'u Action) -> Result<Act<'u>, AllocError>
 
 // `jsp:invoke`.
 fn invoke<'u>(alloc: Global, action: &'u Action) -> Result<Act<'u>, AllocError>
-    ensures { IfOk result (λ act. act_of act ≡ page.invoke (text_of_attribute (codes "fragment") (map given_of action.now.attributes)) (some_variable (map given_of action.now.attributes)) action.now.place) }
+    ensures { IfOk result (λ act. act_of act
+        ≡ page.invoke (text_of_attribute (codes "fragment") (map given_of action.now.attributes))
+        (some_variable (map given_of action.now.attributes)) action.now.place) }
 {
     let attributes = action.attributes.as_slice();
     Ok(Act::Invoke {

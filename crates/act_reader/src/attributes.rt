@@ -52,7 +52,9 @@ pub(crate) fn attributes_of<'u>(
     action: &'u Action,
     mut given: Vec<ActAttribute<'u>>,
 ) -> Result<Vec<ActAttribute<'u>>, AllocError>
-    ensures { IfOk result (λ all. attributes_of all.items ≡ written_before (statics_of (kind_of action.now.kind)) (map given_of action.now.attributes) (attributes_of given.entry.items)) }
+    ensures { IfOk result (λ all. attributes_of all.items
+        ≡ written_before (statics_of (kind_of action.now.kind)) (map given_of action.now.attributes)
+        (attributes_of given.entry.items)) }
 {
     let mut all = written(alloc, &action.kind, action.attributes.as_slice())?;
     all.append(&mut given)?;
@@ -65,7 +67,8 @@ fn written<'u>(
     kind: &ActionKind,
     attributes: &'u [UnitAttribute],
 ) -> Result<Vec<ActAttribute<'u>>, AllocError>
-    ensures { IfOk result (λ all. (others : Attributes) → attributes_before all.items others ≡ written_before (statics_of (kind_of kind.now)) (map given_of attributes.now) others) }
+    ensures { IfOk result (λ all. (others : Attributes) → attributes_before all.items others
+        ≡ written_before (statics_of (kind_of kind.now)) (map given_of attributes.now) others) }
 {
     let mut all = Vec::new(alloc);
     for attribute in attributes {
@@ -81,7 +84,9 @@ fn add_written<'u>(
     attribute: &'u UnitAttribute,
     all: &mut Vec<ActAttribute<'u>>,
 ) -> Result<(), AllocError>
-    ensures { OnOk result ((others : Attributes) → attributes_before all.new.items others ≡ attributes_before all.old.items (written_before (statics_of (kind_of kind.now)) (given_of attribute.now ∷ []) others)) }
+    ensures { OnOk result ((others : Attributes) → attributes_before all.new.items others
+        ≡ attributes_before all.old.items (written_before (statics_of (kind_of kind.now))
+        (given_of attribute.now ∷ []) others)) }
 {
     if is_static(kind, attribute.name.as_str()) {
         return Ok(());

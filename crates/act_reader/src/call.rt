@@ -22,7 +22,9 @@ pub(crate) fn call_act<'u>(
     action: &'u Action,
     inner: Children<'u>,
 ) -> Result<Act<'u>, AllocError>
-    ensures { IfOk result (λ act. act_of act ≡ call path.now (attributes_of (kind_of action.now.kind) (map given_of action.now.attributes) (children_view inner.entry))
+    ensures { IfOk result (λ act. act_of act
+        ≡ call path.now (attributes_of (kind_of action.now.kind) (map given_of action.now.attributes)
+        (children_view inner.entry))
         (call_body action.now.has_body action.now.source (children_view inner.entry)) action.now.place) }
 {
     let is_given = inner.is_given();
@@ -43,7 +45,8 @@ fn call_body<'u>(
     is_given: bool,
     held: Option<Held<'u>>,
 ) -> CallBody<'u>
-    ensures { body_of result ≡ held_body_or (option_map held_view held.entry) (if is_given then no_body else body_if action.now.has_body action.now.source (acts_of acts.entry.items)) }
+    ensures { body_of result ≡ held_body_or (option_map held_view held.entry)
+        (if is_given then no_body else body_if action.now.has_body action.now.source (acts_of acts.entry.items)) }
 {
     match held {
         Some(Held { source, content }) => CallBody::Given {

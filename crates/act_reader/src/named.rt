@@ -17,7 +17,8 @@ use unit_nodes::{UnitAttribute, UnitPart};
 
 // The first attribute of a name.
 fn attribute_named<'u>(attributes: &'u [UnitAttribute], wanted: &str) -> Option<&'u UnitAttribute>
-    ensures { option_map (λ a. given_of a.now) result ≡ find (λ a. bytes_eq wanted.now a.name) (map given_of attributes.now) }
+    ensures { option_map (λ a. given_of a.now) result ≡ find (λ a. bytes_eq wanted.now a.name)
+        (map given_of attributes.now) }
 {
     for attribute in attributes {
         if wanted == attribute.name.as_str() {
@@ -103,7 +104,8 @@ pub(crate) fn scope_named(name: &str) -> Scope
 
 // The scope that attributes name, where they name one.
 fn scope_in(alloc: Global, attributes: &[UnitAttribute]) -> Result<Option<Scope>, AllocError>
-    ensures { IfOk result (λ scope. scope ≡ option_map scope_named (static_text (codes "scope") (map given_of attributes.now))) }
+    ensures { IfOk result (λ scope. scope ≡ option_map scope_named
+        (static_text (codes "scope") (map given_of attributes.now))) }
 {
     match static_text(alloc, attributes, "scope")? {
         Some(name) => Ok(Some(scope_named(name.as_str()))),
@@ -129,7 +131,8 @@ pub(crate) fn some_variable(
     alloc: Global,
     attributes: &[UnitAttribute],
 ) -> Result<Option<Variable>, AllocError>
-    ensures { IfOk result (λ variable. option_map variable_of variable ≡ some_variable (map given_of attributes.now)) }
+    ensures { IfOk result (λ variable. option_map variable_of variable
+        ≡ some_variable (map given_of attributes.now)) }
 {
     match static_text(alloc, attributes, "var")? {
         Some(name) => Ok(Some(Variable {
@@ -197,7 +200,8 @@ fn parameter_of(
     attributes: &[UnitAttribute],
     property: &Text,
 ) -> Result<Text, AllocError>
-    ensures { IfOk result (λ parameter. parameter ≡ unwrap_or (static_text (codes "param") (map given_of attributes.now)) property.now) }
+    ensures { IfOk result (λ parameter. parameter
+        ≡ unwrap_or (static_text (codes "param") (map given_of attributes.now)) property.now) }
 {
     match static_text(alloc, attributes, "param")? {
         Some(parameter) => Ok(parameter),

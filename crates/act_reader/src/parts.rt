@@ -23,7 +23,8 @@ pub(crate) struct Parts<'u> {
 impl<'u> Parts<'u> {
     /// The parts of an action with these children.
     pub fn of(alloc: Global, action: &'u Action, children: Children<'u>) -> Result<Self, AllocError>
-        ensures { IfOk result (λ parts. parts_view parts ≡ parts_in (kind_of action.now.kind) (map given_of action.now.attributes) (children_view children.entry)) }
+        ensures { IfOk result (λ parts. parts_view parts ≡ parts_in (kind_of action.now.kind)
+            (map given_of action.now.attributes) (children_view children.entry)) }
     {
         let is_given = children.is_given();
         let Children { own, given, held } = children;
@@ -48,7 +49,8 @@ fn content_in<'u>(
     is_given: bool,
     held: Option<Held<'u>>,
 ) -> Content<'u>
-    ensures { content_view result ≡ held_or (option_map held_view held.entry) (if is_given then no_content else content_view own.entry) }
+    ensures { content_view result ≡ held_or (option_map held_view held.entry)
+        (if is_given then no_content else content_view own.entry) }
 {
     match held {
         Some(held) => held.content,

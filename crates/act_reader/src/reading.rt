@@ -39,7 +39,8 @@ fn add_node<'u>(
     node: &'u UnitNode,
     children: &mut Children<'u>,
 ) -> Result<(), AllocError>
-    ensures { OnOk result ((rest : Nodes) → before children.new (children_of rest) ≡ before children.old (children_of (joined (node_of node.now) rest))) }
+    ensures { OnOk result ((rest : Nodes) → before children.new (children_of rest)
+        ≡ before children.old (children_of (joined (node_of node.now) rest))) }
 {
     match node {
         UnitNode::Text { text, place } => children.add_act(Act::Template { text, place }),

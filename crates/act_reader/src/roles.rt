@@ -54,7 +54,9 @@ pub(crate) fn add_action<'u>(
     inner: Children<'u>,
     children: &mut Children<'u>,
 ) -> Result<(), AllocError>
-    ensures { OnOk result (Adds children.old children.new (with_action (kind_of action.now.kind) (map given_of action.now.attributes) action.now.has_body action.now.source action.now.place (children_view inner.entry))) }
+    ensures { OnOk result (Adds children.old children.new (with_action (kind_of action.now.kind)
+        (map given_of action.now.attributes) action.now.has_body action.now.source action.now.place
+        (children_view inner.entry))) }
 {
     match Role::of(&action.kind) {
         Role::Act => children.add_act(own_act(alloc, action, inner)?),
@@ -88,7 +90,9 @@ fn own_act<'u>(
     action: &'u Action,
     inner: Children<'u>,
 ) -> Result<Act<'u>, AllocError>
-    ensures { IfOk result (λ act. act_of act ≡ action_node (kind_of action.now.kind) (map given_of action.now.attributes) action.now.has_body action.now.source (children_view inner.entry) action.now.place) }
+    ensures { IfOk result (λ act. act_of act ≡ action_node (kind_of action.now.kind)
+        (map given_of action.now.attributes) action.now.has_body action.now.source (children_view inner.entry)
+        action.now.place) }
 {
     match &action.kind {
         ActionKind::Jsp(name) => {
@@ -110,7 +114,9 @@ fn add_given<'u>(
     parts: Parts<'u>,
     children: &mut Children<'u>,
 ) -> Result<(), AllocError>
-    ensures { OnOk result (Adds children.old children.new (with_nothing action.now.place (with_given (given_if true (map given_of action.now.attributes) (parts_view parts.entry).content.nodes action.now.place)))) }
+    ensures { OnOk result (Adds children.old children.new
+        (with_nothing action.now.place (with_given (given_if true (map given_of action.now.attributes)
+        (parts_view parts.entry).content.nodes action.now.place)))) }
 {
     children.add_act(nothing(alloc, &action.place))?;
     children.add_given(given(alloc, action, parts.body)?)
@@ -123,7 +129,8 @@ fn given<'u>(
     action: &'u Action,
     body: Vec<Act<'u>>,
 ) -> Result<ActAttribute<'u>, AllocError>
-    ensures { IfOk result (λ attribute. (others : Attributes) → attribute_before attribute others ≡ given_if true (map given_of action.now.attributes) (acts_of body.entry.items) action.now.place others) }
+    ensures { IfOk result (λ attribute. (others : Attributes) → attribute_before attribute others
+        ≡ given_if true (map given_of action.now.attributes) (acts_of body.entry.items) action.now.place others) }
 {
     let attributes = action.attributes.as_slice();
     let name = text_of_attribute(alloc, attributes, "name")?;
@@ -143,7 +150,8 @@ fn add_held<'u>(
     parts: Parts<'u>,
     children: &mut Children<'u>,
 ) -> Result<(), AllocError>
-    ensures { OnOk result (Adds children.old children.new (with_nothing action.now.place (with_held action.now.source (parts_view parts.entry).content))) }
+    ensures { OnOk result (Adds children.old children.new
+        (with_nothing action.now.place (with_held action.now.source (parts_view parts.entry).content))) }
 {
     children.add_act(nothing(alloc, &action.place))?;
     let content = Content {
@@ -162,7 +170,9 @@ fn add_param<'u>(
     parts: Parts<'u>,
     children: &mut Children<'u>,
 ) -> Result<(), AllocError>
-    ensures { OnOk result (Adds children.old children.new (with_nothing place.now (with_param (param_if true (parts_view parts.entry).attributes (parts_view parts.entry).content.nodes place.now)))) }
+    ensures { OnOk result (Adds children.old children.new
+        (with_nothing place.now (with_param (param_if true (parts_view parts.entry).attributes
+        (parts_view parts.entry).content.nodes place.now)))) }
 {
     children.add_act(nothing(alloc, place))?;
     children.add_param(ActParam {
@@ -179,7 +189,9 @@ fn add_when<'u>(
     parts: Parts<'u>,
     children: &mut Children<'u>,
 ) -> Result<(), AllocError>
-    ensures { OnOk result (Adds children.old children.new (with_nothing place.now (with_branch (branch_if true false (parts_view parts.entry).attributes (parts_view parts.entry).content.nodes place.now)))) }
+    ensures { OnOk result (Adds children.old children.new
+        (with_nothing place.now (with_branch (branch_if true false (parts_view parts.entry).attributes
+        (parts_view parts.entry).content.nodes place.now)))) }
 {
     children.add_act(nothing(alloc, place))?;
     children.add_branch(ActBranch::When {
@@ -196,7 +208,9 @@ fn add_otherwise<'u>(
     parts: Parts<'u>,
     children: &mut Children<'u>,
 ) -> Result<(), AllocError>
-    ensures { OnOk result (Adds children.old children.new (with_nothing place.now (with_branch (branch_if false true (parts_view parts.entry).attributes (parts_view parts.entry).content.nodes place.now)))) }
+    ensures { OnOk result (Adds children.old children.new
+        (with_nothing place.now (with_branch (branch_if false true (parts_view parts.entry).attributes
+        (parts_view parts.entry).content.nodes place.now)))) }
 {
     children.add_act(nothing(alloc, place))?;
     children.add_branch(ActBranch::Otherwise {

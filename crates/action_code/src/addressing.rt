@@ -145,7 +145,8 @@ fn url_put(
     place: &Place,
     variable: &Option<Variable>,
 ) -> Result<Code, AllocError>
-    ensures { IfOk result (λ code. code ≡ form_code ground.now (url_put place.now (option_map variable_of variable.now))) }
+    ensures { IfOk result (λ code. code ≡ form_code ground.now
+        (url_put place.now (option_map variable_of variable.now))) }
 {
     match variable {
         Some(variable) => sets(alloc, ground, place, variable),

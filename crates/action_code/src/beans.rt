@@ -35,7 +35,8 @@ pub fn use_bean(
     class: &Text,
     part: Code,
 ) -> Result<Code, AllocError>
-    ensures { IfOk result (λ code. code ≡ cell ground.now place.now (instr.Ensure (scoped scope name.now) (value_of (or_null (entry_at class.now beans.now))) (length part)) ∷ part) }
+    ensures { IfOk result (λ code. code ≡ cell ground.now place.now (instr.Ensure (scoped scope name.now)
+        (value_of (or_null (entry_at class.now beans.now))) (length part)) ∷ part) }
 {
     let bean = bean_of(beans, class.as_str())?;
     ensured(alloc, ground, place, scoped(scope, name)?, bean, part)
@@ -65,7 +66,9 @@ pub fn get_property(
     property: &Text,
 ) -> Result<Code, AllocError>
     ensures { IfOk result (λ code. code
-        ≡ form_code ground.now (both (constant place.now (text property.now)) (both (does (op.GetProperty name.now) place.now) (both (coerces coercion.Text place.now) (does op.Put place.now))))) }
+        ≡ form_code ground.now (both (constant place.now (text property.now))
+        (both (does (op.GetProperty name.now) place.now) (both (coerces coercion.Text place.now)
+        (does op.Put place.now))))) }
 {
     let mut code = constant(alloc, ground, place, Value::Text(property.copy()?))?;
     code.join(operation(alloc, ground, place, Op::GetProperty(name_of(name)?))?)?;
@@ -84,7 +87,9 @@ pub fn set_property(
     value_place: &Place,
     names: &Listed<Text>,
 ) -> Result<Code, AllocError>
-    ensures { IfOk result (λ code. code ≡ form_code ground.now (property_form place.now name.now (property_of property.now) value_place.now (has (codes "value") names.now) names.now)) }
+    ensures { IfOk result (λ code. code ≡ form_code ground.now
+        (property_form place.now name.now (property_of property.now) value_place.now
+        (has (codes "value") names.now) names.now)) }
 {
     let name = name_of(name)?;
     match property {
@@ -130,7 +135,9 @@ fn set_as(
     wanted: &[&str],
     names: &Listed<Text>,
 ) -> Result<Code, AllocError>
-    ensures { IfOk result (λ code. code ≡ arranged_code ground.now place.now (map (λ name. name.now) wanted.now) names.now 0 ++ form_code ground.now (does (op.SetProperty name mode) place.now)) }
+    ensures { IfOk result (λ code. code ≡ arranged_code ground.now place.now
+        (map (λ name. name.now) wanted.now) names.now 0 ++ form_code ground.now
+        (does (op.SetProperty name mode) place.now)) }
 {
     let mut code = arranged(alloc, ground, place, wanted, names)?;
     code.join(operation(alloc, ground, place, Op::SetProperty(name, mode))?)?;

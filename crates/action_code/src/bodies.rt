@@ -63,7 +63,8 @@ pub fn param(
     names: &Listed<Text>,
     body: Code,
 ) -> Result<Code, AllocError>
-    ensures { IfOk result (λ code. code ≡ with_value_or_body_code ground.now place.now (codes "name") (has (codes "value") names.now) names.now body) }
+    ensures { IfOk result (λ code. code ≡ with_value_or_body_code ground.now place.now (codes "name")
+        (has (codes "value") names.now) names.now body) }
 {
     with_value_or_body(alloc, ground, place, "name", names, body)
 }
@@ -76,7 +77,8 @@ fn value_or_body(
     names: &Listed<Text>,
     body: Code,
 ) -> Result<Code, AllocError>
-    ensures { IfOk result (λ code. code ≡ value_or_body_code ground.now place.now (has (codes "value") names.now) names.now body) }
+    ensures { IfOk result (λ code. code ≡ value_or_body_code ground.now place.now
+        (has (codes "value") names.now) names.now body) }
 {
     if has(names.as_slice(), "value") {
         return arranged(alloc, ground, place, &["value"], names);
@@ -95,7 +97,8 @@ fn with_value_or_body(
     names: &Listed<Text>,
     body: Code,
 ) -> Result<Code, AllocError>
-    ensures { IfOk result (λ code. code ≡ with_value_or_body_code ground.now place.now first.now (has (codes "value") names.now) names.now body) }
+    ensures { IfOk result (λ code. code ≡ with_value_or_body_code ground.now place.now first.now
+        (has (codes "value") names.now) names.now body) }
 {
     if has(names.as_slice(), "value") {
         return arranged(alloc, ground, place, &[first, "value"], names);

@@ -21,7 +21,8 @@ pub fn do_body(
     place: &Place,
     variable: &Option<Variable>,
 ) -> Result<Code, AllocError>
-    ensures { IfOk result (λ code. code ≡ form_code ground.now (kept_in place.now (option_map variable_of variable.now) (calls own_body place.now))) }
+    ensures { IfOk result (λ code. code ≡ form_code ground.now
+        (kept_in place.now (option_map variable_of variable.now) (calls own_body place.now))) }
 {
     match variable {
         None => call(alloc, &ground.up(0)?, place, CallOut::Body),
@@ -41,7 +42,8 @@ pub fn invoke(
     fragment: &Text,
     variable: &Option<Variable>,
 ) -> Result<Code, AllocError>
-    ensures { IfOk result (λ code. code ≡ form_code ground.now (kept_in place.now (option_map variable_of variable.now) (calls (own_fragment fragment.now) place.now))) }
+    ensures { IfOk result (λ code. code ≡ form_code ground.now
+        (kept_in place.now (option_map variable_of variable.now) (calls (own_fragment fragment.now) place.now))) }
 {
     let callee = CallOut::Fragment(fragment.copy()?);
     match variable {
@@ -61,7 +63,8 @@ pub(crate) fn import(
     place: &Place,
     variable: &Option<Variable>,
 ) -> Result<Code, AllocError>
-    ensures { IfOk result (λ code. code ≡ form_code ground.now (kept_in place.now (option_map variable_of variable.now) (calls imported_page place.now))) }
+    ensures { IfOk result (λ code. code ≡ form_code ground.now
+        (kept_in place.now (option_map variable_of variable.now) (calls imported_page place.now))) }
 {
     match variable {
         None => call(alloc, &ground.up(1)?, place, CallOut::Import),
@@ -83,7 +86,9 @@ fn kept_as(
     part: Code,
 ) -> Result<Code, AllocError>
     ensures { IfOk result (λ code. code
-        ≡ (cell before.now place.now instr.StartBody ∷ (part ++ cell (keeping ground.now) place.now instr.TakeBody ∷ [])) ++ form_code ground.now (sets place.now (variable_of variable.now))) }
+        ≡ (cell before.now place.now instr.StartBody
+        ∷ (part ++ cell (keeping ground.now) place.now instr.TakeBody ∷ [])) ++ form_code ground.now
+        (sets place.now (variable_of variable.now))) }
 {
     let mut code = kept(alloc, before, ground, place, part)?;
     code.join(sets(alloc, ground, place, variable)?)?;

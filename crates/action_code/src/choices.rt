@@ -37,7 +37,8 @@ pub(crate) fn tested_once(
     names: &Listed<Text>,
     body: Code,
 ) -> Result<Code, AllocError>
-    ensures { IfOk result (λ code. code ≡ if_by ground.now place.now (option_map variable_of variable.now) names.now body) }
+    ensures { IfOk result (λ code. code ≡ if_by ground.now place.now (option_map variable_of variable.now)
+        names.now body) }
 {
     let mut first = sets_given(alloc, ground, place, variable, true)?;
     first.join(body)?;
@@ -53,7 +54,8 @@ pub fn catch(
     variable: &Option<Text>,
     body: Code,
 ) -> Result<Code, AllocError>
-    ensures { IfOk result (λ code. code ≡ catch_code ground.now place.now body (form_code ground.now (keeps_fault place.now variable.now))) }
+    ensures { IfOk result (λ code. code ≡ catch_code ground.now place.now body
+        (form_code ground.now (keeps_fault place.now variable.now))) }
 {
     let handler = keeps_fault(alloc, ground, place, variable)?;
     caught(alloc, ground, place, body, handler)

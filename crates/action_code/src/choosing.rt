@@ -23,7 +23,11 @@ pub fn when(
     values: Code,
     body: Code,
 ) -> Result<TestedBranch, AllocError>
-    ensures { IfOk result (λ made. made ≡ record { code = values ++ when_code ground.now place.now names.now body; place = place.now }) }
+    ensures { IfOk result (λ made. made ≡ record {
+      code = values ++ when_code ground.now place.now names.now
+          body;
+      place = place.now;
+    }) }
 {
     let Some(size) = body.len().checked_add(1) else {
         return Err(AllocError);

@@ -35,7 +35,8 @@ pub fn template(
 
 /// The code of an expression in template text.
 pub fn shown(alloc: Global, ground: &Shape, place: &Place, el: &El) -> Result<Code, AllocError>
-    ensures { IfOk result (λ code. code ≡ form_code ground.now (both (tree_form place.now (tree_of el.now)) (both (coerces coercion.Text place.now) (does op.Put place.now)))) }
+    ensures { IfOk result (λ code. code ≡ form_code ground.now (both (tree_form place.now (tree_of el.now))
+        (both (coerces coercion.Text place.now) (does op.Put place.now)))) }
 {
     let mut code = expression(alloc, ground, place, el)?;
     code.join(coercion(alloc, ground, place, Coercion::Text)?)?;
@@ -80,7 +81,8 @@ fn wanted(
     escape: bool,
     names: &Listed<Text>,
 ) -> Result<Code, AllocError>
-    ensures { IfOk result (λ code. code ≡ arranged_code ground.now place.now (out_wanted default escape) names.now 0) }
+    ensures { IfOk result (λ code. code ≡ arranged_code ground.now place.now (out_wanted default escape)
+        names.now 0) }
 {
     match (default, escape) {
         (true, true) => arranged(
@@ -124,7 +126,9 @@ fn or_default(
     before: &Shape,
 ) -> Result<Code, AllocError>
     ensures { IfOk result (λ code. code
-        ≡ either_code before.now (up 0 ground.now) place.now instr.JumpNull (value_code (up 1 ground.now) place.now escape ++ form_code ground.now (does op.Pop place.now)) (default_code ground.now place.now escape)) }
+        ≡ either_code before.now (up 0 ground.now) place.now instr.JumpNull
+        (value_code (up 1 ground.now) place.now escape ++ form_code ground.now (does op.Pop place.now))
+        (default_code ground.now place.now escape)) }
 {
     let absent = default_text(alloc, ground, place, escape)?;
     let mut present = value_text(alloc, &ground.up(1)?, place, escape)?;
@@ -141,7 +145,8 @@ fn or_body(
     before: &Shape,
     body: Code,
 ) -> Result<Code, AllocError>
-    ensures { IfOk result (λ code. code ≡ either_code before.now (up 0 ground.now) place.now instr.JumpNull (value_code ground.now place.now escape) (body_code ground.now place.now escape body)) }
+    ensures { IfOk result (λ code. code ≡ either_code before.now (up 0 ground.now) place.now instr.JumpNull
+        (value_code ground.now place.now escape) (body_code ground.now place.now escape body)) }
 {
     let absent = body_text(alloc, ground, place, escape, body)?;
     let present = value_text(alloc, ground, place, escape)?;
@@ -207,7 +212,8 @@ fn kept_and_put(
     escape: bool,
     body: Code,
 ) -> Result<Code, AllocError>
-    ensures { IfOk result (λ code. code ≡ kept_code below.now place.now true body ++ value_code ground.now place.now escape) }
+    ensures { IfOk result (λ code. code ≡ kept_code below.now place.now true body
+        ++ value_code ground.now place.now escape) }
 {
     let mut code = kept(alloc, below, place, true, body)?;
     code.join(value_text(alloc, ground, place, escape)?)?;

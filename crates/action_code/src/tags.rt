@@ -19,7 +19,14 @@ pub fn call_tag(
     down: Handed,
 ) -> Result<Code, AllocError>
     ensures { IfOk result (λ code. code
-        ≡ cell (up (length names) ground.now) place.now (instr.CallOut (call_is.Tag (record { path = path.now; names = names; body = down.body; fragments = down.fragments }))) ∷ down.cells) }
+        ≡ cell (up (length names) ground.now) place.now
+        (instr.CallOut (call_is.Tag (record {
+          path = path.now;
+          names = names;
+          body = down.body;
+          fragments =
+              down.fragments;
+        }))) ∷ down.cells) }
 {
     let before = ground.up(names.len())?;
     tag_call(alloc, &before, place, path.copy()?, names, down)

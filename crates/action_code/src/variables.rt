@@ -71,7 +71,8 @@ pub(crate) fn sets_given(
     variable: &Option<Variable>,
     value: bool,
 ) -> Result<Code, AllocError>
-    ensures { IfOk result (λ code. code ≡ form_code ground.now (sets_given place.now (option_map variable_of variable.now) (truth value))) }
+    ensures { IfOk result (λ code. code ≡ form_code ground.now
+        (sets_given place.now (option_map variable_of variable.now) (truth value))) }
 {
     match variable {
         Some(variable) => {
@@ -90,7 +91,8 @@ pub fn remove(
     place: &Place,
     variable: &Variable,
 ) -> Result<Code, AllocError>
-    ensures { IfOk result (λ code. code ≡ form_code ground.now (removes place.now (variable_of variable.now).scope (variable_of variable.now).name)) }
+    ensures { IfOk result (λ code. code ≡ form_code ground.now
+        (removes place.now (variable_of variable.now).scope (variable_of variable.now).name)) }
 {
     match variable.scope {
         Some(scope) => {
@@ -108,7 +110,8 @@ pub(crate) fn sets_or_removes(
     place: &Place,
     variable: &Variable,
 ) -> Result<Code, AllocError>
-    ensures { IfOk result (λ code. code ≡ form_code ground.now (sets_or_removes place.now (variable_of variable.now).scope (variable_of variable.now).name)) }
+    ensures { IfOk result (λ code. code ≡ form_code ground.now
+        (sets_or_removes place.now (variable_of variable.now).scope (variable_of variable.now).name)) }
 {
     match variable.scope {
         Some(scope) => {
@@ -164,7 +167,8 @@ fn sets_in_page(
     place: &Place,
     name: &Text,
 ) -> Result<Code, AllocError>
-    ensures { IfOk result (λ code. code ≡ form_code ground.now (does (op.SetVar (scoped scope.Page name.now)) place.now)) }
+    ensures { IfOk result (λ code. code ≡ form_code ground.now
+        (does (op.SetVar (scoped scope.Page name.now)) place.now)) }
 {
     let name = scoped(Scope::Page, name)?;
     operation(alloc, ground, place, Op::SetVar(name))

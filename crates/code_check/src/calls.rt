@@ -8,7 +8,8 @@ use page_code::{CallBody, CallOut, Cell, Fragment, Leave, TagCall, values_of_add
 
 /// A call finds the values that it takes, what it hands down begins with nothing open, and it goes on where what is left stands open.
 pub(crate) fn call_fits(code: &[Cell], next: usize, open: Open<'_>, call: &CallOut) -> bool
-    ensures { result ≡ fits_call code.now next open.entry.values open.entry.bodies open.entry.loops open.entry.catches.now call.now }
+    ensures { result ≡ fits_call code.now next open.entry.values open.entry.bodies open.entry.loops
+        open.entry.catches.now call.now }
 {
     match call {
         CallOut::Tag(call) => tag_call_fits(code, next, open, call),
@@ -33,7 +34,8 @@ pub(crate) fn leave_fits(open: Open<'_>, leave: Leave) -> bool
 
 // The call of a page finds its address, and the next cell carries what is left.
 fn address_call_fits(code: &[Cell], next: usize, open: Open<'_>, params: usize) -> bool
-    ensures { result ≡ fits_address code.now next params open.entry.values open.entry.bodies open.entry.loops open.entry.catches.now }
+    ensures { result ≡ fits_address code.now next params open.entry.values open.entry.bodies open.entry.loops
+        open.entry.catches.now }
 {
     let count = values_of_address(params);
     can_take_values(open, count) && carries_same(code, next, without(open, count))
@@ -41,7 +43,8 @@ fn address_call_fits(code: &[Cell], next: usize, open: Open<'_>, params: usize) 
 
 // The call of a tag file finds its attributes, and its body, its fragments and what follows stand behind it.
 fn tag_call_fits(code: &[Cell], next: usize, open: Open<'_>, call: &TagCall) -> bool
-    ensures { result ≡ fits_tag code.now next open.entry.values open.entry.bodies open.entry.loops open.entry.catches.now call.now }
+    ensures { result ≡ fits_tag code.now next open.entry.values open.entry.bodies open.entry.loops
+        open.entry.catches.now call.now }
 {
     let count = call.names.len() as u128;
     can_take_values(open, count)
@@ -74,7 +77,8 @@ fn ends_behind(
     fragments: &[Fragment],
     open: Open<'_>,
 ) -> bool
-    ensures { result ≡ ends_call code.now (at + body_size body.now) fragments.now open.entry.values open.entry.bodies open.entry.loops open.entry.catches.now }
+    ensures { result ≡ ends_call code.now (at + body_size body.now) fragments.now open.entry.values
+        open.entry.bodies open.entry.loops open.entry.catches.now }
 {
     match body {
         CallBody::Absent | CallBody::Source(_) => call_ends(code, at, fragments, open),
@@ -87,7 +91,8 @@ fn ends_behind(
 
 // Fragments that stand one after the other each begin with nothing open, and the place behind them carries what stands open.
 fn call_ends(code: &[Cell], first: usize, fragments: &[Fragment], open: Open<'_>) -> bool
-    ensures { result ≡ ends_call code.now first fragments.now open.entry.values open.entry.bodies open.entry.loops open.entry.catches.now }
+    ensures { result ≡ ends_call code.now first fragments.now open.entry.values open.entry.bodies
+        open.entry.loops open.entry.catches.now }
 {
     let mut at = first;
     for fragment in fragments {

@@ -6,7 +6,8 @@ use page_code::{Cell, Level};
 
 /// The place is in the code, and as much stands open there.
 pub(crate) fn carries_same(code: &[Cell], at: usize, open: Open<'_>) -> bool
-    ensures { result ≡ carries code.now at open.entry.values open.entry.bodies open.entry.loops open.entry.catches.now }
+    ensures { result ≡ carries code.now at open.entry.values open.entry.bodies open.entry.loops
+        open.entry.catches.now }
 {
     carries_more(code, at, open, 0, 0, 0)
 }
@@ -20,7 +21,8 @@ pub(crate) fn carries_more(
     bodies: usize,
     loops: usize,
 ) -> bool
-    ensures { result ≡ carries code.now at (open.entry.values + values) (open.entry.bodies + bodies) (open.entry.loops + loops) open.entry.catches.now }
+    ensures { result ≡ carries code.now at (open.entry.values + values) (open.entry.bodies + bodies)
+        (open.entry.loops + loops) open.entry.catches.now }
 {
     let Some(cell) = code.get(at) else {
         return false;
@@ -39,7 +41,8 @@ pub(crate) fn carries_ahead(
     open: Open<'_>,
     values: usize,
 ) -> bool
-    ensures { result ≡ carries code.now (next + size) (open.entry.values + values) open.entry.bodies open.entry.loops open.entry.catches.now }
+    ensures { result ≡ carries code.now (next + size) (open.entry.values + values) open.entry.bodies
+        open.entry.loops open.entry.catches.now }
 {
     let Some(at) = next.checked_add(size) else {
         return false;
@@ -62,7 +65,8 @@ pub(crate) fn carries_nothing(code: &[Cell], at: usize) -> bool
 
 /// The place is in the code, and a catch more is open there, which begins here.
 pub(crate) fn carries_catch(code: &[Cell], at: usize, open: Open<'_>) -> bool
-    ensures { result ≡ cell_tries (slice_get code.now at) open.entry.values open.entry.bodies open.entry.loops open.entry.catches.now }
+    ensures { result ≡ cell_tries (slice_get code.now at) open.entry.values open.entry.bodies open.entry.loops
+        open.entry.catches.now }
 {
     let Some(cell) = code.get(at) else {
         return false;
@@ -75,7 +79,8 @@ pub(crate) fn carries_catch(code: &[Cell], at: usize, open: Open<'_>) -> bool
 
 /// The innermost catch began where as much stood open as now, and the place is in the code and has the others open.
 pub(crate) fn closes_catch(code: &[Cell], at: usize, open: Open<'_>) -> bool
-    ensures { result ≡ ends_catch code.now at open.entry.values open.entry.bodies open.entry.loops open.entry.catches.now }
+    ensures { result ≡ ends_catch code.now at open.entry.values open.entry.bodies open.entry.loops
+        open.entry.catches.now }
 {
     match open.catches {
         [] => false,

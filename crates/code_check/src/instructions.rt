@@ -9,7 +9,8 @@ use page_code::{Cell, Instr, LoopKind, Op};
 /// An instruction finds what it takes, and each place to which it may go carries what it leaves.
 pub(crate) fn instr_fits(code: &[Cell], pc: usize, open: Open<'_>, instr: &Instr) -> bool
     requires { pc + 1 < 2 ^ 64 }
-    ensures { result ≡ fits code.now pc open.entry.values open.entry.bodies open.entry.loops open.entry.catches.now instr.now }
+    ensures { result ≡ fits code.now pc open.entry.values open.entry.bodies open.entry.loops
+        open.entry.catches.now instr.now }
 {
     let next = pc + 1;
     match instr {
@@ -51,7 +52,8 @@ pub(crate) fn instr_fits(code: &[Cell], pc: usize, open: Open<'_>, instr: &Instr
 
 // An operation finds what it takes, and the next cell carries what it leaves.
 fn op_fits(code: &[Cell], next: usize, open: Open<'_>, op: &Op) -> bool
-    ensures { result ≡ fits_op code.now next open.entry.values open.entry.bodies open.entry.loops open.entry.catches.now op.now }
+    ensures { result ≡ fits_op code.now next open.entry.values open.entry.bodies open.entry.loops
+        open.entry.catches.now op.now }
 {
     let count = op.takes();
     can_take_values(open, count)
@@ -60,7 +62,8 @@ fn op_fits(code: &[Cell], next: usize, open: Open<'_>, op: &Op) -> bool
 
 // A jump that takes the value on top in any case.
 fn branch_fits(code: &[Cell], next: usize, size: usize, open: Open<'_>) -> bool
-    ensures { result ≡ fits_branch code.now next size open.entry.values open.entry.bodies open.entry.loops open.entry.catches.now }
+    ensures { result ≡ fits_branch code.now next size open.entry.values open.entry.bodies open.entry.loops
+        open.entry.catches.now }
 {
     can_take_values(open, 1)
         && carries_same(code, next, without(open, 1))
@@ -69,7 +72,8 @@ fn branch_fits(code: &[Cell], next: usize, size: usize, open: Open<'_>) -> bool
 
 // A jump that takes the value on top where it jumps.
 fn null_branch_fits(code: &[Cell], next: usize, size: usize, open: Open<'_>) -> bool
-    ensures { result ≡ fits_null_branch code.now next size open.entry.values open.entry.bodies open.entry.loops open.entry.catches.now }
+    ensures { result ≡ fits_null_branch code.now next size open.entry.values open.entry.bodies
+        open.entry.loops open.entry.catches.now }
 {
     can_take_values(open, 1)
         && carries_same(code, next, open)
@@ -78,7 +82,8 @@ fn null_branch_fits(code: &[Cell], next: usize, size: usize, open: Open<'_>) -> 
 
 // The beginning of a loop finds the values that it takes, and the next cell has one loop more.
 fn loop_fits(code: &[Cell], next: usize, open: Open<'_>, kind: &LoopKind) -> bool
-    ensures { result ≡ fits_loop code.now next open.entry.values open.entry.bodies open.entry.loops open.entry.catches.now kind.now }
+    ensures { result ≡ fits_loop code.now next open.entry.values open.entry.bodies open.entry.loops
+        open.entry.catches.now kind.now }
 {
     let count = kind.names.len() as u128;
     can_take_values(open, count) && carries_more(code, next, without(open, count), 0, 0, 1)
@@ -87,7 +92,8 @@ fn loop_fits(code: &[Cell], next: usize, open: Open<'_>, kind: &LoopKind) -> boo
 // A loop is open, its rounds begin in the code where as much stands open, and the next cell has one loop less.
 fn round_fits(code: &[Cell], pc: usize, size: usize, open: Open<'_>) -> bool
     requires { pc + 1 < 2 ^ 64 }
-    ensures { result ≡ fits_round code.now pc size open.entry.values open.entry.bodies open.entry.loops open.entry.catches.now }
+    ensures { result ≡ fits_round code.now pc size open.entry.values open.entry.bodies open.entry.loops
+        open.entry.catches.now }
 {
     0 < open.loops
         && size <= pc

@@ -53,7 +53,8 @@ impl ContextNames {
     pub fn context_of(&self, target: &[u8]) -> Option<(usize, usize)>
         ensures context { result ≡ context_of self.now target.now }
         ensures within { IfSome result (λ found. found.0 < length self.now) }
-        ensures slash { IfSome result (λ found. (found.1 < length target.now) × (slice_index target.now found.1 ≡ 47)) }
+        ensures slash { IfSome result (λ found. (found.1 < length target.now) ×
+            (slice_index target.now found.1 ≡ 47)) }
     {
         match named(target) {
             Some((name, cut)) => place_of(&self.names, name, cut),

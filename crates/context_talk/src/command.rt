@@ -27,14 +27,17 @@ pub fn play_contexts<S: Source, K: Sink, C: Clock, L: Ledger>(
     clock: &mut C,
     steps: &mut Steps<L>,
 ) -> u8
-    ensures talk { (names : List (List ℕ)) (seed : List ℕ) → asked (map string_bytes words.now) ≡ Some (names, seed)
+    ensures talk { (names : List (List ℕ)) (seed : List ℕ) → asked (map string_bytes words.now)
+        ≡ Some (names, seed)
         → (ended : Outcome) × (result ≡ exit_status ended)
         × HasTalkedAmong names seed (C.moments clock.old) (C.moments clock.new) steps.old steps.new
-        (S.left source.old) (S.left source.new) (K.faults sink.old) (K.faults sink.new) (K.taken sink.old) (K.taken sink.new) ended }
+        (S.left source.old) (S.left source.new) (K.faults sink.old) (K.faults sink.new) (K.taken sink.old)
+        (K.taken sink.new) ended }
     ensures words { asked (map string_bytes words.now) ≡ None → (result ≡ 1) ⊎ (result ≡ 5) }
     ensures only_words { result ≡ 1 → asked (map string_bytes words.now) ≡ None }
     ensures silent { asked (map string_bytes words.now) ≡ None
-        → (source.new ≡ source.old) × (sink.new ≡ sink.old) × (clock.new ≡ clock.old) × (steps.new ≡ steps.old) }
+        → (source.new ≡ source.old) × (sink.new ≡ sink.old) × (clock.new ≡ clock.old) × (steps.new
+        ≡ steps.old) }
 
     ensures read { result ≡ 3 → Rose (S.faults source.old) (S.faults source.new) }
     ensures write { result ≡ 4 → Rose (K.faults sink.old) (K.faults sink.new) }
@@ -69,7 +72,8 @@ fn play_alone<S: Source, K: Sink, C: Clock, L: Ledger>(
     steps: &mut Steps<L>,
 ) -> Ended
     ensures talk { HasTalkedAmong names.now seed (C.moments clock.old) (C.moments clock.new) steps.old steps.new
-        (S.left source.old) (S.left source.new) (K.faults sink.old) (K.faults sink.new) (K.taken sink.old) (K.taken sink.new) result }
+        (S.left source.old) (S.left source.new) (K.faults sink.old) (K.faults sink.new) (K.taken sink.old)
+        (K.taken sink.new) result }
     ensures read { result ≡ Ended.ReadFault → Rose (S.faults source.old) (S.faults source.new) }
     ensures write { result ≡ Ended.WriteFault → Rose (K.faults sink.old) (K.faults sink.new) }
     ensures unfailing { S.unfailing source.old → (result ≢ Ended.ReadFault) × S.unfailing source.new }

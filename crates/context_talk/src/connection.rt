@@ -44,9 +44,11 @@ pub fn talk_contexts<P: Port<Made>, S: Source, K: Sink, C: Clock, L: Ledger>(
 
     // The sink took the answers to the requests that stand in the bytes that came, in their order, and nothing else.
     ensures talk { TalkedAmong names.now (connections_of P.opening P.pass P.home role ports.old.ports.items)
-        (map (λ (port : P). P.seen port) ports.old.ports.items) (map (λ (port : P). P.seen port) ports.new.ports.items)
+        (map (λ (port : P). P.seen port) ports.old.ports.items)
+        (map (λ (port : P). P.seen port) ports.new.ports.items)
         (lent_of (C.moments clock.old) steps.old) (lent_of (C.moments clock.new) steps.new)
-        (S.left source.old) (S.left source.new) (K.faults sink.old) (K.faults sink.new) (K.taken sink.old) (K.taken sink.new) result }
+        (S.left source.old) (S.left source.new) (K.faults sink.old) (K.faults sink.new) (K.taken sink.old)
+        (K.taken sink.new) result }
     ensures shown { (fault : HttpFault) → result ≡ Ended.Refused fault → IsShown fault }
 
     // A fault of the outside is told only where it was counted.
@@ -68,7 +70,8 @@ fn desks_of<P: Port<Made>, C: Clock, L: Ledger>(
     role: Role,
 ) -> Result<Vec<SiteDesk<P, C, L>>, AllocError>
     ensures count { IfOk result (λ desks. length desks.items ≡ count) }
-    ensures fresh { IfOk result (λ desks. All (λ desk. (desk.desk.role ≡ role) × (desk.desk.draft ≡ [])) desks.items) }
+    ensures fresh { IfOk result (λ desks. All (λ desk. (desk.desk.role ≡ role) × (desk.desk.draft ≡ []))
+        desks.items) }
 {
     let mut desks = Vec::with_capacity(alloc, count)?;
     for _ in 0..count {

@@ -92,7 +92,8 @@ impl<P: Compiled> Contexts<P> {
             → May site.opening site.history pass (own pass site.history) act.op }
         requires made { (site : Lived) → slice_get self.old.sites.items context ≡ Some site
             → IsMade P.made site.opening site.history (run_of (own pass site.history)) act.op (value_in act.made) }
-        ensures applies { AppliesAt P.needs P.made self.old.sites.items self.new.sites.items context pass act.op result }
+        ensures applies { AppliesAt P.needs P.made self.old.sites.items self.new.sites.items context pass act.op
+            result }
     {
         self.sites[context as usize].apply(pass, act)
     }

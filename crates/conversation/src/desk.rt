@@ -69,7 +69,10 @@ pub trait Desk {
         requires ready { ready number self.old port.old clock.old count.old }
         ensures ready { ready (number + 1) self.new port.new clock.new count.new }
         ensures world { world self.new port.new clock.new count.new ≡ world self.old port.old clock.old count.old }
-        ensures served { Served (serves (world self.old port.old clock.old count.old)) (starves (world self.old port.old clock.old count.old)) close request (state self.old port.old clock.old count.old) (state self.new port.new clock.new count.new) (K.faults sink.old) (K.faults sink.new) (K.taken sink.old) (K.taken sink.new) result }
+        ensures served { Served (serves (world self.old port.old clock.old count.old))
+            (starves (world self.old port.old clock.old count.old)) close request
+            (state self.old port.old clock.old count.old) (state self.new port.new clock.new count.new)
+            (K.faults sink.old) (K.faults sink.new) (K.taken sink.old) (K.taken sink.new) result }
         ensures later { K.faults sink.old ≤ K.faults sink.new }
         ensures failed { result ≡ Outcome.WriteFault → Rose (K.faults sink.old) (K.faults sink.new) };
 }

@@ -24,11 +24,16 @@ pub fn walk<D: Desk, S: Source, K: Sink>(
     sink: &mut K,
 ) -> Ended
     requires ready { D.ready 0 desk.old port.old clock.old count.old }
-    ensures ready { (number : ℕ) × (number ≤ MAX_REQUESTS) × D.ready number desk.new port.new clock.new count.new }
+    ensures ready { (number : ℕ) × (number ≤ MAX_REQUESTS) × D.ready number desk.new port.new clock.new
+        count.new }
     ensures world { D.world desk.new port.new clock.new count.new ≡ D.world desk.old port.old clock.old count.old }
 
     // The sink took the responses to the requests that stand in the bytes that came, and nothing else.
-    ensures talk { Tells (D.serves (D.world desk.old port.old clock.old count.old)) (D.starves (D.world desk.old port.old clock.old count.old)) (D.state desk.old port.old clock.old count.old) (D.state desk.new port.new clock.new count.new) (S.left source.old) (S.left source.new) (K.faults sink.old) (K.faults sink.new) (K.taken sink.old) (K.taken sink.new) result }
+    ensures talk { Tells (D.serves (D.world desk.old port.old clock.old count.old))
+        (D.starves (D.world desk.old port.old clock.old count.old))
+        (D.state desk.old port.old clock.old count.old) (D.state desk.new port.new clock.new count.new)
+        (S.left source.old) (S.left source.new) (K.faults sink.old) (K.faults sink.new) (K.taken sink.old)
+        (K.taken sink.new) result }
     ensures shown { (fault : HttpFault) → result ≡ Ended.Refused fault → IsShown fault }
 
     // A fault of the outside is told only where it was counted.

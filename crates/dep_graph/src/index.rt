@@ -28,7 +28,8 @@ fn compare(named: &Named, name: &Path) -> Ordering
 pub(crate) fn add_all(index: &mut Vec<Named>, names: &[Path], path: &Path) -> Result<(), AllocError>
     requires { AreRising name_of index.old.items }
     ensures ok { OnOk result (index.new.items ≡ all_indexed path.now names.now index.old.items) }
-    ensures err { OnErr result ((users : List ℕ → List (List ℕ)) → Tells index.old.items users → IsNew path.now names.now users → Tells index.new.items users) }
+    ensures err { OnErr result ((users : List ℕ → List (List ℕ)) → Tells index.old.items users →
+        IsNew path.now names.now users → Tells index.new.items users) }
     ensures order { AreRising name_of index.new.items }
 {
     match add_some(index, names, path) {
@@ -44,7 +45,8 @@ pub(crate) fn add_all(index: &mut Vec<Named>, names: &[Path], path: &Path) -> Re
 fn add_some(index: &mut Vec<Named>, names: &[Path], path: &Path) -> Result<(), usize>
     requires { AreRising name_of index.old.items }
     ensures ok { OnOk result (index.new.items ≡ all_indexed path.now names.now index.old.items) }
-    ensures err { IfErr result (λ done. (done ≤ length names.now) × (index.new.items ≡ all_indexed path.now (take done names.now) index.old.items)) }
+    ensures err { IfErr result (λ done. (done ≤ length names.now) × (index.new.items
+        ≡ all_indexed path.now (take done names.now) index.old.items)) }
     ensures order { AreRising name_of index.new.items }
 {
     for at in 0..names.len() {
@@ -74,7 +76,11 @@ fn add(index: &mut Vec<Named>, name: &Path, path: &Path) -> Result<(), AllocErro
 }
 
 fn add_user(named: &mut Named, path: &Path) -> Result<(), AllocError>
-    ensures ok { OnOk result (named.new ≡ record { name = named.old.name; users = with_name path.now named.old.users }) }
+    ensures ok { OnOk result (named.new ≡ record {
+      name = named.old.name;
+      users = with_name path.now
+          named.old.users;
+    }) }
     ensures err { OnErr result (named.new ≡ named.old) }
 {
     named.users.insert(path.copy()?)

@@ -27,7 +27,9 @@ pub(crate) fn not_taken<K: Sink>(
     sink: &mut K,
 ) -> Outcome
     requires other { takes_method request.now.method ≡ false }
-    ensures served { (needs : Needs) (x : Opening) (pass : ℕ) (at : Standing) → Served (λ close old e new. Answers needs x pass e.request close old e.text e.broken new) (λ close old asked text new. Drops needs x pass asked close old text new)
+    ensures served { (needs : Needs) (x : Opening) (pass : ℕ) (at : Standing) →
+        Served (λ close old e new. Answers needs x pass e.request close old e.text e.broken new)
+        (λ close old asked text new. Drops needs x pass asked close old text new)
         close request.now at at (K.faults sink.old) (K.faults sink.new) (K.taken sink.old) (K.taken sink.new) result }
     ensures later { K.faults sink.old ≤ K.faults sink.new }
     ensures failed { result ≡ Outcome.WriteFault → Rose (K.faults sink.old) (K.faults sink.new) }
@@ -57,7 +59,10 @@ pub(crate) fn full<K: Sink>(
 ) -> Outcome
     requires taken { takes_method request.now.method ≡ true }
     requires full { IsFull refusal.now }
-    ensures served { (needs : Needs) (x : Opening) (pass : ℕ) (old new : Standing) → IsTurnedAway needs x pass request.now refusal.now old new → Served (λ close old e new. Answers needs x pass e.request close old e.text e.broken new) (λ close old asked text new. Drops needs x pass asked close old text new)
+    ensures served { (needs : Needs) (x : Opening) (pass : ℕ) (old new : Standing) →
+        IsTurnedAway needs x pass request.now refusal.now old new →
+        Served (λ close old e new. Answers needs x pass e.request close old e.text e.broken new)
+        (λ close old asked text new. Drops needs x pass asked close old text new)
         close request.now old new (K.faults sink.old) (K.faults sink.new) (K.taken sink.old) (K.taken sink.new) result }
     ensures later { K.faults sink.old ≤ K.faults sink.new }
     ensures failed { result ≡ Outcome.WriteFault → Rose (K.faults sink.old) (K.faults sink.new) }
@@ -76,7 +81,8 @@ pub(crate) fn full<K: Sink>(
 // The line of a refusal that tells a full journal.
 fn line_of(alloc: Global, refusal: &Refusal) -> Result<Vec<u8>, AllocError>
     requires full { IsFull refusal.now }
-    ensures line { (weight promised : ℕ) → refusal.now ≡ Refusal.JournalFull weight promised → IfOk result (λ line. line.items ≡ full_line weight promised) }
+    ensures line { (weight promised : ℕ) → refusal.now ≡ Refusal.JournalFull weight promised →
+        IfOk result (λ line. line.items ≡ full_line weight promised) }
 {
     let Refusal::JournalFull { weight, promised } = refusal else {
         unreachable!()

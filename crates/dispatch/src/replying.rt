@@ -29,8 +29,11 @@ pub(crate) fn write_reply<K: Sink>(
     shown: bool,
     sink: &mut K,
 ) -> Result<Outcome, AllocError>
-    ensures wrote { (origin : Origin) (scopes : ScopeState) (asking : Asking) (s : State) → Reached origin scopes writer (K.taken sink.old) (K.faults sink.old) around.now asking s → IsHeaded close shown around.now writer → IsReplyOpen reply s.writer.pieces
-        → Wrote origin.start origin.before (wire (closing close (response_in writer reply s)) shown) (response_in writer reply s).broken s.writer.pieces (K.taken sink.new) (K.faults sink.new) result }
+    ensures wrote { (origin : Origin) (scopes : ScopeState) (asking : Asking) (s : State) →
+        Reached origin scopes writer (K.taken sink.old) (K.faults sink.old) around.now asking s →
+        IsHeaded close shown around.now writer → IsReplyOpen reply s.writer.pieces
+        → Wrote origin.start origin.before (wire (closing close (response_in writer reply s)) shown)
+        (response_in writer reply s).broken s.writer.pieces (K.taken sink.new) (K.faults sink.new) result }
     ensures later { K.faults sink.old ≤ K.faults sink.new }
 {
     match reply {

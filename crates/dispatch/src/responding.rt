@@ -33,9 +33,14 @@ pub fn respond<Q: Port<Made>, K: Sink, C: Clock, L: Ledger>(
     requires idle { IsIdle (Q.opening port.old) (Q.pass port.old) (Q.seen port.old) }
     requires cookie { length request.now.cookie ≤ SESSION_ID_BYTES }
     ensures idle { IsIdle (Q.opening port.new) (Q.pass port.new) (Q.seen port.new) }
-    ensures same { IsSamePort (Q.pass port.old) (Q.pass port.new) (Q.opening port.old) (Q.opening port.new) (Q.home port.old) (Q.home port.new) }
-    ensures served { Served (λ close old e new. Answers needs_at (Q.opening port.old) (Q.pass port.old) e.request close old e.text e.broken new) (λ close old asked text new. Drops needs_at (Q.opening port.old) (Q.pass port.old) asked close old text new)
-        close request.now (standing_of (Q.seen port.old) (C.moments clock.old) steps.old) (standing_of (Q.seen port.new) (C.moments clock.new) steps.new) (K.faults sink.old) (K.faults sink.new) (K.taken sink.old) (K.taken sink.new) result }
+    ensures same { IsSamePort (Q.pass port.old) (Q.pass port.new) (Q.opening port.old) (Q.opening port.new)
+        (Q.home port.old) (Q.home port.new) }
+    ensures served { Served (λ close old e new. Answers needs_at (Q.opening port.old) (Q.pass port.old)
+        e.request close old e.text e.broken new) (λ close old asked text new.
+        Drops needs_at (Q.opening port.old) (Q.pass port.old) asked close old text new)
+        close request.now (standing_of (Q.seen port.old) (C.moments clock.old) steps.old)
+        (standing_of (Q.seen port.new) (C.moments clock.new) steps.new) (K.faults sink.old)
+        (K.faults sink.new) (K.taken sink.old) (K.taken sink.new) result }
     ensures later { K.faults sink.old ≤ K.faults sink.new }
     ensures failed { result ≡ Outcome.WriteFault → Rose (K.faults sink.old) (K.faults sink.new) }
 {

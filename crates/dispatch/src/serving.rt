@@ -54,11 +54,18 @@ pub(crate) fn serve<Q: Port<Made>, K: Sink, L: Ledger>(
     steps: &mut Steps<L>,
 ) -> Outcome
     requires starts { StartsWith (after needs_at (Q.opening port.old) (Q.seen port.old)) (Did begun) }
-    requires opened { IsOpened (Q.opening port.old) (Q.pass port.old) (Q.seen port.old) begun.request begun.session (arc_value begun.tree) }
+    requires opened { IsOpened (Q.opening port.old) (Q.pass port.old) (Q.seen port.old) begun.request
+        begun.session (arc_value begun.tree) }
     ensures idle { IsIdle (Q.opening port.new) (Q.pass port.new) (Q.seen port.new) }
-    ensures same { IsSamePort (Q.pass port.old) (Q.pass port.new) (Q.opening port.old) (Q.opening port.new) (Q.home port.old) (Q.home port.new) }
-    ensures came { (old : Standing) (moments : Moments) → let p : Start = started request.now close (shows_body request.now.method) begun.request (arc_value begun.tree) (found request.now.cookie begun.session begun.attrs) (Q.seen port.old) steps.old (K.taken sink.old) (K.faults sink.old) in
-        HasBegun (Q.opening port.old) (Q.pass port.old) old moments p → Came (Q.opening port.old) (Q.pass port.old) old moments p (Q.seen port.new) steps.new (K.taken sink.new) (K.faults sink.new) result }
+    ensures same { IsSamePort (Q.pass port.old) (Q.pass port.new) (Q.opening port.old) (Q.opening port.new)
+        (Q.home port.old) (Q.home port.new) }
+    ensures came { (old : Standing) (moments : Moments) →
+        let p : Start = started request.now close (shows_body request.now.method) begun.request
+        (arc_value begun.tree) (found request.now.cookie begun.session begun.attrs) (Q.seen port.old) steps.old
+        (K.taken sink.old) (K.faults sink.old) in
+        HasBegun (Q.opening port.old) (Q.pass port.old) old moments p →
+        Came (Q.opening port.old) (Q.pass port.old) old moments p (Q.seen port.new) steps.new
+        (K.taken sink.new) (K.faults sink.new) result }
     ensures later { K.faults sink.old ≤ K.faults sink.new }
     ensures failed { result ≡ outcome.WriteFault → Rose (K.faults sink.old) (K.faults sink.new) }
 {
@@ -104,12 +111,20 @@ fn run<'a, Q: Port<Made>, K: Sink, L: Ledger>(
     sink: &mut K,
     steps: &'a mut Steps<L>,
 ) -> Result<Reply, AllocError>
-    requires opened { (session : Option ℕ) × (attrs : List (List ℕ × Datum)) × IsOpened (Q.opening port.old) (Q.pass port.old) (Q.seen port.old) number session tree.now × IsBegun request.now.cookie session attrs close shown course.old × (attrs_weight attrs ≤ attrs_limit) }
-    ensures same { IsSamePort (Q.pass port.old) (Q.pass port.new) (Q.opening port.old) (Q.opening port.new) (Q.home port.old) (Q.home port.new) }
+    requires opened { (session : Option ℕ) × (attrs : List (List ℕ × Datum)) × IsOpened
+        (Q.opening port.old) (Q.pass port.old) (Q.seen port.old) number session tree.now × IsBegun
+        request.now.cookie session attrs close shown course.old × (attrs_weight attrs ≤ attrs_limit) }
+    ensures same { IsSamePort (Q.pass port.old) (Q.pass port.new) (Q.opening port.old) (Q.opening port.new)
+        (Q.home port.old) (Q.home port.new) }
     ensures under { (now : Run) × Under (Q.opening port.new) (Q.pass port.new) (Q.seen port.new) number tree.now now }
-    ensures ran { (session : Option ℕ) (attrs : List (List ℕ × Datum)) → IsBegun request.now.cookie session attrs close shown course.old
-        → RunsSo (Q.opening port.old) (Q.pass port.old) (started request.now close shown number tree.now (found request.now.cookie session attrs) (Q.seen port.old) steps.old (K.taken sink.old) (K.faults sink.old)) (Q.seen port.new) steps.new course.new (K.taken sink.new) (K.faults sink.new) result }
-    ensures in_order { OnOk result (IsInOrder course.new.scopes course.new.around (asking_of (Q.opening port.new) (Q.pass port.new) (Q.seen port.new) number tree.now)) }
+    ensures ran { (session : Option ℕ) (attrs : List (List ℕ × Datum)) →
+        IsBegun request.now.cookie session attrs close shown course.old
+        → RunsSo (Q.opening port.old) (Q.pass port.old) (started request.now close shown number tree.now
+        (found request.now.cookie session attrs) (Q.seen port.old) steps.old (K.taken sink.old)
+        (K.faults sink.old)) (Q.seen port.new) steps.new course.new (K.taken sink.new) (K.faults sink.new)
+        result }
+    ensures in_order { OnOk result (IsInOrder course.new.scopes course.new.around
+        (asking_of (Q.opening port.new) (Q.pass port.new) (Q.seen port.new) number tree.now)) }
     ensures later { K.faults sink.old ≤ K.faults sink.new }
 {
     port.law();
@@ -164,13 +179,21 @@ fn finish<Q: Port<Made>, K: Sink>(
     shown: bool,
     sink: &mut K,
 ) -> Outcome
-    requires ends { May (Q.opening port.old) (Q.seen port.old) (Q.pass port.old) (own (Q.pass port.old) (Q.seen port.old)) (op.End number (unwrap_or course.scopes.session [])) }
-    requires drops { May (Q.opening port.old) (Q.seen port.old) (Q.pass port.old) (own (Q.pass port.old) (Q.seen port.old)) (op.Abandon number) }
+    requires ends { May (Q.opening port.old) (Q.seen port.old) (Q.pass port.old)
+        (own (Q.pass port.old) (Q.seen port.old)) (op.End number (unwrap_or course.scopes.session [])) }
+    requires drops { May (Q.opening port.old) (Q.seen port.old) (Q.pass port.old)
+        (own (Q.pass port.old) (Q.seen port.old)) (op.Abandon number) }
     ensures idle { IsIdle (Q.opening port.new) (Q.pass port.new) (Q.seen port.new) }
-    ensures same { IsSamePort (Q.pass port.old) (Q.pass port.new) (Q.opening port.old) (Q.opening port.new) (Q.home port.old) (Q.home port.new) }
-    ensures came { (p : Start) (old : Standing) (moments : Moments) (now : ℕ) → IsAt p number close shown → HasBegun (Q.opening port.old) (Q.pass port.old) old moments p
-        → Replies (Q.opening port.old) (Q.pass port.old) p (Q.seen port.old) now course (K.taken sink.old) (K.faults sink.old) reply → Came (Q.opening port.old) (Q.pass port.old) old moments p (Q.seen port.new) now (K.taken sink.new) (K.faults sink.new) result }
-    ensures failed { (p : Start) (now : ℕ) → IsAt p number close shown → Replies (Q.opening port.old) (Q.pass port.old) p (Q.seen port.old) now course (K.taken sink.old) (K.faults sink.old) reply → result ≡ outcome.WriteFault → Rose p.faults (K.faults sink.new) }
+    ensures same { IsSamePort (Q.pass port.old) (Q.pass port.new) (Q.opening port.old) (Q.opening port.new)
+        (Q.home port.old) (Q.home port.new) }
+    ensures came { (p : Start) (old : Standing) (moments : Moments) (now : ℕ) →
+        IsAt p number close shown → HasBegun (Q.opening port.old) (Q.pass port.old) old moments p
+        → Replies (Q.opening port.old) (Q.pass port.old) p (Q.seen port.old) now course (K.taken sink.old)
+        (K.faults sink.old) reply → Came (Q.opening port.old) (Q.pass port.old) old moments p
+        (Q.seen port.new) now (K.taken sink.new) (K.faults sink.new) result }
+    ensures failed { (p : Start) (now : ℕ) → IsAt p number close shown →
+        Replies (Q.opening port.old) (Q.pass port.old) p (Q.seen port.old) now course (K.taken sink.old)
+        (K.faults sink.old) reply → result ≡ outcome.WriteFault → Rose p.faults (K.faults sink.new) }
     ensures later { K.faults sink.old ≤ K.faults sink.new }
 {
     let Course {
@@ -196,12 +219,19 @@ fn give_up<Q: Port<Made>, K: Sink>(
     shown: bool,
     sink: &mut K,
 ) -> Outcome
-    requires drops { May (Q.opening port.old) (Q.seen port.old) (Q.pass port.old) (own (Q.pass port.old) (Q.seen port.old)) (op.Abandon number) }
+    requires drops { May (Q.opening port.old) (Q.seen port.old) (Q.pass port.old)
+        (own (Q.pass port.old) (Q.seen port.old)) (op.Abandon number) }
     ensures idle { IsIdle (Q.opening port.new) (Q.pass port.new) (Q.seen port.new) }
-    ensures same { IsSamePort (Q.pass port.old) (Q.pass port.new) (Q.opening port.old) (Q.opening port.new) (Q.home port.old) (Q.home port.new) }
-    ensures came { (p : Start) (old : Standing) (moments : Moments) (now : ℕ) (course : Course') (ran : Ran (Q.opening port.old) (Q.pass port.old) p (Q.seen port.old) course (K.taken sink.old) (K.faults sink.old)) → IsAt p number close shown
-        → HasBegun (Q.opening port.old) (Q.pass port.old) old moments p → committed ≡ course.writer.committed → Starves (Q.opening port.old) (Q.pass port.old) p (Q.seen port.old) now course.writer.head ran.after
-        → Came (Q.opening port.old) (Q.pass port.old) old moments p (Q.seen port.new) now (K.taken sink.new) (K.faults sink.new) result }
+    ensures same { IsSamePort (Q.pass port.old) (Q.pass port.new) (Q.opening port.old) (Q.opening port.new)
+        (Q.home port.old) (Q.home port.new) }
+    ensures came { (p : Start) (old : Standing) (moments : Moments) (now : ℕ) (course : Course')
+        (ran : Ran (Q.opening port.old) (Q.pass port.old) p (Q.seen port.old) course (K.taken sink.old)
+        (K.faults sink.old)) → IsAt p number close shown
+        → HasBegun (Q.opening port.old) (Q.pass port.old) old moments p →
+        committed ≡ course.writer.committed →
+        Starves (Q.opening port.old) (Q.pass port.old) p (Q.seen port.old) now course.writer.head ran.after
+        → Came (Q.opening port.old) (Q.pass port.old) old moments p (Q.seen port.new) now (K.taken sink.new)
+        (K.faults sink.new) result }
     ensures outcome { result ≡ outcome.NoMemory }
     ensures later { K.faults sink.old ≤ K.faults sink.new }
 {
@@ -220,12 +250,18 @@ fn abandon<Q: Port<Made>, K: Sink>(
     shown: bool,
     sink: &mut K,
 ) -> Outcome
-    requires drops { May (Q.opening port.old) (Q.seen port.old) (Q.pass port.old) (own (Q.pass port.old) (Q.seen port.old)) (op.Abandon number) }
+    requires drops { May (Q.opening port.old) (Q.seen port.old) (Q.pass port.old)
+        (own (Q.pass port.old) (Q.seen port.old)) (op.Abandon number) }
     ensures idle { IsIdle (Q.opening port.new) (Q.pass port.new) (Q.seen port.new) }
-    ensures same { IsSamePort (Q.pass port.old) (Q.pass port.new) (Q.opening port.old) (Q.opening port.new) (Q.home port.old) (Q.home port.new) }
-    ensures came { (p : Start) (old : Standing) (moments : Moments) (now : ℕ) (head : Head) (reached : State) → IsAt p number close shown → HasBegun (Q.opening port.old) (Q.pass port.old) old moments p
-        → Starves (Q.opening port.old) (Q.pass port.old) p (Q.seen port.old) now head reached → reached.writer.pieces ≡ [] → HasTaken p.taken p.faults [] false (K.taken sink.old) (K.faults sink.old)
-        → Came (Q.opening port.old) (Q.pass port.old) old moments p (Q.seen port.new) now (K.taken sink.new) (K.faults sink.new) result }
+    ensures same { IsSamePort (Q.pass port.old) (Q.pass port.new) (Q.opening port.old) (Q.opening port.new)
+        (Q.home port.old) (Q.home port.new) }
+    ensures came { (p : Start) (old : Standing) (moments : Moments) (now : ℕ) (head : Head)
+        (reached : State) → IsAt p number close shown →
+        HasBegun (Q.opening port.old) (Q.pass port.old) old moments p
+        → Starves (Q.opening port.old) (Q.pass port.old) p (Q.seen port.old) now head reached →
+        reached.writer.pieces ≡ [] → HasTaken p.taken p.faults [] false (K.taken sink.old) (K.faults sink.old)
+        → Came (Q.opening port.old) (Q.pass port.old) old moments p (Q.seen port.new) now (K.taken sink.new)
+        (K.faults sink.new) result }
     ensures outcome { result ≡ outcome.NoMemory }
     ensures later { K.faults sink.old ≤ K.faults sink.new }
 {

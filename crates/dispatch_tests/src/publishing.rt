@@ -78,10 +78,15 @@ impl<'a, P: Port<Made>, Q: Port<Made>> Port<Made> for Publishing<'a, P, Q> {
     }
 
     fn offer(&mut self, request: u64, path: &Path, made: Arc<Made>) -> Result<bool, AllocError>
-        requires may { May (P.opening self.old.port) (P.seen self.old.port) (P.pass self.old.port) (own (P.pass self.old.port) (P.seen self.old.port)) (op.Offer request path.now) }
-        requires made { ForRun (P.opening self.old.port) (P.seen self.old.port) (run_of (own (P.pass self.old.port) (P.seen self.old.port))) (λ tree. IsMade (arc_value made) tree path.now) }
-        ensures same { IsSamePort (P.pass self.old.port) (P.pass self.new.port) (P.opening self.old.port) (P.opening self.new.port) (P.home self.old.port) (P.home self.new.port) }
-        ensures call { Calls needs_at (P.opening self.old.port) (P.pass self.old.port) (P.seen self.old.port) (P.seen self.new.port) (op.Offer request path.now) (of_offered result) }
+        requires may { May (P.opening self.old.port) (P.seen self.old.port) (P.pass self.old.port)
+            (own (P.pass self.old.port) (P.seen self.old.port)) (op.Offer request path.now) }
+        requires made { ForRun (P.opening self.old.port) (P.seen self.old.port)
+            (run_of (own (P.pass self.old.port) (P.seen self.old.port)))
+            (λ tree. IsMade (arc_value made) tree path.now) }
+        ensures same { IsSamePort (P.pass self.old.port) (P.pass self.new.port) (P.opening self.old.port)
+            (P.opening self.new.port) (P.home self.old.port) (P.home self.new.port) }
+        ensures call { Calls needs_at (P.opening self.old.port) (P.pass self.old.port) (P.seen self.old.port)
+            (P.seen self.new.port) (op.Offer request path.now) (of_offered result) }
     {
         self.port.offer(request, path, made)
     }

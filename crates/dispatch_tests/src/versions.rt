@@ -53,7 +53,8 @@ fn port_of<'a, R: Wait>(
     requires idle { All (λ pass. IsIdle site.now.opening pass.number pass.seen) passes.old.items }
     ensures from { All (IsPassOf site.now) passes.new.items }
     ensures still { All (λ pass. IsIdle site.now.opening pass.number pass.seen) passes.new.items }
-    ensures idle { IfSome result (λ port. IsIdle port.actor.site.now.opening port.actor.pass.number port.actor.pass.seen) }
+    ensures idle { IfSome result (λ port. IsIdle port.actor.site.now.opening port.actor.pass.number
+        port.actor.pass.seen) }
 {
     let pass = passes.pop()?;
     Some(site.port(rt, pass))

@@ -21,7 +21,8 @@ pub(crate) fn is_file_target(target: &[u8]) -> bool
 #[tactic(auto, using(crate::proofs::TargetLemmas::file_target_is_long))]
 pub(crate) fn file_path(alloc: Global, target: &[u8]) -> Result<Path, Failure<EditorFault>>
     requires { is_file_target target.now ≡ true }
-    ensures { Answers (if is_file_path (named_path target.now) then Ok (named_path target.now) else Err EditorFault.BadPath) result }
+    ensures { Answers (if is_file_path (named_path target.now) then Ok (named_path target.now)
+        else Err EditorFault.BadPath) result }
 {
     let mut decoded = Vec::new(alloc);
     percent_decode(&target[FILES.len() - 1..]).append_to(&mut decoded)?;

@@ -21,8 +21,10 @@ pub fn take<P: Compiled, Q: Port<P>>(
     port: &mut Q,
 ) -> Result<EditorAnswer, Failure<EditorFault>>
     requires pass { Q.pass port.old < (Q.opening port.old).passes }
-    ensures same { IsSamePort (Q.pass port.old) (Q.pass port.new) (Q.opening port.old) (Q.opening port.new) (Q.home port.old) (Q.home port.new) }
-    ensures taken { Takes P.needs (Q.opening port.old) (Q.pass port.old) (message request.now) draft.old draft.new (Q.seen port.old) (Q.seen port.new) result }
+    ensures same { IsSamePort (Q.pass port.old) (Q.pass port.new) (Q.opening port.old) (Q.opening port.new)
+        (Q.home port.old) (Q.home port.new) }
+    ensures taken { Takes P.needs (Q.opening port.old) (Q.pass port.old) (message request.now)
+        draft.old draft.new (Q.seen port.old) (Q.seen port.new) result }
 {
     port.law();
     match read_message(alloc, request) {
@@ -67,8 +69,10 @@ fn publish<P: Compiled, Q: Port<P>>(
     port: &mut Q,
 ) -> Result<EditorAnswer, Failure<EditorFault>>
     requires pass { Q.pass port.old < (Q.opening port.old).passes }
-    ensures same { IsSamePort (Q.pass port.old) (Q.pass port.new) (Q.opening port.old) (Q.opening port.new) (Q.home port.old) (Q.home port.new) }
-    ensures published { Publishes P.needs (Q.opening port.old) (Q.pass port.old) base draft.old draft.new (Q.seen port.old) (Q.seen port.new) result }
+    ensures same { IsSamePort (Q.pass port.old) (Q.pass port.new) (Q.opening port.old) (Q.opening port.new)
+        (Q.home port.old) (Q.home port.new) }
+    ensures published { Publishes P.needs (Q.opening port.old) (Q.pass port.old) base draft.old draft.new
+        (Q.seen port.old) (Q.seen port.new) result }
 {
     match port.publish(base, draft.edits()) {
         Acted::Did(published) => {

@@ -15,7 +15,8 @@ use std::alloc::{AllocError, Global};
 #[tactic(auto, using(crate::proofs::Printed::reads_back))]
 pub fn to_text(alloc: Global, value: &Value) -> Result<Text, Failure<RunFault>>
     ensures text { Answers (text_of (datum_of value.now)) result }
-    ensures reads_back { (n : ℤ) → FitsSigned w64 n → value.now ≡ Value.Int n → IfOk result (λ text. number_of_text text ≡ Ok n) }
+    ensures reads_back { (n : ℤ) → FitsSigned w64 n → value.now ≡ Value.Int n →
+        IfOk result (λ text. number_of_text text ≡ Ok n) }
 {
     match value {
         Value::Null => Ok(Text::new(String::new(alloc))?),
@@ -72,7 +73,8 @@ fn write_value(alloc: Global, value: &Value, text: &mut String) -> Result<(), Al
 #[cycle(write)]
 #[tactic(auto, using(pg_value::proofs::Sizes::sizes, crate::proofs::Joined::joined), unfolding(crate::specs::Text::null_text, crate::specs::Text::true_text, crate::specs::Text::false_text))]
 fn write_items(alloc: Global, items: &[Value], text: &mut String) -> Result<(), AllocError>
-    ensures { OnOk result (string_bytes text.new ≡ string_bytes text.old ++ items_text (items_of (map datum_of items.now))) }
+    ensures { OnOk result (string_bytes text.new ≡ string_bytes text.old ++ items_text
+        (items_of (map datum_of items.now))) }
 {
     for (i, item) in items.iter().enumerate() {
         separate(i, text)?;
@@ -88,7 +90,8 @@ fn write_entries(
     entries: &[(Text, Value)],
     text: &mut String,
 ) -> Result<(), AllocError>
-    ensures { OnOk result (string_bytes text.new ≡ string_bytes text.old ++ entries_text (entries_of (map entry_of entries.now))) }
+    ensures { OnOk result (string_bytes text.new ≡ string_bytes text.old ++ entries_text
+        (entries_of (map entry_of entries.now))) }
 {
     for (i, (key, value)) in entries.iter().enumerate() {
         separate(i, text)?;

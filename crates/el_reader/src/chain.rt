@@ -32,7 +32,8 @@ impl<'a> Chain<'a> {
         ensures whole { IfOk result (λ chain. chained (tree_of chain.first.now) chain.links.items ≡ tree_of el.now) }
         ensures first { IfOk result (λ chain. leans (tree_of chain.first.now) ≡ false) }
         ensures first_depth { IfOk result (λ chain. size-El chain.first.now ≤ size-El el.now) }
-        ensures link_depths { IfOk result (λ chain. All (λ link. size-El (right_of link) < size-El el.now) chain.links.items) }
+        ensures link_depths { IfOk result (λ chain. All (λ link. size-El (right_of link) < size-El el.now)
+            chain.links.items) }
     {
         let mut first = el;
         let mut links = Vec::new(alloc);

@@ -24,7 +24,8 @@ pub(crate) fn call(
     count: usize,
     arguments: Code,
 ) -> Result<Code, AllocError>
-    ensures { IfOk result (λ code. code ≡ form_code ground.now (visits 1 place.now) ++ call_code ground.now place.now (function_named name.now) count arguments) }
+    ensures { IfOk result (λ code. code ≡ form_code ground.now (visits 1 place.now)
+        ++ call_code ground.now place.now (function_named name.now) count arguments) }
 {
     match Function::of_name(name) {
         Some(function) => called(alloc, ground, place, function, count, arguments),
@@ -42,7 +43,8 @@ fn called(
     arguments: Code,
 ) -> Result<Code, AllocError>
     ensures { IfOk result (λ code. code ≡ form_code ground.now (visits 1 place.now)
-        ++ (arguments ++ (form_code ground.now (fitted place.now count (arity_of function)) ++ form_code ground.now (does (op.Call function) place.now)))) }
+        ++ (arguments ++ (form_code ground.now (fitted place.now count (arity_of function))
+        ++ form_code ground.now (does (op.Call function) place.now)))) }
 {
     let mut rest = fitted(alloc, ground, place, count, function.arity())?;
     rest.join(operation(alloc, ground, place, Op::Call(function))?)?;
@@ -54,7 +56,8 @@ fn called(
 
 // The code of the call of a function that there isn't.
 fn unknown(alloc: Global, ground: &Shape, place: &Place) -> Result<Code, AllocError>
-    ensures { IfOk result (λ code. code ≡ form_code ground.now (visits 1 place.now) ++ form_code ground.now (constant place.now null)) }
+    ensures { IfOk result (λ code. code ≡ form_code ground.now (visits 1 place.now) ++ form_code ground.now
+        (constant place.now null)) }
 {
     let mut code = visits(alloc, ground, place, 1)?;
     code.join(constant(alloc, ground, place, Value::Null)?)?;

@@ -39,7 +39,8 @@ fn object_or_variable(
     place: &Place,
     name: &Text,
 ) -> Result<Code, AllocError>
-    ensures { IfOk result (λ code. code ≡ form_code ground.now (name_form place.now name.now (implicit_named name.now))) }
+    ensures { IfOk result (λ code. code ≡ form_code ground.now
+        (name_form place.now name.now (implicit_named name.now))) }
 {
     match implicit_named(name.as_str()) {
         Some(object) => operation(alloc, ground, place, Op::Implicit(object)),
@@ -65,7 +66,8 @@ pub(crate) fn entry(
     place: &Place,
     value: &El,
 ) -> Result<Option<Code>, AllocError>
-    ensures { IfOk result (λ entry. entry ≡ option_map (λ object. form_code ground.now (entry_form place.now object)) (keyed_object (tree_of value.now))) }
+    ensures { IfOk result (λ entry. entry ≡ option_map
+        (λ object. form_code ground.now (entry_form place.now object)) (keyed_object (tree_of value.now))) }
 {
     match value {
         El::Name(name) => entry_named(alloc, ground, place, name.as_str()),
@@ -87,7 +89,8 @@ fn entry_named(
     place: &Place,
     name: &str,
 ) -> Result<Option<Code>, AllocError>
-    ensures { IfOk result (λ entry. entry ≡ option_map (λ object. form_code ground.now (entry_form place.now object)) (keyed_object (named name.now))) }
+    ensures { IfOk result (λ entry. entry ≡ option_map
+        (λ object. form_code ground.now (entry_form place.now object)) (keyed_object (named name.now))) }
 {
     match implicit_named(name) {
         Some(object) => entry_of(alloc, ground, place, object),

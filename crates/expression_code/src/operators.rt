@@ -25,7 +25,8 @@ pub(crate) fn literal(
     place: &Place,
     value: &Value,
 ) -> Result<Code, AllocError>
-    ensures { IfOk result (λ code. code ≡ form_code ground.now (tree_form place.now (literal (datum_of value.now)))) }
+    ensures { IfOk result (λ code. code ≡ form_code ground.now
+        (tree_form place.now (literal (datum_of value.now)))) }
 {
     let mut code = visits(alloc, ground, place, 1)?;
     code.join(constant(alloc, ground, place, value.copy()?)?)?;
@@ -43,7 +44,8 @@ pub(crate) fn made_of(
     values: Code,
     op: Op,
 ) -> Result<Code, AllocError>
-    ensures { IfOk result (λ code. code ≡ form_code ground.now (visits 1 place.now) ++ (values ++ form_code ground.now (does op place.now))) }
+    ensures { IfOk result (λ code. code ≡ form_code ground.now (visits 1 place.now)
+        ++ (values ++ form_code ground.now (does op place.now))) }
 {
     let mut code = visits(alloc, ground, place, 1)?;
     code.join(values)?;
@@ -61,7 +63,8 @@ pub(crate) fn choice(
     other: Code,
 ) -> Result<Code, AllocError>
     ensures { IfOk result (λ code. code ≡ form_code ground.now (visits 1 place.now)
-        ++ ((condition ++ form_code ground.now (coerces coercion.Truth place.now)) ++ either_code (up 1 ground.now) (up 1 ground.now) place.now (instr.JumpIf false) one other)) }
+        ++ ((condition ++ form_code ground.now (coerces coercion.Truth place.now)) ++ either_code
+        (up 1 ground.now) (up 1 ground.now) place.now (instr.JumpIf false) one other)) }
 {
     let mut code = visits(alloc, ground, place, 1)?;
     code.join(condition)?;
@@ -78,8 +81,10 @@ pub(crate) fn and_then(
     place: &Place,
     right: Code,
 ) -> Result<Code, AllocError>
-    ensures { IfOk result (λ code. code ≡ form_code ground.now (coerces coercion.Truth place.now) ++ either_code (up 1 ground.now) (up 1 ground.now) place.now (instr.JumpIf false)
-        (right ++ form_code ground.now (coerces coercion.Truth place.now)) (form_code ground.now (constant place.now (truth false)))) }
+    ensures { IfOk result (λ code. code ≡ form_code ground.now (coerces coercion.Truth place.now)
+        ++ either_code (up 1 ground.now) (up 1 ground.now) place.now (instr.JumpIf false)
+        (right ++ form_code ground.now (coerces coercion.Truth place.now))
+        (form_code ground.now (constant place.now (truth false)))) }
 {
     let mut right = right;
     right.join(coercion(alloc, ground, place, Coercion::Truth)?)?;
@@ -94,8 +99,10 @@ pub(crate) fn or_else(
     place: &Place,
     right: Code,
 ) -> Result<Code, AllocError>
-    ensures { IfOk result (λ code. code ≡ form_code ground.now (coerces coercion.Truth place.now) ++ either_code (up 1 ground.now) (up 1 ground.now) place.now (instr.JumpIf false)
-        (form_code ground.now (constant place.now (truth true))) (right ++ form_code ground.now (coerces coercion.Truth place.now))) }
+    ensures { IfOk result (λ code. code ≡ form_code ground.now (coerces coercion.Truth place.now)
+        ++ either_code (up 1 ground.now) (up 1 ground.now) place.now (instr.JumpIf false)
+        (form_code ground.now (constant place.now (truth true)))
+        (right ++ form_code ground.now (coerces coercion.Truth place.now))) }
 {
     let mut right = right;
     right.join(coercion(alloc, ground, place, Coercion::Truth)?)?;
@@ -111,7 +118,8 @@ fn decided(
     one: Code,
     other: Code,
 ) -> Result<Code, AllocError>
-    ensures { IfOk result (λ code. code ≡ form_code ground.now (coerces coercion.Truth place.now) ++ either_code (up 1 ground.now) (up 1 ground.now) place.now (instr.JumpIf false) one other) }
+    ensures { IfOk result (λ code. code ≡ form_code ground.now (coerces coercion.Truth place.now)
+        ++ either_code (up 1 ground.now) (up 1 ground.now) place.now (instr.JumpIf false) one other) }
 {
     let mut code = coercion(alloc, ground, place, Coercion::Truth)?;
     let test = ground.up(1)?;

@@ -46,7 +46,8 @@ fn visit_each(
     place: &Place,
     count: usize,
 ) -> Result<Code, AllocError>
-    ensures { IfOk result (λ code. code ≡ replicate count (cell (up 0 ground.now) place.now (instr.Op (op.Visit 1)))) }
+    ensures { IfOk result (λ code. code ≡ replicate count
+        (cell (up 0 ground.now) place.now (instr.Op (op.Visit 1)))) }
 {
     let before = ground.up(0)?;
     let mut code = Code::new(alloc);
@@ -105,7 +106,8 @@ fn first_link(
     link: &Link,
 ) -> Result<Code, AllocError>
     requires { leans (tree_of value.now) ≡ false }
-    ensures { IfOk result (λ code. code ≡ form_code ground.now (tree_form place.now (linked (tree_of value.now) link.now))) }
+    ensures { IfOk result (λ code. code ≡ form_code ground.now
+        (tree_form place.now (linked (tree_of value.now) link.now))) }
 {
     match link {
         Link::Key(key) => match entry(alloc, ground, place, value)? {
@@ -129,7 +131,9 @@ fn whole_link(
     link: &Link,
 ) -> Result<Code, AllocError>
     requires { leans (tree_of value.now) ≡ false }
-    ensures { IfOk result (λ code. code ≡ form_code ground.now (visits 1 place.now) ++ (form_code ground.now (tree_form place.now (tree_of value.now)) ++ form_code ground.now (link_form place.now link.now))) }
+    ensures { IfOk result (λ code. code ≡ form_code ground.now (visits 1 place.now)
+        ++ (form_code ground.now (tree_form place.now (tree_of value.now)) ++ form_code ground.now
+        (link_form place.now link.now))) }
 {
     let mut code = visits(alloc, ground, place, 1)?;
     code.join(operand(alloc, ground, place, value)?)?;
@@ -172,7 +176,8 @@ fn expressions(
     place: &Place,
     items: &[El],
 ) -> Result<Code, AllocError>
-    ensures { IfOk result (λ code. code ≡ form_code ground.now (trees_form place.now (trees_of (map tree_of items.now)))) }
+    ensures { IfOk result (λ code. code ≡ form_code ground.now
+        (trees_form place.now (trees_of (map tree_of items.now)))) }
 {
     let mut code = Code::new(alloc);
     let mut above = ground.copy()?;
@@ -191,7 +196,8 @@ fn entries(
     place: &Place,
     pairs: &[(El, El)],
 ) -> Result<Code, AllocError>
-    ensures { IfOk result (λ code. code ≡ form_code ground.now (pairs_form place.now (pairs_of (map pair_of pairs.now)))) }
+    ensures { IfOk result (λ code. code ≡ form_code ground.now
+        (pairs_form place.now (pairs_of (map pair_of pairs.now)))) }
 {
     let mut code = Code::new(alloc);
     let mut above = ground.copy()?;

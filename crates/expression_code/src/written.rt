@@ -23,7 +23,8 @@ pub fn parts(
     place: &Place,
     parts: &[UnitPart],
 ) -> Result<Code, AllocError>
-    ensures { IfOk result (λ code. code ≡ form_code ground.now (parts_form place.now (map part_of (map part_view parts.now)))) }
+    ensures { IfOk result (λ code. code ≡ form_code ground.now
+        (parts_form place.now (map part_of (map part_view parts.now)))) }
 {
     if parts.len() == 1 {
         alone(alloc, ground, place, &parts[0])
@@ -34,7 +35,8 @@ pub fn parts(
 
 // The code of the value of one part.
 fn alone(alloc: Global, ground: &Shape, place: &Place, part: &UnitPart) -> Result<Code, AllocError>
-    ensures { IfOk result (λ code. code ≡ form_code ground.now (parts_form place.now (part_of (part_view part.now) ∷ []))) }
+    ensures { IfOk result (λ code. code ≡ form_code ground.now
+        (parts_form place.now (part_of (part_view part.now) ∷ []))) }
 {
     match part {
         UnitPart::Expr(el) => expression(alloc, ground, place, el),
@@ -53,7 +55,8 @@ fn joined(
     place: &Place,
     parts: &[UnitPart],
 ) -> Result<Code, AllocError>
-    ensures { IfOk result (λ code. code ≡ form_code ground.now (texts_form place.now (map part_of (map part_view parts.now)))
+    ensures { IfOk result (λ code. code ≡ form_code ground.now
+        (texts_form place.now (map part_of (map part_view parts.now)))
         ++ form_code ground.now (does (op.Concat (length parts.now)) place.now)) }
 {
     let mut code = texts(alloc, ground, place, parts)?;
@@ -68,7 +71,8 @@ fn texts(
     place: &Place,
     parts: &[UnitPart],
 ) -> Result<Code, AllocError>
-    ensures { IfOk result (λ code. code ≡ form_code ground.now (texts_form place.now (map part_of (map part_view parts.now)))) }
+    ensures { IfOk result (λ code. code ≡ form_code ground.now
+        (texts_form place.now (map part_of (map part_view parts.now)))) }
 {
     let mut code = Code::new(alloc);
     let mut above = ground.copy()?;
@@ -81,7 +85,8 @@ fn texts(
 
 // The code of a part as a text.
 fn text(alloc: Global, ground: &Shape, place: &Place, part: &UnitPart) -> Result<Code, AllocError>
-    ensures { IfOk result (λ code. code ≡ form_code ground.now (part_form place.now (part_of (part_view part.now)))) }
+    ensures { IfOk result (λ code. code ≡ form_code ground.now
+        (part_form place.now (part_of (part_view part.now)))) }
 {
     match part {
         UnitPart::Text(text) => constant(alloc, ground, place, Value::Text(text.copy()?)),

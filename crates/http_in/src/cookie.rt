@@ -29,7 +29,8 @@ pub fn session_of(alloc: Global, fields: &[Field]) -> Result<Text, AllocError>
 
 // The value of the first of the session's cookies.
 fn first_session(fields: &[Field]) -> Option<&[u8]>
-    ensures { option_map (λ value. value.now) result ≡ first_some (map session_in (values_of (codes "cookie") fields.now)) }
+    ensures { option_map (λ value. value.now) result
+        ≡ first_some (map session_in (values_of (codes "cookie") fields.now)) }
 {
     for field in fields {
         if is_named(field, COOKIE) {

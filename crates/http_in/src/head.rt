@@ -50,9 +50,11 @@ pub fn parse_head(alloc: Global, bytes: &[u8]) -> Result<Head, Failure<HttpFault
 // Where the parts of the head are, if the bytes are, whole, a head of the grammar.
 fn whole_head(bytes: &[u8], spans: &mut [HeaderSpan]) -> Option<RequestSpans>
     requires room { length spans.old ≡ MAX_FIELDS }
-    ensures found { IfSome result (λ r. (h : RequestHead) × ReadsRequest bytes.now h [] × IsRequestAt bytes.now spans.new r h) }
+    ensures found { IfSome result (λ r. (h : RequestHead) × ReadsRequest bytes.now h [] × IsRequestAt
+        bytes.now spans.new r h) }
     ensures within { IfSome result (IsRequestWithin bytes.now spans.new) }
-    ensures none { IfNone result ((h : RequestHead) → ReadsRequest bytes.now h [] → length h.fields ≤ MAX_FIELDS → ⊥) }
+    ensures none { IfNone result ((h : RequestHead) → ReadsRequest bytes.now h [] →
+        length h.fields ≤ MAX_FIELDS → ⊥) }
 {
     match parse_request(bytes, spans) {
         Ok(Status::Complete(request)) if request.len == bytes.len() => Some(request),

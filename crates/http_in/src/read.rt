@@ -29,8 +29,10 @@ pub fn read_request<S: Source>(
     ensures cookie { IfOk result (λ found. IfSome found (λ request. length request.cookie ≤ SESSION_ID_BYTES)) }
 
     ensures later { S.faults source.old ≤ S.faults source.new }
-    ensures read { IfFault result (λ fault. fault ≡ HttpFault.ReadFault → Rose (S.faults source.old) (S.faults source.new)) }
-    ensures unfailing { S.unfailing source.old → IfFault result (λ fault. fault ≢ HttpFault.ReadFault) × S.unfailing source.new }
+    ensures read { IfFault result (λ fault. fault ≡ HttpFault.ReadFault →
+        Rose (S.faults source.old) (S.faults source.new)) }
+    ensures unfailing { S.unfailing source.old →
+        IfFault result (λ fault. fault ≢ HttpFault.ReadFault) × S.unfailing source.new }
 {
     let Some(len) = read_head(source, rest)? else {
         return Ok(None);
@@ -46,16 +48,22 @@ fn read_head<S: Source>(
     rest: &mut Rest,
 ) -> Result<Option<usize>, Failure<HttpFault>>
     ensures found { IfOk result (λ found. IfSome found (λ len. head_len (front_of rest.new) ≡ Some len)) }
-    ensures within { IfOk result (λ found. IfSome found (λ len. (len ≤ MAX_HEAD_BYTES) × (len ≤ length rest.new))) }
+    ensures within { IfOk result (λ found. IfSome found
+        (λ len. (len ≤ MAX_HEAD_BYTES) × (len ≤ length rest.new))) }
     ensures ended { IfOk result (λ found. IfNone found (IsEnd rest.new × IsAtEnd (S.left source.new))) }
     ensures stopped { IfFault result (StopsHead (S.left source.new) rest.new) }
-    ensures ahead { length rest.old < MAX_PIECE_BYTES → IfOk result (λ found. IfSome found (λ len. length rest.new < len + MAX_PIECE_BYTES)) }
-    ensures too_large { length rest.old < MAX_PIECE_BYTES → IfFault result (λ fault. fault ≡ HttpFault.HeadTooLarge → length rest.new < MAX_HEAD_BYTES + MAX_PIECE_BYTES) }
+    ensures ahead { length rest.old < MAX_PIECE_BYTES →
+        IfOk result (λ found. IfSome found (λ len. length rest.new < len + MAX_PIECE_BYTES)) }
+    ensures too_large { length rest.old < MAX_PIECE_BYTES →
+        IfFault result (λ fault. fault ≡ HttpFault.HeadTooLarge →
+        length rest.new < MAX_HEAD_BYTES + MAX_PIECE_BYTES) }
 
     ensures bytes { Moves (S.left source.old) (S.left source.new) rest.old rest.new }
     ensures later { S.faults source.old ≤ S.faults source.new }
-    ensures read { IfFault result (λ fault. fault ≡ HttpFault.ReadFault → Rose (S.faults source.old) (S.faults source.new)) }
-    ensures unfailing { S.unfailing source.old → IfFault result (λ fault. fault ≢ HttpFault.ReadFault) × S.unfailing source.new }
+    ensures read { IfFault result (λ fault. fault ≡ HttpFault.ReadFault →
+        Rose (S.faults source.old) (S.faults source.new)) }
+    ensures unfailing { S.unfailing source.old →
+        IfFault result (λ fault. fault ≢ HttpFault.ReadFault) × S.unfailing source.new }
 {
     'fill: loop {
         if let Some(len) = rest.head_len() {
@@ -87,8 +95,10 @@ fn read_body<S: Source>(
 
     ensures bytes { Moves (S.left source.old) (S.left source.new) rest.old rest.new }
     ensures later { S.faults source.old ≤ S.faults source.new }
-    ensures read { IfFault result (λ fault. fault ≡ HttpFault.ReadFault → Rose (S.faults source.old) (S.faults source.new)) }
-    ensures unfailing { S.unfailing source.old → IfFault result (λ fault. fault ≢ HttpFault.ReadFault) × S.unfailing source.new }
+    ensures read { IfFault result (λ fault. fault ≡ HttpFault.ReadFault →
+        Rose (S.faults source.old) (S.faults source.new)) }
+    ensures unfailing { S.unfailing source.old →
+        IfFault result (λ fault. fault ≢ HttpFault.ReadFault) × S.unfailing source.new }
 {
     'fill: while rest.len() < need {
         if !rest.fill(source)? {
@@ -107,7 +117,8 @@ fn take_request(
 ) -> Result<Request, AllocError>
     requires whole { len + head.size ≤ length rest.old }
     requires fits { len + head.size < 2 ^ 64 }
-    ensures request { IfOk result (λ request. request ≡ request_of head.method head.target head.fields (take head.size (drop len rest.old))) }
+    ensures request { IfOk result (λ request. request ≡ request_of head.method head.target head.fields
+        (take head.size (drop len rest.old))) }
     ensures cookie { IfOk result (λ request. length request.cookie ≤ SESSION_ID_BYTES) }
     ensures after { OnOk result (rest.new ≡ drop (len + head.size) rest.old) }
     ensures stays { OnErr result (rest.new ≡ rest.old) }

@@ -88,9 +88,11 @@ impl Rest {
     // nothing was read.
     pub(crate) fn fill<S: Source>(&mut self, source: &mut S) -> Result<bool, Failure<HttpFault>>
         ensures more { IfOk result (λ came. IsTrue came → length self.old < length self.new) }
-        ensures ended { IfOk result (λ came. came ≡ false → (self.new ≡ self.old) × IsAtEnd (S.left source.new)) }
+        ensures ended { IfOk result (λ came. came ≡ false →
+            (self.new ≡ self.old) × IsAtEnd (S.left source.new)) }
         ensures bytes { Moves (S.left source.old) (S.left source.new) self.old self.new }
-        ensures failed { IfFault result (λ fault. (fault ≡ HttpFault.ReadFault) × (self.new ≡ self.old) × Rose (S.faults source.old) (S.faults source.new)) }
+        ensures failed { IfFault result (λ fault. (fault ≡ HttpFault.ReadFault) × (self.new ≡ self.old)
+            × Rose (S.faults source.old) (S.faults source.new)) }
         ensures little { length self.new ≤ length self.old + MAX_PIECE_BYTES }
         ensures later { S.faults source.old ≤ S.faults source.new }
         ensures unfailing { S.unfailing source.old → IfFault result (λ _. ⊥) × S.unfailing source.new }

@@ -17,10 +17,14 @@ const LINE: [u8; 18] = *b"0000000000000000\r\n";
 /// Writes one chunk of a body, and takes no memory. An empty piece would end the body, so a piece isn't empty.
 pub fn write_chunk<K: Sink>(sink: &mut K, failed: &mut bool, piece: &[u8])
     requires { 0 < length piece.now }
-    ensures sent { (old : Option (List ℕ)) (text : List ℕ) → Sent old (K.taken sink.old) text failed.old → Sent old (K.taken sink.new) (text ++ chunk piece.now) failed.new }
+    ensures sent { (old : Option (List ℕ)) (text : List ℕ) →
+        Sent old (K.taken sink.old) text failed.old →
+        Sent old (K.taken sink.new) (text ++ chunk piece.now) failed.new }
     ensures over { failed.old ≡ true → (sink.new ≡ sink.old) × (failed.new ≡ true) }
     ensures later { K.faults sink.old ≤ K.faults sink.new }
-    ensures rose { (before : ℕ) → before ≤ K.faults sink.old → (failed.old ≡ true → Rose before (K.faults sink.old)) → failed.new ≡ true → Rose before (K.faults sink.new) }
+    ensures rose { (before : ℕ) → before ≤ K.faults sink.old →
+        (failed.old ≡ true → Rose before (K.faults sink.old)) → failed.new ≡ true →
+        Rose before (K.faults sink.new) }
 {
     let mut line = LINE;
     let start = write_size(piece.len(), &mut line);
@@ -31,10 +35,13 @@ pub fn write_chunk<K: Sink>(sink: &mut K, failed: &mut bool, piece: &[u8])
 
 /// Writes the end of a body in chunks, and takes no memory.
 pub fn write_end<K: Sink>(sink: &mut K, failed: &mut bool)
-    ensures sent { (old : Option (List ℕ)) (text : List ℕ) → Sent old (K.taken sink.old) text failed.old → Sent old (K.taken sink.new) (text ++ end_mark) failed.new }
+    ensures sent { (old : Option (List ℕ)) (text : List ℕ) →
+        Sent old (K.taken sink.old) text failed.old → Sent old (K.taken sink.new) (text ++ end_mark) failed.new }
     ensures over { failed.old ≡ true → (sink.new ≡ sink.old) × (failed.new ≡ true) }
     ensures later { K.faults sink.old ≤ K.faults sink.new }
-    ensures rose { (before : ℕ) → before ≤ K.faults sink.old → (failed.old ≡ true → Rose before (K.faults sink.old)) → failed.new ≡ true → Rose before (K.faults sink.new) }
+    ensures rose { (before : ℕ) → before ≤ K.faults sink.old →
+        (failed.old ≡ true → Rose before (K.faults sink.old)) → failed.new ≡ true →
+        Rose before (K.faults sink.new) }
 {
     write(sink, failed, b"0\r\n\r\n");
 }

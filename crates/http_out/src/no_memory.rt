@@ -9,10 +9,14 @@ use edges::Sink;
 
 /// Writes the plain answer that memory was wanting, and takes none.
 pub fn write_no_memory<K: Sink>(sink: &mut K, failed: &mut bool, close: bool, shown: bool)
-    ensures sent { (old : Option (List ℕ)) (text : List ℕ) → Sent old (K.taken sink.old) text failed.old → Sent old (K.taken sink.new) (text ++ no_memory close shown) failed.new }
+    ensures sent { (old : Option (List ℕ)) (text : List ℕ) →
+        Sent old (K.taken sink.old) text failed.old →
+        Sent old (K.taken sink.new) (text ++ no_memory close shown) failed.new }
     ensures over { failed.old ≡ true → (sink.new ≡ sink.old) × (failed.new ≡ true) }
     ensures later { K.faults sink.old ≤ K.faults sink.new }
-    ensures rose { (before : ℕ) → before ≤ K.faults sink.old → (failed.old ≡ true → Rose before (K.faults sink.old)) → failed.new ≡ true → Rose before (K.faults sink.new) }
+    ensures rose { (before : ℕ) → before ≤ K.faults sink.old →
+        (failed.old ≡ true → Rose before (K.faults sink.old)) → failed.new ≡ true →
+        Rose before (K.faults sink.new) }
 {
     write(sink, failed, no_memory_text(close, shown));
 }

@@ -24,11 +24,15 @@ pub fn write_whole<K: Sink>(
     body: &[u8],
     shown: bool,
 ) -> Result<(), AllocError>
-    ensures sent { (old : Option (List ℕ)) (text : List ℕ) → Sent old (K.taken sink.old) text failed.old → OnOk result (Sent old (K.taken sink.new) (text ++ whole head.now body.now shown) failed.new) }
+    ensures sent { (old : Option (List ℕ)) (text : List ℕ) →
+        Sent old (K.taken sink.old) text failed.old →
+        OnOk result (Sent old (K.taken sink.new) (text ++ whole head.now body.now shown) failed.new) }
     ensures err { OnErr result ((sink.new ≡ sink.old) × (failed.new ≡ failed.old)) }
     ensures over { failed.old ≡ true → (sink.new ≡ sink.old) × (failed.new ≡ true) }
     ensures later { K.faults sink.old ≤ K.faults sink.new }
-    ensures rose { (before : ℕ) → before ≤ K.faults sink.old → (failed.old ≡ true → Rose before (K.faults sink.old)) → failed.new ≡ true → Rose before (K.faults sink.new) }
+    ensures rose { (before : ℕ) → before ≤ K.faults sink.old →
+        (failed.old ≡ true → Rose before (K.faults sink.old)) → failed.new ≡ true →
+        Rose before (K.faults sink.new) }
 {
     let (joined, apart) = parts(body, shown);
     let text = front_text(alloc, head, body.len(), joined)?;
@@ -44,11 +48,15 @@ pub fn write_head<K: Sink>(
     failed: &mut bool,
     head: &Head,
 ) -> Result<(), AllocError>
-    ensures sent { (old : Option (List ℕ)) (text : List ℕ) → Sent old (K.taken sink.old) text failed.old → OnOk result (Sent old (K.taken sink.new) (text ++ opening head.now) failed.new) }
+    ensures sent { (old : Option (List ℕ)) (text : List ℕ) →
+        Sent old (K.taken sink.old) text failed.old →
+        OnOk result (Sent old (K.taken sink.new) (text ++ opening head.now) failed.new) }
     ensures err { OnErr result ((sink.new ≡ sink.old) × (failed.new ≡ failed.old)) }
     ensures over { failed.old ≡ true → (sink.new ≡ sink.old) × (failed.new ≡ true) }
     ensures later { K.faults sink.old ≤ K.faults sink.new }
-    ensures rose { (before : ℕ) → before ≤ K.faults sink.old → (failed.old ≡ true → Rose before (K.faults sink.old)) → failed.new ≡ true → Rose before (K.faults sink.new) }
+    ensures rose { (before : ℕ) → before ≤ K.faults sink.old →
+        (failed.old ≡ true → Rose before (K.faults sink.old)) → failed.new ≡ true →
+        Rose before (K.faults sink.new) }
 {
     let text = head_text(alloc, head, None, 0)?;
     write(sink, failed, &text);
@@ -65,11 +73,15 @@ pub fn write_plain<K: Sink>(
     line: &[u8],
     shown: bool,
 ) -> Result<(), AllocError>
-    ensures sent { (old : Option (List ℕ)) (text : List ℕ) → Sent old (K.taken sink.old) text failed.old → OnOk result (Sent old (K.taken sink.new) (text ++ plain status close line.now shown) failed.new) }
+    ensures sent { (old : Option (List ℕ)) (text : List ℕ) →
+        Sent old (K.taken sink.old) text failed.old →
+        OnOk result (Sent old (K.taken sink.new) (text ++ plain status close line.now shown) failed.new) }
     ensures err { OnErr result ((sink.new ≡ sink.old) × (failed.new ≡ failed.old)) }
     ensures over { failed.old ≡ true → (sink.new ≡ sink.old) × (failed.new ≡ true) }
     ensures later { K.faults sink.old ≤ K.faults sink.new }
-    ensures rose { (before : ℕ) → before ≤ K.faults sink.old → (failed.old ≡ true → Rose before (K.faults sink.old)) → failed.new ≡ true → Rose before (K.faults sink.new) }
+    ensures rose { (before : ℕ) → before ≤ K.faults sink.old →
+        (failed.old ≡ true → Rose before (K.faults sink.old)) → failed.new ≡ true →
+        Rose before (K.faults sink.new) }
 {
     let head = Head::plain(alloc, status, close)?;
     let mut body = Vec::with_capacity(alloc, line.len().saturating_add(1))?;
@@ -87,7 +99,8 @@ pub fn tell_plain<K: Sink>(
     line: &[u8],
     shown: bool,
 ) -> Result<bool, AllocError>
-    ensures sent { IfOk result (λ failed. Sent (K.taken sink.old) (K.taken sink.new) (plain status close line.now shown) failed) }
+    ensures sent { IfOk result (λ failed. Sent (K.taken sink.old) (K.taken sink.new)
+        (plain status close line.now shown) failed) }
     ensures err { OnErr result (sink.new ≡ sink.old) }
     ensures later { K.faults sink.old ≤ K.faults sink.new }
     ensures rose { IfOk result (λ failed. failed ≡ true → Rose (K.faults sink.old) (K.faults sink.new)) }

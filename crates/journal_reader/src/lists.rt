@@ -51,7 +51,8 @@ fn items<S: Source, T: Part + Drop>(
     room: &mut u64,
     count: u64,
 ) -> Result<Listed<T>, Failure<Unread>>
-    ensures { Reads (AreSo count T.is) (flat_map T.text) (S.left source.old) (S.left source.new) room.old room.new (S.faults source.old) (S.faults source.new) result }
+    ensures { Reads (AreSo count T.is) (flat_map T.text) (S.left source.old) (S.left source.new)
+        room.old room.new (S.faults source.old) (S.faults source.new) result }
 {
     let mut items = Listed::empty(alloc);
     'fill: while (items.len() as u64) < count {

@@ -13,7 +13,8 @@ pub(crate) fn array<S: Source, const N: usize>(
     source: &mut S,
     room: &mut u64,
 ) -> Result<[u8; N], Failure<Unread>>
-    ensures { Reads (AreSo N (λ _. ⊤)) (flat_map (λ byte. byte ∷ [])) (S.left source.old) (S.left source.new) room.old room.new (S.faults source.old) (S.faults source.new) result }
+    ensures { Reads (AreSo N (λ _. ⊤)) (flat_map (λ byte. byte ∷ [])) (S.left source.old)
+        (S.left source.new) room.old room.new (S.faults source.old) (S.faults source.new) result }
 {
     let mut bytes = [0; N];
     for at in 0..N {

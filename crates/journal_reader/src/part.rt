@@ -18,7 +18,8 @@ pub trait Part {
         source: &mut S,
         room: &mut u64,
     ) -> Result<Self, Failure<Unread>>
-        ensures { Reads is text (S.left source.old) (S.left source.new) room.old room.new (S.faults source.old) (S.faults source.new) result };
+        ensures { Reads is text (S.left source.old) (S.left source.new) room.old room.new (S.faults source.old)
+            (S.faults source.new) result };
 }
 
 impl Part for u8 {

@@ -73,7 +73,8 @@ fn value<S: Source>(
     room: &mut u64,
     levels: u32,
 ) -> Result<Value, Failure<Unread>>
-    ensures { Reads IsValue of_value (S.left source.old) (S.left source.new) room.old room.new (S.faults source.old) (S.faults source.new) result }
+    ensures { Reads IsValue of_value (S.left source.old) (S.left source.new) room.old room.new
+        (S.faults source.old) (S.faults source.new) result }
 {
     match u8::read(alloc, source, room)? {
         0 => Ok(Value::Null),
@@ -102,7 +103,8 @@ fn items<S: Source>(
     room: &mut u64,
     levels: u32,
 ) -> Result<Listed<Value>, Failure<Unread>>
-    ensures { Reads (IsList IsValue) (of_list of_value) (S.left source.old) (S.left source.new) room.old room.new (S.faults source.old) (S.faults source.new) result }
+    ensures { Reads (IsList IsValue) (of_list of_value) (S.left source.old) (S.left source.new)
+        room.old room.new (S.faults source.old) (S.faults source.new) result }
 {
     let count = u64::read(alloc, source, room)?;
     some_items(alloc, source, room, levels, count)
@@ -117,7 +119,8 @@ fn some_items<S: Source>(
     levels: u32,
     count: u64,
 ) -> Result<Listed<Value>, Failure<Unread>>
-    ensures { Reads (AreSo count IsValue) (flat_map of_value) (S.left source.old) (S.left source.new) room.old room.new (S.faults source.old) (S.faults source.new) result }
+    ensures { Reads (AreSo count IsValue) (flat_map of_value) (S.left source.old) (S.left source.new)
+        room.old room.new (S.faults source.old) (S.faults source.new) result }
 {
     let mut items = Listed::empty(alloc);
     'fill: while (items.len() as u64) < count {
@@ -135,7 +138,8 @@ fn attrs<S: Source>(
     room: &mut u64,
     levels: u32,
 ) -> Result<Attrs, Failure<Unread>>
-    ensures { Reads AreAttrs of_attrs (S.left source.old) (S.left source.new) room.old room.new (S.faults source.old) (S.faults source.new) result }
+    ensures { Reads AreAttrs of_attrs (S.left source.old) (S.left source.new) room.old room.new
+        (S.faults source.old) (S.faults source.new) result }
 {
     let entries = entries(alloc, source, room, levels)?;
     attrs_of(entries)
@@ -160,7 +164,8 @@ fn entries<S: Source>(
     room: &mut u64,
     levels: u32,
 ) -> Result<Listed<(Text, Value)>, Failure<Unread>>
-    ensures { Reads (IsList IsPair) (of_list of_pair) (S.left source.old) (S.left source.new) room.old room.new (S.faults source.old) (S.faults source.new) result }
+    ensures { Reads (IsList IsPair) (of_list of_pair) (S.left source.old) (S.left source.new) room.old room.new
+        (S.faults source.old) (S.faults source.new) result }
 {
     let count = u64::read(alloc, source, room)?;
     some_entries(alloc, source, room, levels, count)
@@ -175,7 +180,8 @@ fn some_entries<S: Source>(
     levels: u32,
     count: u64,
 ) -> Result<Listed<(Text, Value)>, Failure<Unread>>
-    ensures { Reads (AreSo count IsPair) (flat_map of_pair) (S.left source.old) (S.left source.new) room.old room.new (S.faults source.old) (S.faults source.new) result }
+    ensures { Reads (AreSo count IsPair) (flat_map of_pair) (S.left source.old) (S.left source.new)
+        room.old room.new (S.faults source.old) (S.faults source.new) result }
 {
     let mut entries = Listed::empty(alloc);
     'fill: while (entries.len() as u64) < count {
@@ -193,7 +199,8 @@ fn entry<S: Source>(
     room: &mut u64,
     levels: u32,
 ) -> Result<(Text, Value), Failure<Unread>>
-    ensures { Reads IsPair of_pair (S.left source.old) (S.left source.new) room.old room.new (S.faults source.old) (S.faults source.new) result }
+    ensures { Reads IsPair of_pair (S.left source.old) (S.left source.new) room.old room.new
+        (S.faults source.old) (S.faults source.new) result }
 {
     let key = Text::read(alloc, source, room)?;
     let item = value(alloc, source, room, levels)?;

@@ -62,7 +62,8 @@ fn of_two(
     b: &Value,
 ) -> Result<Value, Failure<RunFault>>
     requires { arity_of function ≡ 2 }
-    ensures { AnswersAs datum_of (and_then (function_value function (datum_of a.now) (datum_of b.now) null) measured) result }
+    ensures { AnswersAs datum_of (and_then (function_value function (datum_of a.now) (datum_of b.now) null)
+        measured) result }
 {
     if function == Function::Join {
         return join(alloc, a, b);
@@ -96,7 +97,8 @@ fn of_three(
     c: &Value,
 ) -> Result<Value, Failure<RunFault>>
     requires { arity_of function ≡ 3 }
-    ensures { AnswersAs datum_of (and_then (function_value function (datum_of a.now) (datum_of b.now) (datum_of c.now)) measured) result }
+    ensures { AnswersAs datum_of (and_then (function_value function (datum_of a.now) (datum_of b.now)
+        (datum_of c.now)) measured) result }
 {
     let text = to_text(alloc, a)?;
     match function {

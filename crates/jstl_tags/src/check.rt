@@ -79,7 +79,8 @@ fn body_faults(
     standing: &[Standing],
     body: &[Standing],
 ) -> Faults
-    ensures { result ≡ in_order (holds_by (λ prefix. contains_text prefix library.now) holds closing split (map standing_made standing.now) (map standing_made body.now)) }
+    ensures { result ≡ in_order (holds_by (λ prefix. contains_text prefix library.now) holds closing split
+        (map standing_made standing.now) (map standing_made body.now)) }
 {
     let is_bad = match holds {
         Holds::Anything => false,
@@ -100,7 +101,8 @@ fn row_faults_by(
     body: &[Standing],
     given: Given,
 ) -> Faults
-    ensures { result ≡ in_order (row_by (λ prefix. contains_text prefix library.now) (row_made row.now) closing split (map standing_made standing.now) (map standing_made body.now) (names_made given.entry)) }
+    ensures { result ≡ in_order (row_by (λ prefix. contains_text prefix library.now) (row_made row.now)
+        closing split (map standing_made standing.now) (map standing_made body.now) (names_made given.entry)) }
 {
     given_faults(row, closing, given).and(split_faults_by(split, standing).and(body_faults(
         library, row.holds, closing, split, standing, body,
@@ -109,7 +111,9 @@ fn row_faults_by(
 
 // Whether exactly one of `var` and `target` is given, and `property` with `target` alone.
 fn are_set_well(given: Given) -> bool
-    ensures { result ≡ are_set_well (contains_text (codes "var") (names_made given.entry)) (contains_text (codes "target") (names_made given.entry)) (contains_text (codes "property") (names_made given.entry)) }
+    ensures { result ≡ are_set_well (contains_text (codes "var") (names_made given.entry))
+        (contains_text (codes "target") (names_made given.entry))
+        (contains_text (codes "property") (names_made given.entry)) }
 {
     let names = (
         given.contains("var"),
@@ -161,7 +165,8 @@ fn is_split(element: &Element, standing: &[Standing]) -> bool
 
 // What stands in the body of an element, which may be given by `jsp:body`.
 fn body_in<'a>(element: &Element, body: Body<'a>) -> &'a [Standing<'a>]
-    ensures { map standing_made result.now ≡ body_in (opened_of element.now).tag (map standing_made body.entry.standing.now) (map standing_made body.entry.inner.now) }
+    ensures { map standing_made result.now ≡ body_in (opened_of element.now).tag
+        (map standing_made body.entry.standing.now) (map standing_made body.entry.inner.now) }
 {
     if is_split(element, body.standing) {
         body.inner
@@ -172,7 +177,9 @@ fn body_in<'a>(element: &Element, body: Body<'a>) -> &'a [Standing<'a>]
 
 // The faults of an action by its row, by what stands in its body.
 fn action_faults(library: &Prefixes, row: &Row, element: &Element, body: Body) -> Faults
-    ensures { result ≡ in_order (action_by (λ prefix. contains_text prefix library.now) (row_made row.now) (opened_of element.now) (map standing_made body.entry.standing.now) (map standing_made body.entry.inner.now)) }
+    ensures { result ≡ in_order (action_by (λ prefix. contains_text prefix library.now) (row_made row.now)
+        (opened_of element.now) (map standing_made body.entry.standing.now)
+        (map standing_made body.entry.inner.now)) }
 {
     let split = is_split(element, body.standing);
     let given = given_to(element, body.standing);
@@ -190,7 +197,8 @@ fn action_faults(library: &Prefixes, row: &Row, element: &Element, body: Body) -
 
 // The faults of a core tag that its row doesn't say, by what stands in its body.
 fn own_faults(core: CoreName, element: &Element, body: Body) -> Faults
-    ensures { result ≡ in_order (own_of core (opened_of element.now) (map standing_made body.entry.standing.now) (map standing_made body.entry.inner.now)) }
+    ensures { result ≡ in_order (own_of core (opened_of element.now)
+        (map standing_made body.entry.standing.now) (map standing_made body.entry.inner.now)) }
 {
     let given = given_to(element, body.standing);
     own_faults_by(core, element.closing, body_in(element, body), given)
@@ -198,21 +206,25 @@ fn own_faults(core: CoreName, element: &Element, body: Body) -> Faults
 
 /// Whether nothing stands in the body of an element, not even white space.
 pub fn is_bodiless(element: &Element, body: Body) -> bool
-    ensures { (tree : Tree) → IsBody body.entry tree → result ≡ is_empty (body_of (opened_of element.now).tag tree) }
+    ensures { (tree : Tree) → IsBody body.entry tree →
+        result ≡ is_empty (body_of (opened_of element.now).tag tree) }
 {
     body_in(element, body).is_empty()
 }
 
 /// The faults of what stands beside `jsp:attribute` and `jsp:body` in an element.
 pub fn split_faults(element: &Element, body: Body) -> Faults
-    ensures { (tree : Tree) → IsBody body.entry tree → result ≡ in_order (split_faults (opened_of element.now).tag tree) }
+    ensures { (tree : Tree) → IsBody body.entry tree →
+        result ≡ in_order (split_faults (opened_of element.now).tag tree) }
 {
     split_faults_by(is_split(element, body.standing), body.standing)
 }
 
 /// The faults of an action with this body by its row. `library` are the prefixes of the core library.
 pub fn row_faults(library: &Prefixes, row: &Row, element: &Element, body: Body) -> Faults
-    ensures { (tree : Tree) → IsBody body.entry tree → result ≡ in_order (row_faults (λ prefix. contains_text prefix library.now) (row_made row.now) (opened_of element.now) tree) }
+    ensures { (tree : Tree) → IsBody body.entry tree →
+        result ≡ in_order (row_faults (λ prefix. contains_text prefix library.now) (row_made row.now)
+        (opened_of element.now) tree) }
 {
     action_faults(library, row, element, body)
 }
@@ -225,7 +237,9 @@ pub fn core_faults(
     element: &Element,
     body: Body,
 ) -> Faults
-    ensures { (tree : Tree) → IsBody body.entry tree → result ≡ in_order (core_faults (λ prefix. contains_text prefix library.now) (found.0, row_made found.1) (map host_made around.now) (opened_of element.now) tree) }
+    ensures { (tree : Tree) → IsBody body.entry tree →
+        result ≡ in_order (core_faults (λ prefix. contains_text prefix library.now)
+        (found.0, row_made found.1) (map host_made around.now) (opened_of element.now) tree) }
 {
     let (core, row) = found;
     place_faults(false, row.stands, around).and(action_faults(library, &row, element, body).and(

@@ -31,7 +31,8 @@ pub struct Given<'a> {
 impl<'a> Given<'a> {
     /// The attributes that are given to an element with this body.
     pub fn of(element: &'a Element, body: Body<'a>) -> Self
-        ensures { (tree : Tree) → IsBody body.entry tree → names_made result ≡ given_names (opened_of element.now).tag tree }
+        ensures { (tree : Tree) → IsBody body.entry tree → names_made result
+            ≡ given_names (opened_of element.now).tag tree }
     {
         given_to(element, body.standing)
     }
@@ -63,7 +64,8 @@ pub(crate) fn takes_parts(element: &Element) -> bool
 
 // What stands in the body of an element, where parts may stand there.
 fn parts_in<'a>(element: &Element, standing: &'a [Standing<'a>]) -> &'a [Standing<'a>]
-    ensures { map standing_made result.now ≡ (if takes_parts (opened_of element.now).tag then map standing_made standing.now else []) }
+    ensures { map standing_made result.now ≡ (if takes_parts (opened_of element.now).tag then map
+        standing_made standing.now else []) }
 {
     if takes_parts(element) {
         standing
@@ -84,7 +86,8 @@ pub(crate) fn given_to<'a>(element: &'a Element, standing: &'a [Standing<'a>]) -
 
 // The name that `jsp:attribute` gives, if it is plain.
 fn part_name<'a>(thing: Standing<'a>) -> Option<&'a str>
-    ensures { option_to_list (option_map (λ name. name.now) result) ≡ part_names_in (standing_made thing.entry ∷ []) }
+    ensures { option_to_list (option_map (λ name. name.now) result)
+        ≡ part_names_in (standing_made thing.entry ∷ []) }
 {
     match thing {
         Standing::Element {
@@ -122,7 +125,8 @@ pub(crate) fn lacks(wanted: &[&str], given: Given) -> bool
 
 // Whether `jsp:attribute` gives a name that is written, too.
 fn are_shared(given: Given) -> bool
-    ensures { result ≡ list_any (λ name. contains_text name (part_names_in (map standing_made given.entry.parts.now))) (attribute_names given.entry.attributes.now) }
+    ensures { result ≡ list_any (λ name. contains_text name
+        (part_names_in (map standing_made given.entry.parts.now))) (attribute_names given.entry.attributes.now) }
 {
     for attribute in given.attributes.as_slice() {
         if is_part(attribute.name.as_str(), given.parts) {
@@ -146,7 +150,8 @@ fn part_repeats(parts: &[Standing]) -> bool
 
 // Whether a name is given again.
 fn is_repeated(name: Option<&str>, behind: &[Standing]) -> bool
-    ensures { result ≡ list_any (λ name. contains_text name (part_names_in (map standing_made behind.now))) (option_to_list (option_map (λ name. name.now) name.entry)) }
+    ensures { result ≡ list_any (λ name. contains_text name (part_names_in (map standing_made behind.now)))
+        (option_to_list (option_map (λ name. name.now) name.entry)) }
 {
     match name {
         Some(name) => is_part(name, behind),

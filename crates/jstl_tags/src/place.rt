@@ -88,7 +88,8 @@ fn takes_part(around: &[Host]) -> bool
 
 // The faults of where a branch stands.
 fn branch_faults(host: Option<Host>, around: &[Host]) -> Faults
-    ensures { result ≡ in_order (branch_faults (option_map host_made host.entry) (misplaced_faults (map host_made around.now))) }
+    ensures { result ≡ in_order (branch_faults (option_map host_made host.entry)
+        (misplaced_faults (map host_made around.now))) }
 {
     match host {
         Some(

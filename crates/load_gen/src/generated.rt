@@ -93,7 +93,8 @@ fn add_round(alloc: Global, bytes: &mut Vec<u8>, number: u32, change: u32) -> Re
 fn add_asked(alloc: Global, bytes: &mut Vec<u8>, number: u32, change: u32) -> Result<(), AllocError>
     requires some { 1 ≤ number }
     requires few { change < MAX_PAGES }
-    ensures { OnOk result (bytes.new.items ≡ bytes.old.items ++ sent (map (asked number change) (range_with_len 0 4))) }
+    ensures { OnOk result (bytes.new.items ≡ bytes.old.items
+        ++ sent (map (asked number change) (range_with_len 0 4))) }
 {
     for turn in 0..ASKED {
         let message = asked(alloc, number, change, turn)?;

@@ -34,11 +34,16 @@ impl Buffer {
         bytes: &[u8],
     ) -> Result<(), Failure<RunFault>>
         requires { IsWithin self.old.size self.old.bytes.items }
-        ensures comes { (start : Option (List ℕ)) (before : ℕ) (pieces : List (List ℕ)) (count : ℕ) (kept : List (List ℕ)) → Streams start before stream.old (K.taken sink.old) (K.faults sink.old) pieces
-            → Comes (written self.old.size bytes.now (writer_at self.old pieces count kept)) result (λ (after : Writer). (after ≡ writer_at self.new after.pieces count kept) × Streams start before stream.new (K.taken sink.new) (K.faults sink.new) after.pieces) }
+        ensures comes { (start : Option (List ℕ)) (before : ℕ) (pieces : List (List ℕ)) (count : ℕ)
+            (kept : List (List ℕ)) → Streams start before stream.old (K.taken sink.old) (K.faults sink.old) pieces
+            → Comes (written self.old.size bytes.now (writer_at self.old pieces count kept)) result
+            (λ (after : Writer). (after ≡ writer_at self.new after.pieces count kept) × Streams start
+            before stream.new (K.taken sink.new) (K.faults sink.new) after.pieces) }
         ensures within { IsWithin self.new.size self.new.bytes.items }
-        ensures same { OnOk result (stream.new ≡ record stream.old { committed = stream.new.committed; failed = stream.new.failed }) }
-        ensures err { OnErr result ((self.new.bytes.items ≡ self.old.bytes.items) × (stream.new ≡ stream.old) × (sink.new ≡ sink.old)) }
+        ensures same { OnOk result (stream.new
+            ≡ record stream.old { committed = stream.new.committed; failed = stream.new.failed }) }
+        ensures err { OnErr result ((self.new.bytes.items ≡ self.old.bytes.items) × (stream.new
+            ≡ stream.old) × (sink.new ≡ sink.old)) }
         ensures settings { (self.new.size ≡ self.old.size) × (self.new.autoflush ≡ self.old.autoflush) }
         ensures later { K.faults sink.old ≤ K.faults sink.new }
     {
@@ -83,11 +88,20 @@ fn overflow<K: Sink>(
     requires within { length buffer.old.items ≤ size }
     requires over { size < length buffer.old.items + length bytes.now }
     requires some { 0 < size }
-    ensures ok { let total = buffer.old.items ++ bytes.now in OnOk result (buffer.new.items ≡ drop (pieces_over size (length total) * size) total) }
-    ensures sent { (start : Option (List ℕ)) (before : ℕ) (pieces : List (List ℕ)) → Streams start before stream.old (K.taken sink.old) (K.faults sink.old) pieces
-        → let total = buffer.old.items ++ bytes.now in OnOk result (Streams start before stream.new (K.taken sink.new) (K.faults sink.new) (pieces ++ front_pieces (pieces_over size (length total)) size total)) }
-    ensures same { OnOk result (stream.new ≡ record stream.old { committed = stream.new.committed; failed = stream.new.failed }) }
-    ensures err { OnErr result ((buffer.new.items ≡ buffer.old.items) × (stream.new ≡ stream.old) × (sink.new ≡ sink.old)) }
+    ensures ok { let total = buffer.old.items ++ bytes.now in OnOk result (buffer.new.items
+        ≡ drop (pieces_over size (length total) * size) total) }
+    ensures sent { (start : Option (List ℕ)) (before : ℕ) (pieces : List (List ℕ)) →
+        Streams start before stream.old (K.taken sink.old) (K.faults sink.old) pieces
+        → let total = buffer.old.items ++ bytes.now in OnOk result
+        (Streams start before stream.new (K.taken sink.new) (K.faults sink.new)
+        (pieces ++ front_pieces (pieces_over size (length total)) size total)) }
+    ensures same { OnOk result (stream.new ≡ record stream.old {
+      committed = stream.new.committed;
+      failed =
+          stream.new.failed;
+    }) }
+    ensures err { OnErr result ((buffer.new.items ≡ buffer.old.items) × (stream.new ≡ stream.old) ×
+        (sink.new ≡ sink.old)) }
     ensures later { K.faults sink.old ≤ K.faults sink.new }
 {
     buffer.try_reserve(size - buffer.len())?;

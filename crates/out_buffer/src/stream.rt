@@ -31,8 +31,15 @@ impl Stream {
         sink: &mut K,
         bytes: &[u8],
     ) -> Result<(), AllocError>
-        ensures sent { (start : Option (List ℕ)) (before : ℕ) (pieces : List (List ℕ)) → Streams start before self.old (K.taken sink.old) (K.faults sink.old) pieces → OnOk result (Streams start before self.new (K.taken sink.new) (K.faults sink.new) (pieces ++ piece_of bytes.now)) }
-        ensures same { OnOk result (self.new ≡ record self.old { committed = self.new.committed; failed = self.new.failed }) }
+        ensures sent { (start : Option (List ℕ)) (before : ℕ) (pieces : List (List ℕ)) →
+            Streams start before self.old (K.taken sink.old) (K.faults sink.old) pieces →
+            OnOk result (Streams start before self.new (K.taken sink.new) (K.faults sink.new)
+            (pieces ++ piece_of bytes.now)) }
+        ensures same { OnOk result (self.new ≡ record self.old {
+          committed = self.new.committed;
+          failed =
+              self.new.failed;
+        }) }
         ensures err { OnErr result ((self.new ≡ self.old) × (sink.new ≡ sink.old)) }
         ensures later { K.faults sink.old ≤ K.faults sink.new }
     {
@@ -46,7 +53,9 @@ impl Stream {
 
     /// Writes the head, unless it was written before. Only this wants memory.
     pub(crate) fn begin<K: Sink>(&mut self, alloc: Global, sink: &mut K) -> Result<(), AllocError>
-        ensures sent { (start : Option (List ℕ)) (before : ℕ) (pieces : List (List ℕ)) → Streams start before self.old (K.taken sink.old) (K.faults sink.old) pieces → OnOk result (HasBegun start before self.new (K.taken sink.new) (K.faults sink.new) pieces) }
+        ensures sent { (start : Option (List ℕ)) (before : ℕ) (pieces : List (List ℕ)) →
+            Streams start before self.old (K.taken sink.old) (K.faults sink.old) pieces →
+            OnOk result (HasBegun start before self.new (K.taken sink.new) (K.faults sink.new) pieces) }
         ensures same { OnOk result (self.new ≡ record self.old { committed = true; failed = self.new.failed }) }
         ensures err { OnErr result ((self.new ≡ self.old) × (sink.new ≡ sink.old)) }
         ensures later { K.faults sink.old ≤ K.faults sink.new }
@@ -62,7 +71,9 @@ impl Stream {
     /// Writes a piece as a chunk, behind the head.
     pub(crate) fn send<K: Sink>(&mut self, sink: &mut K, piece: &[u8])
         requires { 0 < length piece.now }
-        ensures sent { (start : Option (List ℕ)) (before : ℕ) (pieces : List (List ℕ)) → HasBegun start before self.old (K.taken sink.old) (K.faults sink.old) pieces → HasBegun start before self.new (K.taken sink.new) (K.faults sink.new) (pieces ++ piece.now ∷ []) }
+        ensures sent { (start : Option (List ℕ)) (before : ℕ) (pieces : List (List ℕ)) →
+            HasBegun start before self.old (K.taken sink.old) (K.faults sink.old) pieces →
+            HasBegun start before self.new (K.taken sink.new) (K.faults sink.new) (pieces ++ piece.now ∷ []) }
         ensures same { self.new ≡ record self.old { failed = self.new.failed } }
         ensures later { K.faults sink.old ≤ K.faults sink.new }
     {
@@ -79,7 +90,11 @@ impl Stream {
         rest: &[u8],
         broken: bool,
     ) -> Result<(), Failure<Failed>>
-        ensures finished { (start : Option (List ℕ)) (before : ℕ) (pieces : List (List ℕ)) → Streams start before self.old (K.taken sink.old) (K.faults sink.old) pieces → Finished start before self.old.shown (record { head = self.old.head; pieces = pieces; rest = rest.now; broken = broken }) (K.taken sink.new) (K.faults sink.new) result }
+        ensures finished { (start : Option (List ℕ)) (before : ℕ) (pieces : List (List ℕ)) →
+            Streams start before self.old (K.taken sink.old) (K.faults sink.old) pieces →
+            Finished start before self.old.shown
+            (record { head = self.old.head; pieces = pieces; rest = rest.now; broken = broken })
+            (K.taken sink.new) (K.faults sink.new) result }
         ensures later { K.faults sink.old ≤ K.faults sink.new }
     {
         self.write_left(alloc, sink, rest, broken)?;
@@ -97,8 +112,18 @@ impl Stream {
         rest: &[u8],
         broken: bool,
     ) -> Result<(), AllocError>
-        ensures taken { (start : Option (List ℕ)) (before : ℕ) (pieces : List (List ℕ)) → Streams start before self.old (K.taken sink.old) (K.faults sink.old) pieces → let response : Response = record { head = self.old.head; pieces = pieces; rest = rest.now; broken = broken } in OnOk result (HasTaken start before (wire response self.old.shown) self.new.failed (K.taken sink.new) (K.faults sink.new)) }
-        ensures err { OnErr result ((self.old.committed ≡ false) × (self.new ≡ self.old) × (sink.new ≡ sink.old)) }
+        ensures taken { (start : Option (List ℕ)) (before : ℕ) (pieces : List (List ℕ)) →
+            Streams start before self.old (K.taken sink.old) (K.faults sink.old) pieces →
+            let response : Response = record {
+              head = self.old.head;
+              pieces = pieces;
+              rest = rest.now;
+              broken =
+                  broken;
+            } in OnOk result (HasTaken start before (wire response self.old.shown) self.new.failed
+            (K.taken sink.new) (K.faults sink.new)) }
+        ensures err { OnErr result ((self.old.committed ≡ false) × (self.new ≡ self.old) × (sink.new
+            ≡ sink.old)) }
         ensures later { K.faults sink.old ≤ K.faults sink.new }
     {
         if !self.committed {
@@ -114,7 +139,10 @@ impl Stream {
 
 // Writes what is left of a body in chunks, and its end.
 fn write_rest<K: Sink>(sink: &mut K, failed: &mut bool, rest: &[u8])
-    ensures taken { (start : Option (List ℕ)) (before : ℕ) (text : List ℕ) → HasTaken start before text failed.old (K.taken sink.old) (K.faults sink.old) → HasTaken start before (text ++ (last_chunk rest.now ++ end_mark)) failed.new (K.taken sink.new) (K.faults sink.new) }
+    ensures taken { (start : Option (List ℕ)) (before : ℕ) (text : List ℕ) →
+        HasTaken start before text failed.old (K.taken sink.old) (K.faults sink.old) →
+        HasTaken start before (text ++ (last_chunk rest.now ++ end_mark)) failed.new (K.taken sink.new)
+        (K.faults sink.new) }
     ensures later { K.faults sink.old ≤ K.faults sink.new }
 {
     if !rest.is_empty() {

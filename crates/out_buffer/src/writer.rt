@@ -56,7 +56,8 @@ impl Writer {
     pub fn new(alloc: Global, head: Head, size: Option<u32>, autoflush: bool, shown: bool) -> Self
         requires { ForSome size (λ s. 0 < s) }
         ensures value { result ≡ fresh head size autoflush shown }
-        ensures stands { (taken : Option (List ℕ)) (faults : ℕ) → Stands taken faults result taken faults (empty_writer size autoflush) }
+        ensures stands { (taken : Option (List ℕ)) (faults : ℕ) →
+            Stands taken faults result taken faults (empty_writer size autoflush) }
     {
         Writer {
             stream: Stream {
@@ -78,7 +79,9 @@ impl Writer {
     /// Puts a text into the innermost kept body, or else behind the output. X19 where more than [`MAX_OUTPUT_BYTES`] would be
     /// put, and X10 where the buffer overflows and isn't flushed.
     pub fn put<K: Sink>(&mut self, sink: &mut K, text: &str) -> Result<(), Failure<RunFault>>
-        ensures comes { (start : Option (List ℕ)) (before : ℕ) (writer : Written) → Stands start before self.old (K.taken sink.old) (K.faults sink.old) writer → Comes (put text.now writer) result (Stands start before self.new (K.taken sink.new) (K.faults sink.new)) }
+        ensures comes { (start : Option (List ℕ)) (before : ℕ) (writer : Written) →
+            Stands start before self.old (K.taken sink.old) (K.faults sink.old) writer →
+            Comes (put text.now writer) result (Stands start before self.new (K.taken sink.new) (K.faults sink.new)) }
         ensures head { (self.new.head ≡ self.old.head) × (self.new.shown ≡ self.old.shown) }
         ensures err { OnErr result ((self.new ≡ self.old) × (sink.new ≡ sink.old)) }
         ensures later { K.faults sink.old ≤ K.faults sink.new }
@@ -100,7 +103,9 @@ impl Writer {
     /// Keeps what is put from here on, until the body is taken.
     pub fn start_body(&mut self) -> Result<(), AllocError>
         ensures ok { OnOk result (self.new ≡ record self.old { kept = [] ∷ self.old.kept }) }
-        ensures stands { (start : Option (List ℕ)) (before : ℕ) (taken : Option (List ℕ)) (faults : ℕ) (writer : Written) → Stands start before self.old taken faults writer → OnOk result (Stands start before self.new taken faults (with_body writer)) }
+        ensures stands { (start : Option (List ℕ)) (before : ℕ) (taken : Option (List ℕ)) (faults : ℕ)
+            (writer : Written) → Stands start before self.old taken faults writer →
+            OnOk result (Stands start before self.new taken faults (with_body writer)) }
         ensures err { OnErr result (self.new ≡ self.old) }
     {
         self.kept.start()
@@ -111,7 +116,9 @@ impl Writer {
         requires { 0 < length self.old.kept }
         ensures answer { Answers (body_answer (innermost self.old.kept)) result }
         ensures taken { self.new ≡ record self.old { kept = around self.old.kept } }
-        ensures stands { (start : Option (List ℕ)) (before : ℕ) (taken : Option (List ℕ)) (faults : ℕ) (writer : Written) → Stands start before self.old taken faults writer → Stands start before self.new taken faults (without_body writer) }
+        ensures stands { (start : Option (List ℕ)) (before : ℕ) (taken : Option (List ℕ)) (faults : ℕ)
+            (writer : Written) → Stands start before self.old taken faults writer →
+            Stands start before self.new taken faults (without_body writer) }
     {
         let body = self.kept.take();
         if body.len() > MAX_TEXT_BYTES {
@@ -130,7 +137,9 @@ impl Writer {
     /// Drops the kept bodies inside the outermost so many.
     pub fn drop_bodies(&mut self, left: usize)
         ensures left { self.new ≡ record self.old { kept = last_of left self.old.kept } }
-        ensures stands { (start : Option (List ℕ)) (before : ℕ) (taken : Option (List ℕ)) (faults : ℕ) (writer : Written) → Stands start before self.old taken faults writer → Stands start before self.new taken faults (with_bodies left writer) }
+        ensures stands { (start : Option (List ℕ)) (before : ℕ) (taken : Option (List ℕ)) (faults : ℕ)
+            (writer : Written) → Stands start before self.old taken faults writer →
+            Stands start before self.new taken faults (with_bodies left writer) }
     {
         self.kept.truncate(left);
     }
@@ -139,7 +148,9 @@ impl Writer {
     pub fn clear(&mut self) -> Result<(), RunFault>
         ensures answer { result ≡ (if self.old.committed then Err RunFault.Committed else Ok tt) }
         ensures ok { OnOk result (self.new ≡ record self.old { buffer = []; kept = [] }) }
-        ensures stands { (start : Option (List ℕ)) (before : ℕ) (taken : Option (List ℕ)) (faults : ℕ) (writer : Written) → Stands start before self.old taken faults writer → OnOk result (Stands start before self.new taken faults (cleared writer)) }
+        ensures stands { (start : Option (List ℕ)) (before : ℕ) (taken : Option (List ℕ)) (faults : ℕ)
+            (writer : Written) → Stands start before self.old taken faults writer →
+            OnOk result (Stands start before self.new taken faults (cleared writer)) }
         ensures err { OnErr result (self.new ≡ self.old) }
     {
         if self.stream.committed {
@@ -152,7 +163,9 @@ impl Writer {
 
     /// Commits the buffer as one piece, unless it is empty or a body is kept.
     pub fn flush<K: Sink>(&mut self, sink: &mut K) -> Result<(), AllocError>
-        ensures stands { (start : Option (List ℕ)) (before : ℕ) (writer : Written) → Stands start before self.old (K.taken sink.old) (K.faults sink.old) writer → OnOk result (Stands start before self.new (K.taken sink.new) (K.faults sink.new) (flush writer)) }
+        ensures stands { (start : Option (List ℕ)) (before : ℕ) (writer : Written) →
+            Stands start before self.old (K.taken sink.old) (K.faults sink.old) writer →
+            OnOk result (Stands start before self.new (K.taken sink.new) (K.faults sink.new) (flush writer)) }
         ensures head { (self.new.head ≡ self.old.head) × (self.new.shown ≡ self.old.shown) }
         ensures err { OnErr result ((self.new ≡ self.old) × (sink.new ≡ sink.old)) }
         ensures later { K.faults sink.old ≤ K.faults sink.new }
@@ -170,7 +183,9 @@ impl Writer {
     pub fn set_head(&mut self, head: Head)
         requires { self.old.committed ≡ false }
         ensures head { self.new ≡ record self.old { head = head } }
-        ensures stands { (start : Option (List ℕ)) (before : ℕ) (taken : Option (List ℕ)) (faults : ℕ) (writer : Written) → Stands start before self.old taken faults writer → Stands start before self.new taken faults writer }
+        ensures stands { (start : Option (List ℕ)) (before : ℕ) (taken : Option (List ℕ)) (faults : ℕ)
+            (writer : Written) → Stands start before self.old taken faults writer →
+            Stands start before self.new taken faults writer }
     {
         self.stream.head = head;
     }
@@ -179,7 +194,9 @@ impl Writer {
     pub fn set_cookie(&mut self, id: Text)
         requires { self.old.committed ≡ false }
         ensures head { self.new ≡ record self.old { head = record self.old.head { set_cookie = Some id } } }
-        ensures stands { (start : Option (List ℕ)) (before : ℕ) (taken : Option (List ℕ)) (faults : ℕ) (writer : Written) → Stands start before self.old taken faults writer → Stands start before self.new taken faults writer }
+        ensures stands { (start : Option (List ℕ)) (before : ℕ) (taken : Option (List ℕ)) (faults : ℕ)
+            (writer : Written) → Stands start before self.old taken faults writer →
+            Stands start before self.new taken faults writer }
     {
         self.stream.head.set_cookie = Some(id);
     }
@@ -201,7 +218,10 @@ impl Writer {
     /// Ends the response, which may break off. Where nothing was committed it is written whole; else what is left is a last chunk,
     /// and the end stands behind it, unless it breaks off. Memory may be wanting only where nothing was committed.
     pub fn finish<K: Sink>(self, sink: &mut K, broken: bool) -> Result<(), Failure<Failed>>
-        ensures finished { (start : Option (List ℕ)) (before : ℕ) (writer : Written) → Stands start before self (K.taken sink.old) (K.faults sink.old) writer → Finished start before self.shown (response_of self.head writer broken) (K.taken sink.new) (K.faults sink.new) result }
+        ensures finished { (start : Option (List ℕ)) (before : ℕ) (writer : Written) →
+            Stands start before self (K.taken sink.old) (K.faults sink.old) writer →
+            Finished start before self.shown (response_of self.head writer broken) (K.taken sink.new)
+            (K.faults sink.new) result }
         ensures later { K.faults sink.old ≤ K.faults sink.new }
     {
         let Writer {
@@ -223,11 +243,19 @@ fn place<K: Sink>(
     text: &str,
 ) -> Result<(), Failure<RunFault>>
     requires { IsWithin buffer.old.size buffer.old.bytes.items }
-    ensures comes { (start : Option (List ℕ)) (before : ℕ) (pieces : List (List ℕ)) (count : ℕ) → Streams start before stream.old (K.taken sink.old) (K.faults sink.old) pieces
-        → Comes (placed kept.old text.now (writer_at buffer.old pieces count kept.old)) result (λ (after : Written). (after ≡ writer_at buffer.new after.pieces count kept.new) × Streams start before stream.new (K.taken sink.new) (K.faults sink.new) after.pieces) }
+    ensures comes { (start : Option (List ℕ)) (before : ℕ) (pieces : List (List ℕ)) (count : ℕ) →
+        Streams start before stream.old (K.taken sink.old) (K.faults sink.old) pieces
+        → Comes (placed kept.old text.now (writer_at buffer.old pieces count kept.old)) result
+        (λ (after : Written). (after ≡ writer_at buffer.new after.pieces count kept.new) × Streams start
+        before stream.new (K.taken sink.new) (K.faults sink.new) after.pieces) }
     ensures within { IsWithin buffer.new.size buffer.new.bytes.items }
-    ensures same { OnOk result (stream.new ≡ record stream.old { committed = stream.new.committed; failed = stream.new.failed }) }
-    ensures err { OnErr result ((kept.new ≡ kept.old) × (buffer.new.bytes.items ≡ buffer.old.bytes.items) × (stream.new ≡ stream.old) × (sink.new ≡ sink.old)) }
+    ensures same { OnOk result (stream.new ≡ record stream.old {
+      committed = stream.new.committed;
+      failed =
+          stream.new.failed;
+    }) }
+    ensures err { OnErr result ((kept.new ≡ kept.old) × (buffer.new.bytes.items ≡ buffer.old.bytes.items)
+        × (stream.new ≡ stream.old) × (sink.new ≡ sink.old)) }
     ensures settings { (buffer.new.size ≡ buffer.old.size) × (buffer.new.autoflush ≡ buffer.old.autoflush) }
     ensures later { K.faults sink.old ≤ K.faults sink.new }
 {

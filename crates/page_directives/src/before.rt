@@ -85,7 +85,8 @@ impl<'a> Before<'a> {
         own: &'b Attributes,
         name: &str,
     ) -> Option<&'b str>
-        ensures { option_map (λ text. text.now) result ≡ value_of name.now (given (giver in_tag) self.now.directives ++ own.now) }
+        ensures { option_map (λ text. text.now) result
+            ≡ value_of name.now (given (giver in_tag) self.now.directives ++ own.now) }
     {
         match &self.known {
             Some(known) => known.value(in_tag, own, name),
@@ -109,7 +110,8 @@ impl<'a> Before<'a> {
 
     /// From now on a directive stands before.
     pub fn push(&mut self, directive: Directive<'a>) -> Result<(), AllocError>
-        ensures before { OnOk result (self.new ≡ record self.old { directives = self.old.directives ++ directive.entry ∷ [] }) }
+        ensures before { OnOk result (self.new
+            ≡ record self.old { directives = self.old.directives ++ directive.entry ∷ [] }) }
         ensures err { OnErr result (self.new ≡ self.old) }
     {
         let known = known_behind(self.known.take(), &directive)?;
@@ -125,8 +127,10 @@ impl<'a> Before<'a> {
         first: &FirstReading,
         directive: Directive<'a>,
     ) -> Result<Faults, AllocError>
-        ensures faults { IfOk result (λ faults. faults ≡ in_order (met_faults stands first.now self.old directive.entry)) }
-        ensures before { OnOk result (self.new ≡ record self.old { directives = self.old.directives ++ directive.entry ∷ [] }) }
+        ensures faults { IfOk result (λ faults. faults
+            ≡ in_order (met_faults stands first.now self.old directive.entry)) }
+        ensures before { OnOk result (self.new
+            ≡ record self.old { directives = self.old.directives ++ directive.entry ∷ [] }) }
         ensures err { OnErr result (self.new ≡ self.old) }
     {
         let faults = self.faults(stands, first, &directive);
@@ -137,7 +141,10 @@ impl<'a> Before<'a> {
     /// Meets template text: the prefixes that stand in it before a colon and a name, behind a `<`, stand before from now on.
     /// After an error some of them do.
     pub fn meet_text(&mut self, text: &str) -> Result<(), AllocError>
-        ensures { OnOk result (self.new ≡ record self.old { prefixes = self.old.prefixes ++ prefixes_in_text text.now }) }
+        ensures { OnOk result (self.new ≡ record self.old {
+          prefixes = self.old.prefixes
+              ++ prefixes_in_text text.now;
+        }) }
     {
         push_prefixes(&mut self.prefixes, text)
     }

@@ -22,7 +22,8 @@ fn kilobytes_in(digits: &[u8]) -> Option<u32>
     requires some { 1 ≤ length digits.now }
     requires few { length digits.now ≤ 4 }
     requires digits { all_ascii_digits digits.now ≡ true }
-    ensures { result ≡ (if nat_le (digits_value 10 digits.now) 4096 then Some (digits_value 10 digits.now) else None) }
+    ensures { result ≡ (if nat_le (digits_value 10 digits.now) 4096 then Some (digits_value 10 digits.now)
+        else None) }
 {
     match whole_number(digits) {
         Some(number) if number <= MAX_KILOBYTES => Some(number as u32),

@@ -94,7 +94,9 @@ fn sent_type(alloc: Global, first: &str, second: &str) -> Result<Text, AllocErro
 
 // A content type as it is sent, or else the one that a page has by itself.
 pub(crate) fn content_type(alloc: Global, given: Option<&str>) -> Result<Text, AllocError>
-    ensures { IfOk result (λ text. text ≡ unwrap_or (option_and_then content_type (option_map (λ given. given.now) given.entry)) (codes "text/html;charset=UTF-8")) }
+    ensures { IfOk result (λ text. text ≡ unwrap_or
+        (option_and_then content_type (option_map (λ given. given.now) given.entry))
+        (codes "text/html;charset=UTF-8")) }
 {
     let tokens = match given {
         Some(given) => tokens(given),

@@ -55,7 +55,8 @@ impl Faults {
     /// These faults and others.
     pub fn and(self, others: Faults) -> Self
         ensures both { result ≡ in_order (self ++ others) }
-        ensures of { (xs ys : List TranslationFault) → self ≡ in_order xs → others ≡ in_order ys → result ≡ in_order (xs ++ ys) }
+        ensures of { (xs ys : List TranslationFault) → self ≡ in_order xs → others ≡ in_order ys →
+            result ≡ in_order (xs ++ ys) }
     {
         Faults {
             bits: self.bits | others.bits,

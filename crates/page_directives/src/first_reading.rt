@@ -89,7 +89,8 @@ fn decided_with<'a>(
     directive: &Directive<'a>,
     name: &str,
 ) -> Option<&'a str>
-    ensures { (before : List Seen) → option_map (λ text. text.now) decided.entry ≡ decided_by in_tag before name.now
+    ensures { (before : List Seen) → option_map (λ text. text.now) decided.entry
+        ≡ decided_by in_tag before name.now
         → option_map (λ text. text.now) result ≡ decided_by in_tag (before ++ directive.now ∷ []) name.now }
 {
     match decided {
@@ -100,7 +101,8 @@ fn decided_with<'a>(
 
 // Whether there is neither a buffer nor flushing.
 fn lacks_both(buffer: Option<&str>, auto_flush: Option<&str>) -> bool
-    ensures { result ≡ (is_value (codes "none") (option_map (λ text. text.now) buffer.entry) && is_value (codes "false") (option_map (λ text. text.now) auto_flush.entry)) }
+    ensures { result ≡ (is_value (codes "none") (option_map (λ text. text.now) buffer.entry) && is_value
+        (codes "false") (option_map (λ text. text.now) auto_flush.entry)) }
 {
     is_value("none", buffer) && is_value("false", auto_flush)
 }

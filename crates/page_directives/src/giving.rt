@@ -49,7 +49,8 @@ fn gives(giver: &str, directive: &Directive, name: &str) -> bool
 
 // Whether a value is another than the first of its attribute.
 fn differs(value: Option<&str>, first: Option<&str>) -> bool
-    ensures { result ≡ differs (option_map (λ text. text.now) value.entry) (option_map (λ text. text.now) first.entry) }
+    ensures { result ≡ differs (option_map (λ text. text.now) value.entry)
+        (option_map (λ text. text.now) first.entry) }
 {
     match (value, first) {
         (Some(value), Some(first)) => value != first,
@@ -134,7 +135,9 @@ pub(crate) fn decided_by_one<'a>(
     directive: &Directive<'a>,
     name: &str,
 ) -> Option<&'a str>
-    ensures { option_map (λ text. text.now) result ≡ (if is_named giver.now directive.now then decided (rows_of table.now) name.now directive.now.attributes else None) }
+    ensures { option_map (λ text. text.now) result
+        ≡ (if is_named giver.now directive.now then decided (rows_of table.now)
+        name.now directive.now.attributes else None) }
 {
     if directive.is_named(giver) {
         decided_in(table, name, directive.attributes().as_slice())
@@ -150,7 +153,8 @@ pub fn decided<'a>(
     directives: &[Directive<'a>],
     name: &str,
 ) -> Option<&'a str>
-    ensures { option_map (λ text. text.now) result ≡ decided (rows_of table.now) name.now (given giver.now directives.now) }
+    ensures { option_map (λ text. text.now) result ≡ decided (rows_of table.now) name.now
+        (given giver.now directives.now) }
 {
     for directive in directives {
         if let Some(value) = decided_by_one(table, giver, directive, name) {
@@ -172,7 +176,8 @@ pub fn truth_or(other: bool, value: Option<&str>) -> bool
 
 // The size of a buffer, or else the one that a page has by itself.
 fn buffer_or_default(value: Option<&str>) -> Option<u32>
-    ensures { result ≡ unwrap_or (option_and_then buffer_size (option_map (λ text. text.now) value.entry)) (Some 8192) }
+    ensures { result ≡ unwrap_or (option_and_then buffer_size (option_map (λ text. text.now) value.entry))
+        (Some 8192) }
 {
     match value {
         Some(text) => buffer_size(text).unwrap_or(Some(DEFAULT_BUFFER)),

@@ -37,7 +37,8 @@ impl<'a> Known<'a> {
 
     /// The same behind one more directive.
     pub fn behind(mut self, directive: &Directive<'a>) -> Result<Self, AllocError>
-        ensures { IfOk result (λ known. (before : List Seen) → IsKnown self.entry before → IsKnown known (before ++ directive.now ∷ [])) }
+        ensures { IfOk result (λ known. (before : List Seen) → IsKnown self.entry before →
+            IsKnown known (before ++ directive.now ∷ [])) }
     {
         add_given(&mut self.page, "page", directive)?;
         add_given(&mut self.tag, "tag", directive)?;
@@ -47,7 +48,8 @@ impl<'a> Known<'a> {
 
     /// The text of the first attribute of that name, of those that directives that give settings gave and of others behind them.
     pub fn value<'b>(&'b self, in_tag: bool, own: &'b Attributes, name: &str) -> Option<&'b str>
-        ensures { (before : List Seen) → IsKnown self.now before → option_map (λ text. text.now) result ≡ value_of name.now (given (giver in_tag) before ++ own.now) }
+        ensures { (before : List Seen) → IsKnown self.now before → option_map (λ text. text.now) result
+            ≡ value_of name.now (given (giver in_tag) before ++ own.now) }
     {
         if in_tag {
             first_value(&self.tag, own, name)
@@ -58,7 +60,8 @@ impl<'a> Known<'a> {
 
     /// What a prefix stands for.
     pub fn target(&self, prefix: &str) -> Option<&Target>
-        ensures { (before : List Seen) → IsKnown self.now before → option_map (λ target. target.now) result ≡ target_of prefix.now before }
+        ensures { (before : List Seen) → IsKnown self.now before → option_map (λ target. target.now) result
+            ≡ target_of prefix.now before }
     {
         self.targets.get(prefix)
     }
@@ -70,7 +73,8 @@ fn first_value<'a, 'b>(
     own: &'b Attributes,
     name: &str,
 ) -> Option<&'b str>
-    ensures { (all : List Given) → HasFirst known.now all → option_map (λ text. text.now) result ≡ value_of name.now (all ++ own.now) }
+    ensures { (all : List Given) → HasFirst known.now all → option_map (λ text. text.now) result
+        ≡ value_of name.now (all ++ own.now) }
 {
     match known.get(name) {
         Some(attribute) => plain_text(attribute.parts.as_slice()),
@@ -83,7 +87,8 @@ fn add_new<'a>(
     known: &mut BTreeMap<&'a str, &'a Attribute>,
     attribute: &'a Attribute,
 ) -> Result<(), AllocError>
-    ensures { OnOk result ((all : List Given) → HasFirst known.old all → HasFirst known.new (all ++ attribute.now ∷ [])) }
+    ensures { OnOk result ((all : List Given) → HasFirst known.old all →
+        HasFirst known.new (all ++ attribute.now ∷ [])) }
 {
     let name = attribute.name.as_str();
     if !known.contains_key(name) {
@@ -97,7 +102,8 @@ fn add_first<'a>(
     known: &mut BTreeMap<&'a str, &'a Attribute>,
     attributes: &'a [Attribute],
 ) -> Result<(), AllocError>
-    ensures { OnOk result ((all : List Given) → HasFirst known.old all → HasFirst known.new (all ++ attributes.now)) }
+    ensures { OnOk result ((all : List Given) → HasFirst known.old all →
+        HasFirst known.new (all ++ attributes.now)) }
 {
     for attribute in attributes {
         add_new(known, attribute)?;
@@ -111,7 +117,8 @@ fn add_given<'a>(
     giver: &str,
     directive: &Directive<'a>,
 ) -> Result<(), AllocError>
-    ensures { OnOk result ((before : List Seen) → HasFirst known.old (given giver.now before) → HasFirst known.new (given giver.now (before ++ directive.now ∷ []))) }
+    ensures { OnOk result ((before : List Seen) → HasFirst known.old (given giver.now before) →
+        HasFirst known.new (given giver.now (before ++ directive.now ∷ []))) }
 {
     if directive.is_named(giver) {
         add_first(known, directive.attributes().as_slice())?;
@@ -124,7 +131,8 @@ fn add_target<'a>(
     known: &mut BTreeMap<&'a str, Target>,
     directive: &Directive<'a>,
 ) -> Result<(), AllocError>
-    ensures { OnOk result ((before : List Seen) → HasTargets known.old before → HasTargets known.new (before ++ directive.now ∷ [])) }
+    ensures { OnOk result ((before : List Seen) → HasTargets known.old before →
+        HasTargets known.new (before ++ directive.now ∷ [])) }
 {
     let Some(prefix) = directive.prefix() else {
         return Ok(());
@@ -143,7 +151,9 @@ pub(crate) fn known_behind<'a>(
     known: Option<Known<'a>>,
     directive: &Directive<'a>,
 ) -> Result<Option<Known<'a>>, AllocError>
-    ensures { IfOk result (λ more. (before : List Seen) → IfSome known.entry (λ known. IsKnown known before) → IfSome more (λ known. IsKnown known (before ++ directive.now ∷ []))) }
+    ensures { IfOk result (λ more. (before : List Seen) →
+        IfSome known.entry (λ known. IsKnown known before) →
+        IfSome more (λ known. IsKnown known (before ++ directive.now ∷ []))) }
 {
     match known {
         Some(known) => Ok(Some(known.behind(directive)?)),

@@ -41,7 +41,8 @@ pub fn target_of<'d>(prefix: &str, directives: &'d [Directive]) -> Option<&'d Ta
 
 // Whether two targets are registered for one prefix.
 fn clashes(one: Option<&Target>, other: Option<&Target>) -> bool
-    ensures { result ≡ clashes (option_map (λ target. target.now) one.entry) (option_map (λ target. target.now) other.entry) }
+    ensures { result ≡ clashes (option_map (λ target. target.now) one.entry)
+        (option_map (λ target. target.now) other.entry) }
 {
     match (one, other) {
         (Some(one), Some(other)) => !is_same_target(one, other),
@@ -60,7 +61,8 @@ fn is_refused(prefix: &str) -> bool
 // The faults of the prefix and its target.
 #[tactic(auto, unfolding(crate::specs::Taglibs::registering_faults))]
 fn registering_faults(before: &Before, prefix: Option<&str>, target: Option<&Target>) -> Faults
-    ensures { result ≡ in_order (registering_faults before.now.prefixes before.now.directives (option_map (λ text. text.now) prefix.entry) (option_map (λ target. target.now) target.entry)) }
+    ensures { result ≡ in_order (registering_faults before.now.prefixes before.now.directives
+        (option_map (λ text. text.now) prefix.entry) (option_map (λ target. target.now) target.entry)) }
 {
     let Some(prefix) = prefix else {
         return Faults::none();

@@ -27,7 +27,8 @@ pub fn arranged(
     wanted: &[&str],
     names: &Listed<Text>,
 ) -> Result<Code, AllocError>
-    ensures { IfOk result (λ code. code ≡ arranged_code ground.now place.now (map (λ name. name.now) wanted.now) names.now 0) }
+    ensures { IfOk result (λ code. code ≡ arranged_code ground.now place.now
+        (map (λ name. name.now) wanted.now) names.now 0) }
 {
     let mut left = names.copy()?.into_vec();
     let mut code = Code::new(alloc);
@@ -56,8 +57,10 @@ fn put_wanted(
     names: &mut Vec<Text>,
     done: usize,
 ) -> Result<(), AllocError>
-    ensures code { OnOk result (code.new ≡ code.old ++ wanted_code ground.now place.now names.old.items done (last_place wanted.now names.old.items)) }
-    ensures left { OnOk result (names.new.items ≡ left_names names.old.items (last_place wanted.now names.old.items)) }
+    ensures code { OnOk result (code.new ≡ code.old ++ wanted_code ground.now place.now names.old.items done
+        (last_place wanted.now names.old.items)) }
+    ensures left { OnOk result (names.new.items
+        ≡ left_names names.old.items (last_place wanted.now names.old.items)) }
 {
     let before = ground.up(names.len())?.up(done)?;
     let Some(at) = last_place(names.as_slice(), wanted) else {

@@ -55,7 +55,12 @@ impl Handed {
 
     /// One fragment more, by its code with its end.
     pub fn add_fragment(&mut self, name: Text, code: Code) -> Result<(), AllocError>
-        ensures { OnOk result (self.new ≡ record { body = self.old.body; fragments = self.old.fragments ++ record { name = name; size = length code } ∷ []; cells = self.old.cells ++ code }) }
+        ensures { OnOk result (self.new ≡ record {
+          body = self.old.body;
+          fragments = self.old.fragments
+              ++ record { name = name; size = length code } ∷ [];
+          cells = self.old.cells ++ code;
+        }) }
     {
         let size = code.len();
         self.fragments.push(Fragment { name, size })?;
@@ -81,7 +86,14 @@ pub fn tag_call(
     names: Listed<Text>,
     down: Handed,
 ) -> Result<Code, AllocError>
-    ensures { IfOk result (λ code. code ≡ cell before.now place.now (instr.CallOut (call_is.Tag (record { path = path; names = names; body = down.body; fragments = down.fragments }))) ∷ down.cells) }
+    ensures { IfOk result (λ code. code ≡ cell before.now place.now
+        (instr.CallOut (call_is.Tag (record {
+          path = path;
+          names = names;
+          body = down.body;
+          fragments =
+              down.fragments;
+        }))) ∷ down.cells) }
 {
     let Handed {
         body,

@@ -18,7 +18,8 @@ pub fn chosen(
     first: Code,
     second: Code,
 ) -> Result<Code, AllocError>
-    ensures { IfOk result (λ code. code ≡ either_code before.now after.now place.now (instr.JumpIf false) first second) }
+    ensures { IfOk result (λ code. code ≡ either_code before.now after.now place.now (instr.JumpIf false)
+        first second) }
 {
     let front = passing(after, place, first, &second)?;
     let test = Instr::JumpIf(false, front.len());
@@ -43,7 +44,8 @@ pub fn where_null(
 
 // The first part with the jump over the second behind it.
 fn passing(after: &Shape, place: &Place, mut first: Code, second: &Code) -> Result<Code, AllocError>
-    ensures { IfOk result (λ front. front ≡ first ++ cell after.now place.now (instr.Jump (length second.now)) ∷ []) }
+    ensures { IfOk result (λ front. front ≡ first ++ cell after.now place.now
+        (instr.Jump (length second.now)) ∷ []) }
 {
     first.put(after, place, Instr::Jump(second.len()))?;
     Ok(first)

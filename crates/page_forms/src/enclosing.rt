@@ -19,7 +19,8 @@ pub fn kept(
     place: &Place,
     part: Code,
 ) -> Result<Code, AllocError>
-    ensures { IfOk result (λ code. code ≡ cell before.now place.now instr.StartBody ∷ (part ++ cell (keeping ground.now) place.now instr.TakeBody ∷ [])) }
+    ensures { IfOk result (λ code. code ≡ cell before.now place.now instr.StartBody
+        ∷ (part ++ cell (keeping ground.now) place.now instr.TakeBody ∷ [])) }
 {
     let mut code = Code::new(alloc);
     code.put(before, place, Instr::StartBody)?;
@@ -37,7 +38,8 @@ pub fn ensured(
     bean: Bean,
     part: Code,
 ) -> Result<Code, AllocError>
-    ensures { IfOk result (λ code. code ≡ cell ground.now place.now (instr.Ensure variable bean (length part)) ∷ part) }
+    ensures { IfOk result (λ code. code ≡ cell ground.now place.now
+        (instr.Ensure variable bean (length part)) ∷ part) }
 {
     let size = part.len();
     let mut code = Code::new(alloc);
@@ -60,7 +62,8 @@ pub fn looped(
     kind: LoopKind,
     part: Code,
 ) -> Result<Code, AllocError>
-    ensures { IfOk result (λ code. code ≡ cell before.now place.now (instr.LoopStart kind) ∷ rounds_code ground.now place.now part) }
+    ensures { IfOk result (λ code. code ≡ cell before.now place.now (instr.LoopStart kind)
+        ∷ rounds_code ground.now place.now part) }
 {
     let size = part.len();
     let within = ground.looping()?;
@@ -93,7 +96,8 @@ pub fn caught(
 
 // What is tried, with the end of its catch and a null behind it.
 fn ended_try(ground: &Shape, place: &Place, mut tried: Code) -> Result<Code, AllocError>
-    ensures { IfOk result (λ front. front ≡ tried ++ cell (trying ground.now) place.now instr.CatchEnd ∷ cell ground.now place.now (instr.Op (op.Const value.Null)) ∷ []) }
+    ensures { IfOk result (λ front. front ≡ tried ++ cell (trying ground.now) place.now instr.CatchEnd
+        ∷ cell ground.now place.now (instr.Op (op.Const value.Null)) ∷ []) }
 {
     tried.put(&ground.trying()?, place, Instr::CatchEnd)?;
     tried.put(ground, place, Instr::Op(Op::Const(Value::Null)))?;

@@ -70,11 +70,14 @@ pub(crate) fn tag_call<W: World>(
     requires known { Known W.reached W.stores served.now world.old }
     requires seat { SeatFits (seat_of seat.now) }
     requires holds { SeatHolds (seat_of seat.now) (length (W.variables world.old).frames) }
-    requires fits { BodyBegins (code_of (seat_of seat.now)) (pc + 1) call.now.body × FragmentsBegin (code_of (seat_of seat.now)) (pc + 1 + body_size call.now.body) call.now.fragments }
+    requires fits { BodyBegins (code_of (seat_of seat.now)) (pc + 1) call.now.body × FragmentsBegin
+        (code_of (seat_of seat.now)) (pc + 1 + body_size call.now.body) call.now.fragments }
     requires within { pc + 1 + call_size call.now < 2 ^ 64 }
     requires filled { length call.now.names ≤ length open.old.stack }
     ensures covered { W.covered world.new }
-    ensures stepped { Stepped W.reached W.replies (ServesSo W.stores served.now) (seat_of seat.now) (λ serving s. called_out serving (seat_of seat.now) place.now (pc + 1) (call_out.Tag call.now) s (open_of open.old)) world.old world.new (open_of open.new) result }
+    ensures stepped { Stepped W.reached W.replies (ServesSo W.stores served.now) (seat_of seat.now)
+        (λ serving s. called_out serving (seat_of seat.now) place.now (pc + 1) (call_out.Tag call.now) s
+        (open_of open.old)) world.old world.new (open_of open.new) result }
     ensures left { open.new.left ≡ open.old.left }
 {
     let count = call.names.len();
@@ -116,10 +119,14 @@ fn enter_call<W: World>(
     requires seat { SeatFits (seat_of seat.now) }
     requires holds { SeatHolds (seat_of seat.now) (length (W.variables world.old).frames) }
     requires tag { CodeFits (tag_of tag.now).code }
-    requires fits { BodyBegins (code_of (seat_of seat.now)) (pc + 1) call.now.body × FragmentsBegin (code_of (seat_of seat.now)) (pc + 1 + body_size call.now.body) call.now.fragments }
+    requires fits { BodyBegins (code_of (seat_of seat.now)) (pc + 1) call.now.body × FragmentsBegin
+        (code_of (seat_of seat.now)) (pc + 1 + body_size call.now.body) call.now.fragments }
     requires within { pc + 1 + call_size call.now < 2 ^ 64 }
     ensures covered { W.covered world.new }
-    ensures stepped { Stepped W.reached W.replies (ServesSo W.stores served.now) (seat_of seat.now) (λ serving s. call_entered place.now (made_call (tag_of tag.now) call.now (pc + 1) entries s) entries (seat_of seat.now) (pc + 1 + call_size call.now) s (open_of open.old)) world.old world.new (open_of open.new) result }
+    ensures stepped { Stepped W.reached W.replies (ServesSo W.stores served.now) (seat_of seat.now)
+        (λ serving s. call_entered place.now (made_call (tag_of tag.now) call.now (pc + 1) entries s) entries
+        (seat_of seat.now) (pc + 1 + call_size call.now) s (open_of open.old)) world.old world.new
+        (open_of open.new) result }
     ensures left { open.new.left ≡ open.old.left }
 {
     let Some(left) = open.left.checked_sub(1) else {
@@ -163,8 +170,10 @@ fn enter_call<W: World>(
 
 // The body, or the fragment of a name, that a call gives.
 fn given<'a>(name: Option<&Text>, call: &'a CallSeat) -> Given<'a>
-    requires within { call.now.behind + (body_size (call_of call.now).body + fragments_size (call_of call.now).fragments) < 2 ^ 64 }
-    ensures { (caller : Seat') → given_of result ≡ given_by (option_map (λ name. name.now) name.entry) (in_tag (call_of call.now) caller) }
+    requires within { call.now.behind + (body_size (call_of call.now).body + fragments_size
+        (call_of call.now).fragments) < 2 ^ 64 }
+    ensures { (caller : Seat') → given_of result ≡ given_by (option_map (λ name. name.now) name.entry)
+        (in_tag (call_of call.now) caller) }
 {
     match name {
         None => body_given(call),
@@ -190,7 +199,10 @@ pub(crate) fn given_call<W: World>(
     requires holds { SeatHolds (seat_of seat.now) (length (W.variables world.old).frames) }
     requires within { pc + 1 < 2 ^ 64 }
     ensures covered { W.covered world.new }
-    ensures stepped { Stepped W.reached W.replies (ServesSo W.stores served.now) (seat_of seat.now) (λ serving s. given_called place.now (given_by (option_map (λ name. name.now) name.entry) (seat_of seat.now)) (seat_of seat.now) (pc + 1) s (open_of open.old)) world.old world.new (open_of open.new) result }
+    ensures stepped { Stepped W.reached W.replies (ServesSo W.stores served.now) (seat_of seat.now)
+        (λ serving s. given_called place.now (given_by (option_map (λ name. name.now) name.entry)
+        (seat_of seat.now)) (seat_of seat.now) (pc + 1) s (open_of open.old)) world.old world.new
+        (open_of open.new) result }
     ensures left { open.new.left ≡ open.old.left }
 {
     match seat {
@@ -238,8 +250,10 @@ fn write_source<W: World>(
     requires within { pc + 1 < 2 ^ 64 }
     requires there { call.now.frame < length (W.variables world.old).frames }
     ensures covered { W.covered world.new }
-    ensures acted { (name : Option (List ℕ)) (seat caller : Seat') → seat ≡ in_tag (call_of call.now) caller → given_by name seat ≡ source_text text.now
-        → Acted W.reached W.replies (λ s. given_called place.now (given_by name seat) seat (pc + 1) s (open_of open.old)) world.old world.new (open_of open.new) result }
+    ensures acted { (name : Option (List ℕ)) (seat caller : Seat') →
+        seat ≡ in_tag (call_of call.now) caller → given_by name seat ≡ source_text text.now
+        → Acted W.reached W.replies (λ s. given_called place.now (given_by name seat) seat (pc + 1) s
+        (open_of open.old)) world.old world.new (open_of open.new) result }
     ensures left { open.new.left ≡ open.old.left }
 {
     let Some(_left) = open.left.checked_sub(1) else {

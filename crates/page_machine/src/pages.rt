@@ -56,7 +56,8 @@ fn find_target(alloc: Global, seat: &Seat, values: &[Value]) -> Result<Target, F
 // What an import names: X15 where it has `://`.
 fn import_target(alloc: Global, seat: &Seat, values: &[Value]) -> Result<Target, Failure<RunFault>>
     requires { 1 ≤ length values.now }
-    ensures { ImportSo (contains_part (codes "://") (text_at 0 (map datum_of values.now))) (page_run_of (seat_of seat.now)) (map datum_of values.now) result }
+    ensures { ImportSo (contains_part (codes "://") (text_at 0 (map datum_of values.now)))
+        (page_run_of (seat_of seat.now)) (map datum_of values.now) result }
 {
     if text_of(&values[0]).find("://").is_some() {
         return Err(Failure::Fault(RunFault::BadUrl));
@@ -93,7 +94,9 @@ pub(crate) fn include_call<W: World>(
     requires within { pc + 1 < 2 ^ 64 }
     requires filled { address_with params ≤ length open.old.stack }
     ensures covered { W.covered world.new }
-    ensures stepped { Stepped W.reached W.replies (ServesSo W.stores served.now) (seat_of seat.now) (λ serving s. called_out serving (seat_of seat.now) place.now (pc + 1) (call.Include flush params) s (open_of open.old)) world.old world.new (open_of open.new) result }
+    ensures stepped { Stepped W.reached W.replies (ServesSo W.stores served.now) (seat_of seat.now)
+        (λ serving s. called_out serving (seat_of seat.now) place.now (pc + 1) (call.Include flush params) s
+        (open_of open.old)) world.old world.new (open_of open.new) result }
     ensures left { open.new.left ≡ open.old.left }
 {
     let Ok(()) = flush_if(flush, world) else {
@@ -122,7 +125,9 @@ pub(crate) fn import_call<W: World>(
     requires within { pc + 1 < 2 ^ 64 }
     requires filled { 1 ≤ length open.old.stack }
     ensures covered { W.covered world.new }
-    ensures stepped { Stepped W.reached W.replies (ServesSo W.stores served.now) (seat_of seat.now) (λ serving s. called_out serving (seat_of seat.now) place.now (pc + 1) call.Import s (open_of open.old)) world.old world.new (open_of open.new) result }
+    ensures stepped { Stepped W.reached W.replies (ServesSo W.stores served.now) (seat_of seat.now)
+        (λ serving s. called_out serving (seat_of seat.now) place.now (pc + 1) call.Import s
+        (open_of open.old)) world.old world.new (open_of open.new) result }
     ensures left { open.new.left ≡ open.old.left }
 {
     let found = import_target(alloc, seat, open.stack.top(1));
@@ -145,8 +150,11 @@ fn include<W: World>(
     requires known { Known W.reached W.stores served.now world.old }
     requires within { pc + 1 < 2 ^ 64 }
     ensures covered { W.covered world.new }
-    ensures stepped { (seat : Seat') → Stepped W.reached W.replies (ServesSo W.stores served.now) seat (λ serving s. include_found serving place.now found (pc + 1) s (open_of open.old)) world.old world.new (open_of open.new) result }
-    ensures short { found ≡ Err failure.NoMemory → (result ≡ flow.Over end.NoMemory) × (world.new ≡ world.old) }
+    ensures stepped { (seat : Seat') → Stepped W.reached W.replies (ServesSo W.stores served.now) seat
+        (λ serving s. include_found serving place.now found (pc + 1) s (open_of open.old)) world.old world.new
+        (open_of open.new) result }
+    ensures short { found ≡ Err failure.NoMemory → (result ≡ flow.Over end.NoMemory) × (world.new
+        ≡ world.old) }
     ensures left { open.new.left ≡ open.old.left }
 {
     let target = match found {
@@ -190,7 +198,9 @@ fn include_text<W: World>(
     requires covered { W.covered world.old }
     requires within { pc + 1 < 2 ^ 64 }
     ensures covered { W.covered world.new }
-    ensures acted { Acted W.reached W.replies (λ s. On (land (pc + 1) (λ u. (open_of open.old).stack) (open_of open.old) (put_text place.now text.now s))) world.old world.new (open_of open.new) result }
+    ensures acted { Acted W.reached W.replies
+        (λ s. On (land (pc + 1) (λ u. (open_of open.old).stack) (open_of open.old)
+        (put_text place.now text.now s))) world.old world.new (open_of open.new) result }
     ensures left { open.new.left ≡ open.old.left }
 {
     match world.put(text.as_str()) {
@@ -216,7 +226,9 @@ fn included_page<W: World>(
     requires known { Known W.reached W.stores served.now world.old }
     requires within { pc + 1 < 2 ^ 64 }
     ensures covered { W.covered world.new }
-    ensures stepped { (seat : Seat') → Stepped W.reached W.replies (ServesSo W.stores served.now) seat (λ serving s. included_run place.now (program_of program.now) params.now left (pc + 1) s (open_of open.old)) world.old world.new (open_of open.new) result }
+    ensures stepped { (seat : Seat') → Stepped W.reached W.replies (ServesSo W.stores served.now) seat
+        (λ serving s. included_run place.now (program_of program.now) params.now left (pc + 1) s
+        (open_of open.old)) world.old world.new (open_of open.new) result }
     ensures left { open.new.left ≡ open.old.left }
 {
     let bodies = world.bodies();
@@ -246,7 +258,8 @@ fn included_page<W: World>(
 // Whether a page's run starts a session.
 fn starts_session<W: World>(program: &Program, world: &W) -> bool
     requires covered { W.covered world.now }
-    ensures { result ≡ (program.now.settings.session && is_none (W.variables world.now).session && not (W.committed world.now)) }
+    ensures { result ≡ (program.now.settings.session && is_none (W.variables world.now).session && not
+        (W.committed world.now)) }
 {
     program.settings.session && !world.has_session() && !world.has_committed()
 }
@@ -255,7 +268,8 @@ fn starts_session<W: World>(program: &Program, world: &W) -> bool
 fn begin_page<W: World>(program: &Program, world: &mut W) -> Result<(), Failure<RunFault>>
     requires covered { W.covered world.old }
     ensures covered { W.covered world.new }
-    ensures does { Doing W.reached W.replies (λ u. u) (λ place. page_begun (program_of program.now)) world.old world.new result }
+    ensures does { Doing W.reached W.replies (λ u. u) (λ place. page_begun (program_of program.now))
+        world.old world.new result }
 {
     if starts_session(program, world) {
         return world.fresh();
@@ -276,7 +290,8 @@ pub(crate) fn page_run<W: World>(
     requires covered { W.covered world.old }
     requires known { Known W.reached W.stores served.now world.old }
     ensures covered { W.covered world.new }
-    ensures ran { Ran W.reached W.replies (ServesSo W.stores served.now) (λ serving s d. PageRuns serving (program_of program.now) params.now left s d) world.old world.new result }
+    ensures ran { Ran W.reached W.replies (ServesSo W.stores served.now) (λ serving s d.
+        PageRuns serving (program_of program.now) params.now left s d) world.old world.new result }
 {
     know_tags(program.tags.as_slice());
     let _ = program.code.code();

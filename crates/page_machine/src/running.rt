@@ -53,9 +53,14 @@ pub fn run<P: AppPort<Program>, K: Sink>(
     requires in_order { IsInOrder scopes.old around.old (P.asking port.old) }
     requires promise { RUN_PROMISE ≤ around.old.charge + (P.asking port.old).left }
     requires served { IsServed P.made P.faulty (P.tree port.old) request.now around.old }
-    requires writer { (start : Option (List ℕ)) × (before : ℕ) × (written : Written) × Stands start before writer.old (K.taken sink.old) (K.faults sink.old) written }
-    ensures ran { (serving : Serving) → Serves P.made P.faulty (P.tree port.old) request.now around.old serving → (origin : Origin) (s : State) → StandsFor origin scopes.old writer.old (K.taken sink.old) (K.faults sink.old) around.old (P.asking port.old) s
-        → PageRan serving (program_of program.now) params.now (level_limit - around.old.depth) (StandsFor origin scopes.new writer.new (K.taken sink.new) (K.faults sink.new) around.new (P.asking port.new)) s (P.asking port.old).answers (P.asking port.new).answers around.new.depth result }
+    requires writer { (start : Option (List ℕ)) × (before : ℕ) × (written : Written) × Stands start
+        before writer.old (K.taken sink.old) (K.faults sink.old) written }
+    ensures ran { (serving : Serving) → Serves P.made P.faulty (P.tree port.old) request.now around.old
+        serving → (origin : Origin) (s : State) → StandsFor origin scopes.old writer.old (K.taken sink.old)
+        (K.faults sink.old) around.old (P.asking port.old) s
+        → PageRan serving (program_of program.now) params.now (level_limit - around.old.depth)
+        (StandsFor origin scopes.new writer.new (K.taken sink.new) (K.faults sink.new) around.new
+        (P.asking port.new)) s (P.asking port.old).answers (P.asking port.new).answers around.new.depth result }
     ensures in_order { IsInOrder scopes.new around.new (P.asking port.new) }
     ensures charged { HasCharged around.old around.new (P.asking port.old) (P.asking port.new) }
     ensures depth { DepthSo around.old.depth around.new.depth result }
@@ -94,7 +99,8 @@ fn run_seen<'a, W: World>(
     requires covered { W.covered world.old }
     requires known { KnownSo W.reached W.stores request.now exception.now world.old }
     ensures covered { W.covered world.new }
-    ensures ran { Ran W.reached W.replies (SeesSo W.stores request.now exception.now) (λ serving s d. PageRuns serving (program_of program.now) params.now left s d) world.old world.new result }
+    ensures ran { Ran W.reached W.replies (SeesSo W.stores request.now exception.now) (λ serving s d.
+        PageRuns serving (program_of program.now) params.now left s d) world.old world.new result }
 {
     let seen = exception.as_ref();
     let served = Served {

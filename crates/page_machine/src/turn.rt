@@ -35,7 +35,8 @@ pub(crate) fn run_code<W: World>(
     requires holds { SeatHolds (seat_of seat.now) (length (W.variables world.old).frames) }
     requires at { Carries (code_of (seat_of seat.now)) at empty_shape }
     ensures covered { W.covered world.new }
-    ensures ran { Ran W.reached W.replies (ServesSo W.stores served.now) (CodeRuns (seat_of seat.now) at left) world.old world.new result }
+    ensures ran { Ran W.reached W.replies (ServesSo W.stores served.now) (CodeRuns (seat_of seat.now) at left)
+        world.old world.new result }
 {
     let mut open = Open::fresh(alloc, left);
     let mut pc = at;
@@ -63,7 +64,9 @@ fn turn<W: World>(
     requires holds { SeatHolds (seat_of seat.now) (length (W.variables world.old).frames) }
     requires standing { Standing (seat_of seat.now) pc (W.kept world.old) (open_of open.old) }
     ensures covered { W.covered world.new }
-    ensures stepped { Stepped W.reached W.replies (ServesSo W.stores served.now) (seat_of seat.now) (λ serving s. move_of serving (seat_of seat.now) pc s (open_of open.old)) world.old world.new (open_of open.new) result }
+    ensures stepped { Stepped W.reached W.replies (ServesSo W.stores served.now) (seat_of seat.now)
+        (λ serving s. move_of serving (seat_of seat.now) pc s (open_of open.old)) world.old world.new
+        (open_of open.new) result }
     ensures left { open.new.left ≡ open.old.left }
 {
     let code = seat.code();
@@ -99,7 +102,9 @@ fn call_out<W: World>(
     requires begins { CallBegins (code_of (seat_of seat.now)) (pc + 1) what.now }
     requires finds { CallFinds (length (code_of (seat_of seat.now))) (pc + 1) (open_of open.old) what.now }
     ensures covered { W.covered world.new }
-    ensures stepped { Stepped W.reached W.replies (ServesSo W.stores served.now) (seat_of seat.now) (λ serving s. called_out serving (seat_of seat.now) place.now (pc + 1) what.now s (open_of open.old)) world.old world.new (open_of open.new) result }
+    ensures stepped { Stepped W.reached W.replies (ServesSo W.stores served.now) (seat_of seat.now)
+        (λ serving s. called_out serving (seat_of seat.now) place.now (pc + 1) what.now s (open_of open.old))
+        world.old world.new (open_of open.new) result }
     ensures left { open.new.left ≡ open.old.left }
 {
     match what {

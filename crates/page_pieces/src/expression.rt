@@ -81,7 +81,8 @@ fn scan_byte(state: Scanning, b: u8) -> Option<Scanning>
 
 // Where the `}` stands that ends an expression.
 fn brace_at(text: &[u8]) -> Option<usize>
-    ensures value { option_map (λ n. (take n text.now, drop (n + 1) text.now)) result ≡ around_brace nothing_open text.now }
+    ensures value { option_map (λ n. (take n text.now, drop (n + 1) text.now)) result
+        ≡ around_brace nothing_open text.now }
     ensures brace { IfSome result (λ n. (n < length text.now) × (slice_index text.now n ≡ 125)) }
 {
     let mut state = Scanning {

@@ -69,7 +69,8 @@ fn attribute_with(
     spot: Spot,
     a: Spelled<'_>,
 ) -> Result<Attribute, Failure<Break>>
-    ensures { AnswersAs (λ attribute. attribute) (attribute_with file.now a.entry.name.now spot (value_parts setting.now a.entry.value.now)) result }
+    ensures { AnswersAs (λ attribute. attribute) (attribute_with file.now a.entry.name.now spot
+        (value_parts setting.now a.entry.value.now)) result }
 {
     match value_parts(alloc, setting, a.value) {
         Ok(parts) => Ok(Attribute {
@@ -106,7 +107,8 @@ pub(crate) fn attributes_at<'a>(
     requires byte { from.byte + length text.now < 2 ^ 31 }
     requires line { from.line ≤ from.byte + 1 }
     requires column { from.column ≤ from.byte + 1 }
-    ensures value { AnswersAs (λ x. (x.0, (x.1, x.2.now))) (attributes_at setting.now file.now spot from kind text.now) result }
+    ensures value { AnswersAs (λ x. (x.0, (x.1, x.2.now)))
+        (attributes_at setting.now file.now spot from kind text.now) result }
     ensures within { IfOk result (λ x. length x.2.now < length text.now) }
 {
     let mut found = Listed::empty(alloc);

@@ -81,7 +81,8 @@ pub struct TagName<'a> {
 /// The prefix and the name at the front of a text.
 #[tactic(auto, unfolding(crate::specs::Marks::tag_name))]
 pub fn tag_name(text: &str) -> Option<TagName<'_>>
-    ensures value { option_map (λ t. record { prefix = t.prefix.now; name = t.name.now; rest = t.rest.now }) result ≡ tag_name text.now }
+    ensures value { option_map (λ t. record { prefix = t.prefix.now; name = t.name.now; rest = t.rest.now })
+        result ≡ tag_name text.now }
     ensures within { IfSome result (λ t. length t.rest.now < length text.now) }
 {
     let (prefix, rest) = name_at(text)?;

@@ -28,7 +28,8 @@ fn comment_at<'a>(
     text: &'a str,
 ) -> Result<(Piece, &'a str), Failure<Break>>
     requires { begins (codes "<%--") text.now ≡ true }
-    ensures value { AnswersAs (λ x. (x.0, x.1.now)) (piece_by (Some marks.Comment) setting.now file.now spot text.now) result }
+    ensures value { AnswersAs (λ x. (x.0, x.1.now))
+        (piece_by (Some marks.Comment) setting.now file.now spot text.now) result }
     ensures within { IfOk result (λ x. length x.1.now < length text.now) }
 {
     match around("--%>", behind("<%--", text)) {
@@ -47,7 +48,8 @@ fn expression_at<'a>(
     text: &'a str,
 ) -> Result<(Piece, &'a str), Failure<Break>>
     requires { begins (codes "${") text.now ≡ true }
-    ensures value { AnswersAs (λ x. (x.0, x.1.now)) (piece_by (Some marks.Expression) setting.now file.now spot text.now) result }
+    ensures value { AnswersAs (λ x. (x.0, x.1.now))
+        (piece_by (Some marks.Expression) setting.now file.now spot text.now) result }
     ensures within { IfOk result (λ x. length x.1.now < length text.now) }
 {
     match around_brace(behind("${", text)) {

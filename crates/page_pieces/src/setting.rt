@@ -188,7 +188,10 @@ fn register_directive(
     name: &str,
     attributes: &Attributes,
 ) -> Result<(), AllocError>
-    ensures { OnOk result (setting.new ≡ record setting.old { prefixes = setting.old.prefixes ++ registered_by setting.old.brought byte name.now attributes.now }) }
+    ensures { OnOk result (setting.new ≡ record setting.old {
+      prefixes = setting.old.prefixes
+          ++ registered_by setting.old.brought byte name.now attributes.now;
+    }) }
 {
     if name == "taglib" {
         if let Some(prefix) = attributes.plain("prefix") {

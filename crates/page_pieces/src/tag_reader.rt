@@ -52,7 +52,8 @@ pub(crate) fn directive_at<'a>(
 
 // The prefix and the name that have to stand at the front of a text.
 fn tag_read(text: &str) -> Result<TagName<'_>, Misread>
-    ensures value { seen (λ t. record { prefix = t.prefix.now; name = t.name.now; rest = t.rest.now }) result ≡ or_misread text.now (tag_name text.now) }
+    ensures value { seen (λ t. record { prefix = t.prefix.now; name = t.name.now; rest = t.rest.now }) result
+        ≡ or_misread text.now (tag_name text.now) }
     ensures within { IfOk result (λ t. length t.rest.now < length text.now) }
 {
     match tag_name(text) {

@@ -75,7 +75,8 @@ impl Level<'_> {
         nodes: Vec<Node>,
     ) -> Result<Vec<Node>, AllocError>
         requires { EndsIn rest.now (level_of self) }
-        ensures { IfOk result (λ all. trees_of all.items ≡ closed_level file.now (level_of self.entry) closing rest.now (trees_of nodes.items)) }
+        ensures { IfOk result (λ all. trees_of all.items
+            ≡ closed_level file.now (level_of self.entry) closing rest.now (trees_of nodes.items)) }
     {
         match self {
             Level::Own(own) => close_own(alloc, file, own, closing, rest, nodes),
@@ -114,7 +115,8 @@ fn close_own(
     nodes: Vec<Node>,
 ) -> Result<Vec<Node>, AllocError>
     requires { IsEndOf rest.now own.body.now }
-    ensures { IfOk result (λ all. trees_of all.items ≡ closed_own file.now (own_of own.entry) closing rest.now (trees_of nodes.items)) }
+    ensures { IfOk result (λ all. trees_of all.items
+        ≡ closed_own file.now (own_of own.entry) closing rest.now (trees_of nodes.items)) }
 {
     let source = Text::copy_of(alloc, source(own.body, rest))?;
     let place = own.spot.place(file)?;

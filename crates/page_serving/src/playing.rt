@@ -36,10 +36,16 @@ pub fn play<P: AppPort<Program>, K: Sink>(
     requires tells { TellsPages P.made P.faulty }
     requires in_order { IsInOrder scopes.old around.old (P.asking port.old) }
     requires promise { RUN_PROMISE ≤ around.old.charge + (P.asking port.old).left }
-    requires writer { (start : Option (List ℕ)) × (before : ℕ) × (written : Written) × Stands start before writer.old (K.taken sink.old) (K.faults sink.old) written }
-    ensures meant { (path : List ℕ) → IsProgramOf program.now (P.tree port.old) path → (page : Page) → IsPageAt page (P.tree port.old) path
-        → (origin : Origin) (s : State) → StandsFor origin scopes.old writer.old (K.taken sink.old) (K.faults sink.old) around.old (P.asking port.old) s
-        → PageMeant (served_at (P.tree port.old) request.now around.old) page params.now (level_limit - around.old.depth) (StandsFor origin scopes.new writer.new (K.taken sink.new) (K.faults sink.new) around.new (P.asking port.new)) s (P.asking port.old).answers (P.asking port.new).answers around.new.depth result }
+    requires writer { (start : Option (List ℕ)) × (before : ℕ) × (written : Written) × Stands start
+        before writer.old (K.taken sink.old) (K.faults sink.old) written }
+    ensures meant { (path : List ℕ) → IsProgramOf program.now (P.tree port.old) path → (page : Page) →
+        IsPageAt page (P.tree port.old) path
+        → (origin : Origin) (s : State) → StandsFor origin scopes.old writer.old (K.taken sink.old)
+        (K.faults sink.old) around.old (P.asking port.old) s
+        → PageMeant (served_at (P.tree port.old) request.now around.old) page params.now
+        (level_limit - around.old.depth) (StandsFor origin scopes.new writer.new (K.taken sink.new)
+        (K.faults sink.new) around.new (P.asking port.new)) s (P.asking port.old).answers
+        (P.asking port.new).answers around.new.depth result }
     ensures in_order { IsInOrder scopes.new around.new (P.asking port.new) }
     ensures charged { HasCharged around.old around.new (P.asking port.old) (P.asking port.new) }
     ensures depth { DepthSo around.old.depth around.new.depth result }

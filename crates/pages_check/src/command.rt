@@ -25,11 +25,14 @@ pub fn check<S: Source, K: Sink, L: Ledger>(
     sink: &mut K,
     steps: &mut Steps<L>,
 ) -> u8
-    ensures told { (path : List ℕ) → path_asked (map string_bytes words.now) ≡ Some path → (ended : Checked) × (result ≡ exit_status ended)
-        × Tells path (S.left source.old) (S.left source.new) (K.taken sink.old) (K.taken sink.new) steps.old steps.new ended }
+    ensures told { (path : List ℕ) → path_asked (map string_bytes words.now) ≡ Some path →
+        (ended : Checked) × (result ≡ exit_status ended)
+        × Tells path (S.left source.old) (S.left source.new) (K.taken sink.old) (K.taken sink.new)
+        steps.old steps.new ended }
     ensures words { path_asked (map string_bytes words.now) ≡ None → result ≢ 5 → result ≡ 1 }
     ensures only_words { result ≡ 1 → path_asked (map string_bytes words.now) ≡ None }
-    ensures silent { path_asked (map string_bytes words.now) ≡ None → (source.new ≡ source.old) × (sink.new ≡ sink.old) × (steps.new ≡ steps.old) }
+    ensures silent { path_asked (map string_bytes words.now) ≡ None →
+        (source.new ≡ source.old) × (sink.new ≡ sink.old) × (steps.new ≡ steps.old) }
 
     ensures read { result ≡ 3 → Rose (S.faults source.old) (S.faults source.new) }
     ensures write { result ≡ 4 → Rose (K.faults sink.old) (K.faults sink.new) }
@@ -82,7 +85,8 @@ fn check_page<S: Source, K: Sink, L: Ledger>(
     sink: &mut K,
     steps: &mut Steps<L>,
 ) -> Checked
-    ensures told { Tells path.now (S.left source.old) (S.left source.new) (K.taken sink.old) (K.taken sink.new) steps.old steps.new result }
+    ensures told { Tells path.now (S.left source.old) (S.left source.new) (K.taken sink.old) (K.taken sink.new)
+        steps.old steps.new result }
     ensures read { result ≡ Checked.ReadFault → Rose (S.faults source.old) (S.faults source.new) }
     ensures write { result ≡ Checked.WriteFault → Rose (K.faults sink.old) (K.faults sink.new) }
     ensures unfailing { S.unfailing source.old → (result ≢ Checked.ReadFault) × S.unfailing source.new }
@@ -107,7 +111,8 @@ fn report<L: Ledger>(
     bytes: &[u8],
     steps: &mut Steps<L>,
 ) -> Result<(Checked, Vec<u8>), AllocError>
-    ensures answer { IfOk result (λ told. (told.0 ≡ verdict (page_fault path.now bytes.now)) × (told.1.items ≡ report (page_fault path.now bytes.now))) }
+    ensures answer { IfOk result (λ told. (told.0 ≡ verdict (page_fault path.now bytes.now)) × (told.1.items
+        ≡ report (page_fault path.now bytes.now))) }
     ensures steps { OnOk result (steps.new ≡ steps.old + check_steps path.now bytes.now) }
     ensures later { steps.old ≤ steps.new }
 {

@@ -86,8 +86,10 @@ fn unit_fault<L: Ledger>(
 ) -> Result<Option<PageFault>, AllocError>
     requires limits { IsWithinLimits tree.now }
     requires stands { IsSome (text_in tree.now path.now) }
-    ensures fault { IfOk result (λ fault. (text : List ℕ) → text_in tree.now path.now ≡ Some text → fault ≡ fault_in (unit_of (text_in tree.now) path.now text).body) }
-    ensures steps { OnOk result ((text : List ℕ) → text_in tree.now path.now ≡ Some text → steps.new ≡ steps.old + bytes_of (text_in tree.now) (unit_of (text_in tree.now) path.now text).deps) }
+    ensures fault { IfOk result (λ fault. (text : List ℕ) → text_in tree.now path.now ≡ Some text →
+        fault ≡ fault_in (unit_of (text_in tree.now) path.now text).body) }
+    ensures steps { OnOk result ((text : List ℕ) → text_in tree.now path.now ≡ Some text →
+        steps.new ≡ steps.old + bytes_of (text_in tree.now) (unit_of (text_in tree.now) path.now text).deps) }
     ensures later { steps.old ≤ steps.new }
 {
     let Unit { deps: _, body } = build(alloc, tree, path, steps)?;

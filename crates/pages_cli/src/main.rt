@@ -118,8 +118,16 @@ fn run<N: Ledger, R: Threads + Wait + Sync>(
     requires name { blank.name ≡ N.name }
     requires parts { blank.parts ≡ N.parts }
     requires some { 0 < N.parts }
-    ensures refused { seed_asked (map string_bytes words.now) ≡ None → path_asked (map string_bytes words.now) ≡ None → number_asked (map string_bytes words.now) ≡ None → settings_asked (map string_bytes words.now) ≡ None → record_asked (map string_bytes words.now) ≡ None → contexts_asked (map string_bytes words.now) ≡ None → result ≢ 5 → result ≡ 1 }
-    ensures only_refused { result ≡ 1 → (seed_asked (map string_bytes words.now) ≡ None) × (path_asked (map string_bytes words.now) ≡ None) × (number_asked (map string_bytes words.now) ≡ None) × (settings_asked (map string_bytes words.now) ≡ None) × (record_asked (map string_bytes words.now) ≡ None) × (contexts_asked (map string_bytes words.now) ≡ None) }
+    ensures refused { seed_asked (map string_bytes words.now) ≡ None →
+        path_asked (map string_bytes words.now) ≡ None → number_asked (map string_bytes words.now)
+        ≡ None → settings_asked (map string_bytes words.now) ≡ None →
+        record_asked (map string_bytes words.now) ≡ None → contexts_asked (map string_bytes words.now)
+        ≡ None → result ≢ 5 → result ≡ 1 }
+    ensures only_refused { result ≡ 1 → (seed_asked (map string_bytes words.now) ≡ None) ×
+        (path_asked (map string_bytes words.now) ≡ None) × (number_asked (map string_bytes words.now)
+        ≡ None) × (settings_asked (map string_bytes words.now) ≡ None) ×
+        (record_asked (map string_bytes words.now) ≡ None) × (contexts_asked (map string_bytes words.now)
+        ≡ None) }
 {
     let mut source = ReadSource::new(rt.reader());
     let mut sink = WriteSink::new(io::writer(rt));

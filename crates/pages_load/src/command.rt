@@ -19,12 +19,15 @@ pub fn load<K: Sink, L: Ledger>(
     sink: &mut K,
     steps: &mut Steps<L>,
 ) -> u8
-    ensures told { (number : ℕ) → number_asked (map string_bytes words.now) ≡ Some number → result ≡ 0 → HasLoaded number steps.old steps.new (K.taken sink.old) (K.taken sink.new) false }
-    ensures broken { (number : ℕ) → number_asked (map string_bytes words.now) ≡ Some number → result ≡ 4 → HasLoaded number steps.old steps.new (K.taken sink.old) (K.taken sink.new) true }
+    ensures told { (number : ℕ) → number_asked (map string_bytes words.now) ≡ Some number →
+        result ≡ 0 → HasLoaded number steps.old steps.new (K.taken sink.old) (K.taken sink.new) false }
+    ensures broken { (number : ℕ) → number_asked (map string_bytes words.now) ≡ Some number →
+        result ≡ 4 → HasLoaded number steps.old steps.new (K.taken sink.old) (K.taken sink.new) true }
     ensures words { number_asked (map string_bytes words.now) ≡ None → result ≡ 1 }
     ensures only_words { result ≡ 1 → number_asked (map string_bytes words.now) ≡ None }
     ensures silent { result ≡ 1 → (sink.new ≡ sink.old) × (steps.new ≡ steps.old) }
-    ensures untold { (number : ℕ) → number_asked (map string_bytes words.now) ≡ Some number → result ≡ 5 → IsUntold number steps.old steps.new }
+    ensures untold { (number : ℕ) → number_asked (map string_bytes words.now) ≡ Some number →
+        result ≡ 5 → IsUntold number steps.old steps.new }
     ensures unwritten { result ≡ 5 → sink.new ≡ sink.old }
     ensures statuses { result ≢ 0 → result ≢ 1 → result ≢ 4 → result ≡ 5 }
     ensures write { result ≡ 4 → Rose (K.faults sink.old) (K.faults sink.new) }

@@ -23,11 +23,14 @@ pub fn play_record<S: Source, K: Sink, C: Clock, L: Ledger>(
     clock: &mut C,
     steps: &mut Steps<L>,
 ) -> u8
-    ensures recorded { (seed : List ℕ) → record_asked (map string_bytes words.now) ≡ Some seed → (ended : Outcome) × (result ≡ exit_status ended)
-        × Comes (opening_of seed) (S.left source.old) (S.left source.new) (K.taken sink.old) (K.taken sink.new) steps.old steps.new ended }
+    ensures recorded { (seed : List ℕ) → record_asked (map string_bytes words.now) ≡ Some seed →
+        (ended : Outcome) × (result ≡ exit_status ended)
+        × Comes (opening_of seed) (S.left source.old) (S.left source.new) (K.taken sink.old) (K.taken sink.new)
+        steps.old steps.new ended }
     ensures words { record_asked (map string_bytes words.now) ≡ None → result ≡ 1 }
     ensures only_words { result ≡ 1 → record_asked (map string_bytes words.now) ≡ None }
-    ensures silent { result ≡ 1 → (source.new ≡ source.old) × (sink.new ≡ sink.old) × (clock.new ≡ clock.old) × (steps.new ≡ steps.old) }
+    ensures silent { result ≡ 1 → (source.new ≡ source.old) × (sink.new ≡ sink.old) × (clock.new
+        ≡ clock.old) × (steps.new ≡ steps.old) }
 
     ensures read { result ≡ 3 → Rose (S.faults source.old) (S.faults source.new) }
     ensures write { result ≡ 4 → Rose (K.faults sink.old) (K.faults sink.new) }

@@ -30,7 +30,8 @@ pub(crate) fn record<S: Source, K: Sink, C: Clock, L: Ledger>(
     clock: &mut C,
     steps: &mut Steps<L>,
 ) -> Recorded
-    ensures comes { Comes (opening_of seed) (S.left source.old) (S.left source.new) (K.taken sink.old) (K.taken sink.new) steps.old steps.new result }
+    ensures comes { Comes (opening_of seed) (S.left source.old) (S.left source.new) (K.taken sink.old)
+        (K.taken sink.new) steps.old steps.new result }
     ensures read { result ≡ Recorded.ReadFault → Rose (S.faults source.old) (S.faults source.new) }
     ensures write { result ≡ Recorded.WriteFault → Rose (K.faults sink.old) (K.faults sink.new) }
     ensures unfailing { S.unfailing source.old → (result ≢ Recorded.ReadFault) × S.unfailing source.new }
@@ -89,7 +90,8 @@ fn record_one<K: Sink, C: Clock, L: Ledger>(
 ) -> Result<Site<Made>, Recorded>
     requires one { site.opening.passes ≡ 1 }
     requires new { site.history ≡ [] }
-    ensures comes { ComesOnce site.opening bytes.now (K.taken sink.old) (K.taken sink.new) (K.faults sink.old) (K.faults sink.new) steps.old steps.new result }
+    ensures comes { ComesOnce site.opening bytes.now (K.taken sink.old) (K.taken sink.new) (K.faults sink.old)
+        (K.faults sink.new) steps.old steps.new result }
     ensures later { K.faults sink.old ≤ K.faults sink.new }
 {
     let Ok((site, talk)) = talk_in_memory(alloc, site, bytes, clock, steps) else {

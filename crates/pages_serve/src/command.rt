@@ -37,7 +37,8 @@ pub fn serve<R: Threads + Wait + Sync, B: Bind, W: Clocks + Sync, J: Sink, K: Si
 ) -> u8
     ensures words { settings_asked (map string_bytes words.now) ≡ None → result ≡ 1 }
     ensures only_words { result ≡ 1 → settings_asked (map string_bytes words.now) ≡ None }
-    ensures silent { result ≡ 1 → (bind.new ≡ bind.old) × (journals.new ≡ journals.old) × (notices.new ≡ notices.old) }
+    ensures silent { result ≡ 1 → (bind.new ≡ bind.old) × (journals.new ≡ journals.old) × (notices.new
+        ≡ notices.old) }
     ensures bound { result ≡ 7 → Rose (B.faults bind.old) (B.faults bind.new) }
     ensures statuses { result ≢ 1 → result ≢ 7 → result ≢ 8 → result ≡ 5 }
 {

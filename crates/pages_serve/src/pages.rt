@@ -53,7 +53,8 @@ fn talk_uncounted<N: ledger::Ledger, P: Port<Made>, S: Source, K: Sink, C: Clock
     requires parts { blank.parts ≡ N.parts }
     requires some { 0 < N.parts }
     requires idle { IsIdle (P.opening port.old) (P.pass port.old) (P.seen port.old) }
-    ensures same { IsSamePort (P.pass port.old) (P.pass port.new) (P.opening port.old) (P.opening port.new) (P.home port.old) (P.home port.new) }
+    ensures same { IsSamePort (P.pass port.old) (P.pass port.new) (P.opening port.old) (P.opening port.new)
+        (P.home port.old) (P.home port.new) }
     ensures idle { IsIdle (P.opening port.new) (P.pass port.new) (P.seen port.new) }
 {
     let mut steps = Steps::<Unseen<N>>::unseen(blank);

@@ -25,7 +25,8 @@ pub fn workers<R: Threads + Wait + Sync, A: Accept + Sync, H: Handler + Sync>(
     requires open { All (λ served. served.closing ≡ None) tokens.old }
     ensures fits { All (λ served. H.fits handler.now served.token) tokens.new }
     ensures closed { All (λ served. is_some served.closing ≡ true) tokens.new }
-    ensures numbers { map (λ served. H.number served.token) tokens.new ≡ map (λ served. H.number served.token) tokens.old }
+    ensures numbers { map (λ served. H.number served.token) tokens.new
+        ≡ map (λ served. H.number served.token) tokens.old }
 {
     let count = tokens.len();
     if count == 0 {
@@ -33,7 +34,8 @@ pub fn workers<R: Threads + Wait + Sync, A: Accept + Sync, H: Handler + Sync>(
     }
     let serve = |_place: usize, served: &mut Served<H::Token, A::Closing>|
         requires { H.fits handler.now served.old.token }
-        ensures { H.fits handler.entry.now served.new.token × (is_some served.new.closing ≡ true) × (H.number served.new.token ≡ H.number served.old.token) }
+        ensures { H.fits handler.entry.now served.new.token × (is_some served.new.closing ≡ true) ×
+            (H.number served.new.token ≡ H.number served.old.token) }
     { work(rt, listener, handler, served) };
     thread::for_each_mut(rt, tokens, count, &serve);
 }
@@ -80,21 +82,29 @@ pub fn both<R: Threads + Wait + Sync, A: Accept + Sync, H: Handler + Sync>(
     requires back_fits { All (λ served. H.fits back.1.now served.token) back.2.items }
     requires back_open { All (λ served. served.closing ≡ None) back.2.items }
     ensures front_fits { All (λ served. H.fits front.entry.1.now served.token) result.0.items }
-    ensures front_numbers { map (λ served. H.number served.token) result.0.items ≡ map (λ served. H.number served.token) front.entry.2.items }
+    ensures front_numbers { map (λ served. H.number served.token) result.0.items
+        ≡ map (λ served. H.number served.token) front.entry.2.items }
     ensures back_fits { All (λ served. H.fits back.entry.1.now served.token) result.1.items }
-    ensures back_numbers { map (λ served. H.number served.token) result.1.items ≡ map (λ served. H.number served.token) back.entry.2.items }
+    ensures back_numbers { map (λ served. H.number served.token) result.1.items
+        ≡ map (λ served. H.number served.token) back.entry.2.items }
 {
     let (front_listener, front_handler, front_tokens) = front;
     let (back_listener, back_handler, back_tokens) = back;
     join(
         rt,
         move || -> Vec<Served<H::Token, A::Closing>>
-            requires { All (λ served. H.fits front_handler.now served.token) front_tokens.items × All (λ served. served.closing ≡ None) front_tokens.items }
-            ensures { All (λ served. H.fits front_handler.entry.now served.token) result.items × (map (λ served. H.number served.token) result.items ≡ map (λ served. H.number served.token) front_tokens.items) }
+            requires { All (λ served. H.fits front_handler.now served.token) front_tokens.items × All
+                (λ served. served.closing ≡ None) front_tokens.items }
+            ensures { All (λ served. H.fits front_handler.entry.now served.token) result.items ×
+                (map (λ served. H.number served.token) result.items
+                ≡ map (λ served. H.number served.token) front_tokens.items) }
         { at_work(rt, front_listener, front_handler, front_tokens) },
         move || -> Vec<Served<H::Token, A::Closing>>
-            requires { All (λ served. H.fits back_handler.now served.token) back_tokens.items × All (λ served. served.closing ≡ None) back_tokens.items }
-            ensures { All (λ served. H.fits back_handler.entry.now served.token) result.items × (map (λ served. H.number served.token) result.items ≡ map (λ served. H.number served.token) back_tokens.items) }
+            requires { All (λ served. H.fits back_handler.now served.token) back_tokens.items × All
+                (λ served. served.closing ≡ None) back_tokens.items }
+            ensures { All (λ served. H.fits back_handler.entry.now served.token) result.items ×
+                (map (λ served. H.number served.token) result.items
+                ≡ map (λ served. H.number served.token) back_tokens.items) }
         { at_work(rt, back_listener, back_handler, back_tokens) },
     )
 }
@@ -109,7 +119,8 @@ fn at_work<R: Threads + Wait + Sync, A: Accept + Sync, H: Handler + Sync>(
     requires fits { All (λ served. H.fits handler.now served.token) tokens.items }
     requires open { All (λ served. served.closing ≡ None) tokens.items }
     ensures fits { All (λ served. H.fits handler.now served.token) result.items }
-    ensures numbers { map (λ served. H.number served.token) result.items ≡ map (λ served. H.number served.token) tokens.items }
+    ensures numbers { map (λ served. H.number served.token) result.items
+        ≡ map (λ served. H.number served.token) tokens.items }
 {
     workers(rt, listener, handler, tokens.as_mut_slice());
     tokens

@@ -107,7 +107,8 @@ impl Attrs {
     pub fn insert(&mut self, key: Text, value: Value) -> Result<(), AllocError>
         ensures ok { OnOk result (self.new ≡ with_entry self.old key (datum_of value)) }
         ensures found { OnOk result (entry_at key self.new ≡ Some (datum_of value)) }
-        ensures others { OnOk result ((other : List ℕ) → other ≢ key → entry_at other self.new ≡ entry_at other self.old) }
+        ensures others { OnOk result ((other : List ℕ) → other ≢ key → entry_at other self.new
+            ≡ entry_at other self.old) }
         ensures err { OnErr result (self.new ≡ self.old) }
     {
         put(&mut self.entries, key, value)
@@ -117,7 +118,8 @@ impl Attrs {
     pub fn remove(&mut self, key: &str)
         ensures rest { self.new ≡ without_entry self.old key.now }
         ensures gone { entry_at key.now self.new ≡ None }
-        ensures others { (other : List ℕ) → other ≢ key.now → entry_at other self.new ≡ entry_at other self.old }
+        ensures others { (other : List ℕ) → other ≢ key.now → entry_at other self.new
+            ≡ entry_at other self.old }
     {
         take_out(&mut self.entries, key);
     }
@@ -180,7 +182,8 @@ fn reversed(mut entries: Vec<(Text, Value)>) -> Vec<(Text, Value)>
 
 // The entries by rising keys, where those of one key stay in their order.
 fn sorted(mut entries: Vec<(Text, Value)>) -> Result<Vec<(Text, Value)>, AllocError>
-    ensures { IfOk result (λ sorted. IsStableBy (λ a b. is_lt (slice_cmp nat_cmp a.0 b.0)) entries.items sorted.items) }
+    ensures { IfOk result (λ sorted. IsStableBy (λ a b. is_lt (slice_cmp nat_cmp a.0 b.0)) entries.items
+        sorted.items) }
 {
     entries.sort_by(|a, b| order(a, b.0.as_str()))?;
     Ok(entries)
@@ -200,7 +203,8 @@ fn gathered(entries: Vec<(Text, Value)>) -> Result<Vec<(Text, Value)>, AllocErro
 
 pub fn put(entries: &mut Vec<(Text, Value)>, key: Text, value: Value) -> Result<(), AllocError>
     requires { AreInOrder (map entry_of entries.old.items) }
-    ensures ok { OnOk result (map entry_of entries.new.items ≡ with_entry (map entry_of entries.old.items) key (datum_of value)) }
+    ensures ok { OnOk result (map entry_of entries.new.items ≡ with_entry (map entry_of entries.old.items) key
+        (datum_of value)) }
     ensures err { OnErr result (entries.new.items ≡ entries.old.items) }
 {
     match place(entries, key.as_str()) {

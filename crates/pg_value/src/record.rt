@@ -138,7 +138,8 @@ impl Record {
 // Puts the value under the key, in the list itself where no other record shares it, and else in a copy.
 fn put(shared: &mut Arc<Vec<(Text, Value)>>, key: Text, value: Value) -> Result<(), AllocError>
     requires { AreInOrder (map entry_of shared.old.value.items) }
-    ensures ok { OnOk result (map entry_of shared.new.value.items ≡ with_entry (map entry_of shared.old.value.items) key (datum_of value)) }
+    ensures ok { OnOk result (map entry_of shared.new.value.items
+        ≡ with_entry (map entry_of shared.old.value.items) key (datum_of value)) }
     ensures err { OnErr result (shared.new.value.items ≡ shared.old.value.items) }
 {
     if let Some(entries) = Arc::get_mut(shared) {

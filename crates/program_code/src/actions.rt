@@ -32,7 +32,8 @@ pub(crate) fn enclosed(
     body: &[Act],
 ) -> Result<Code, AllocError>
     ensures { IfOk result (λ code. code
-        ≡ form_code ground.now (node_form (page_of (page_view page.now)) (enclosing_node action.now (attributes_of attributes.now) (acts_of body.now) place.now))) }
+        ≡ form_code ground.now (node_form (page_of (page_view page.now))
+        (enclosing_node action.now (attributes_of attributes.now) (acts_of body.now) place.now))) }
 {
     let evaluations = action.evaluations();
     let names = evaluated_names(alloc, &evaluations, attributes)?;
@@ -55,7 +56,8 @@ pub(crate) fn addressed(
     list: &[ActParam],
 ) -> Result<Code, AllocError>
     ensures { IfOk result (λ code. code
-        ≡ form_code ground.now (node_form (page_of (page_view page.now)) (addressing_node action.now (attributes_of attributes.now) (params_of list.now) place.now))) }
+        ≡ form_code ground.now (node_form (page_of (page_view page.now))
+        (addressing_node action.now (attributes_of attributes.now) (params_of list.now) place.now))) }
 {
     let evaluations = action.evaluations();
     let names = evaluated_names(alloc, &evaluations, attributes)?;
@@ -77,7 +79,8 @@ pub(crate) fn properties(
     attributes: &[ActAttribute],
 ) -> Result<Code, AllocError>
     ensures { IfOk result (λ code. code
-        ≡ form_code ground.now (node_form (page_of (page_view page.now)) (set_property name.now (property_of property.now) (attributes_of attributes.now) place.now))) }
+        ≡ form_code ground.now (node_form (page_of (page_view page.now))
+        (set_property name.now (property_of property.now) (attributes_of attributes.now) place.now))) }
 {
     let evaluations = Evaluations::AsTheyAre;
     let names = evaluated_names(alloc, &evaluations, attributes)?;

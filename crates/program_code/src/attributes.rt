@@ -29,7 +29,8 @@ pub(crate) fn values(
     evaluations: &Evaluations,
     list: &[ActAttribute],
 ) -> Result<Code, AllocError>
-    ensures { IfOk result (λ code. code ≡ form_code ground.now (attributes_form (page_of (page_view page.now)) (attributes_of list.now) (coercions evaluations.now))) }
+    ensures { IfOk result (λ code. code ≡ form_code ground.now
+        (attributes_form (page_of (page_view page.now)) (attributes_of list.now) (coercions evaluations.now))) }
 {
     let mut code = Code::new(alloc);
     let mut above = ground.copy()?;
@@ -52,7 +53,8 @@ fn value(
     attribute: &ActAttribute,
 ) -> Result<Code, AllocError>
     ensures { IfOk result (λ code. code
-        ≡ coerced_code ground.now (attribute_place attribute.now) evaluation (form_code ground.now (value_form (page_of (page_view page.now)) attribute.now))) }
+        ≡ coerced_code ground.now (attribute_place attribute.now) evaluation
+        (form_code ground.now (value_form (page_of (page_view page.now)) attribute.now))) }
 {
     if is_fragment(evaluation) {
         return Ok(Code::new(alloc));
@@ -83,7 +85,8 @@ fn given(
     trim: bool,
     body: Code,
 ) -> Result<Code, AllocError>
-    ensures { IfOk result (λ code. code ≡ form_code ground.now (visits 1 place.now) ++ kept_code ground.now place.now trim body) }
+    ensures { IfOk result (λ code. code ≡ form_code ground.now (visits 1 place.now)
+        ++ kept_code ground.now place.now trim body) }
 {
     let mut code = visits(alloc, ground, place, 1)?;
     code.join(kept(alloc, ground, place, trim, body)?)?;

@@ -35,7 +35,8 @@ pub(crate) fn call(
     body: &CallBody,
 ) -> Result<Code, AllocError>
     ensures { IfOk result (λ code. code
-        ≡ form_code ground.now (node_form (page_of (page_view page.now)) (call path.now (attributes_of attributes.now) (body_of body.now) place.now))) }
+        ≡ form_code ground.now (node_form (page_of (page_view page.now))
+        (call path.now (attributes_of attributes.now) (body_of body.now) place.now))) }
 {
     let Some(tag) = tag_at(&page.tags, path) else {
         return Ok(Code::new(alloc));
@@ -51,7 +52,8 @@ pub(crate) fn call(
 
 // The tag file at a path.
 fn tag_at<'u>(tags: &'u [TagFile], path: &Path) -> Option<&'u TagFile>
-    ensures { option_map (λ tag. tag_of (tag_view tag.now)) result ≡ tag_at path.now (map tag_of (map tag_view tags.now)) }
+    ensures { option_map (λ tag. tag_of (tag_view tag.now)) result
+        ≡ tag_at path.now (map tag_of (map tag_view tags.now)) }
 {
     for tag in tags {
         if path.as_bytes() == tag.path.as_bytes() {
@@ -71,7 +73,8 @@ fn handed(
     kind: BodyKind,
     body: &CallBody,
 ) -> Result<Handed, AllocError>
-    ensures { IfOk result (λ down. down ≡ body_handed (handed_form (page_of (page_view page.now)) (body_of body.now) place.now kind)) }
+    ensures { IfOk result (λ down. down ≡ body_handed (handed_form (page_of (page_view page.now))
+        (body_of body.now) place.now kind)) }
 {
     match body {
         CallBody::Absent => Ok(Handed::nothing(alloc)),
@@ -93,7 +96,8 @@ fn with_fragments(
     attributes: &[ActAttribute],
     down: Handed,
 ) -> Result<Handed, AllocError>
-    ensures { IfOk result (λ all. all ≡ with_fragments down (fragments_form (page_of (page_view page.now)) (attributes_of attributes.now) decl.now)) }
+    ensures { IfOk result (λ all. all ≡ with_fragments down (fragments_form (page_of (page_view page.now))
+        (attributes_of attributes.now) decl.now)) }
 {
     let mut down = down;
     for attribute in attributes {
@@ -112,7 +116,8 @@ fn add_fragment(
     attribute: &ActAttribute,
     down: &mut Handed,
 ) -> Result<(), AllocError>
-    ensures { OnOk result (down.new ≡ with_fragments down.old (fragments_form (page_of (page_view page.now)) (attribute_before attribute.now no_attributes) decl.now)) }
+    ensures { OnOk result (down.new ≡ with_fragments down.old (fragments_form (page_of (page_view page.now))
+        (attribute_before attribute.now no_attributes) decl.now)) }
 {
     match attribute {
         ActAttribute::Written { .. } => Ok(()),
@@ -145,7 +150,8 @@ fn is_fragment(decl: &TagDecl, name: &Text) -> bool
 // The code of a part that is handed down, with its end. It begins anew, whatever stands open where the call is.
 #[cycle(nodes)]
 fn whole(alloc: Global, page: &Page, place: &Place, body: &[Act]) -> Result<Code, AllocError>
-    ensures { IfOk result (λ code. code ≡ handed_code place.now (form_code empty_shape (nodes_form (page_of (page_view page.now)) (acts_of body.now)))) }
+    ensures { IfOk result (λ code. code ≡ handed_code place.now
+        (form_code empty_shape (nodes_form (page_of (page_view page.now)) (acts_of body.now)))) }
 {
     let code = nodes(alloc, page, &Shape::empty(alloc)?, body)?;
     ended(alloc, place, code)

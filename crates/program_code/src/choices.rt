@@ -28,7 +28,8 @@ pub(crate) fn branches(
     ground: &Shape,
     branches: &[ActBranch],
 ) -> Result<Code, AllocError>
-    ensures { IfOk result (λ code. code ≡ form_code ground.now (branches_form (page_of (page_view page.now)) (branches_of branches.now))) }
+    ensures { IfOk result (λ code. code ≡ form_code ground.now (branches_form (page_of (page_view page.now))
+        (branches_of branches.now))) }
 {
     let mut whens = Vec::new(alloc);
     for branch in branches {
@@ -57,8 +58,10 @@ fn when(
     attributes: &[ActAttribute],
     body: &[Act],
 ) -> Result<TestedBranch, AllocError>
-    ensures { IfOk result (λ made. (others : Branches) → before ground.now (made ∷ []) (form_code ground.now (branches_form (page_of (page_view page.now)) others))
-        ≡ form_code ground.now (branches_form (page_of (page_view page.now)) (when (attributes_of attributes.now) (acts_of body.now) place.now others))) }
+    ensures { IfOk result (λ made. (others : Branches) →
+        before ground.now (made ∷ []) (form_code ground.now (branches_form (page_of (page_view page.now)) others))
+        ≡ form_code ground.now (branches_form (page_of (page_view page.now))
+        (when (attributes_of attributes.now) (acts_of body.now) place.now others))) }
 {
     let names = evaluated_names(alloc, &Evaluations::Test, attributes)?;
     let mut code = visits(alloc, ground, place, 1)?;
@@ -77,7 +80,8 @@ fn otherwise(
     place: &Place,
     body: &[Act],
 ) -> Result<Code, AllocError>
-    ensures { IfOk result (λ code. code ≡ form_code ground.now (visits 1 place.now) ++ form_code ground.now (nodes_form (page_of (page_view page.now)) (acts_of body.now))) }
+    ensures { IfOk result (λ code. code ≡ form_code ground.now (visits 1 place.now) ++ form_code ground.now
+        (nodes_form (page_of (page_view page.now)) (acts_of body.now))) }
 {
     let mut code = visits(alloc, ground, place, 1)?;
     code.join(nodes(alloc, page, ground, body)?)?;

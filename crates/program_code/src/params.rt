@@ -25,7 +25,8 @@ pub(crate) fn params(
     ground: &Shape,
     list: &[ActParam],
 ) -> Result<Code, AllocError>
-    ensures { IfOk result (λ code. code ≡ form_code ground.now (params_form (page_of (page_view page.now)) (params_of list.now))) }
+    ensures { IfOk result (λ code. code ≡ form_code ground.now (params_form (page_of (page_view page.now))
+        (params_of list.now))) }
 {
     let mut code = Code::new(alloc);
     let mut above = ground.copy()?;
@@ -40,7 +41,8 @@ pub(crate) fn params(
 #[cycle(nodes)]
 fn param(alloc: Global, page: &Page, ground: &Shape, made: &ActParam) -> Result<Code, AllocError>
     ensures { IfOk result (λ code. code
-        ≡ form_code ground.now (param_form (page_of (page_view page.now)) (attributes_of made.now.attributes.items) (acts_of made.now.body.items) made.now.place.now)) }
+        ≡ form_code ground.now (param_form (page_of (page_view page.now))
+        (attributes_of made.now.attributes.items) (acts_of made.now.body.items) made.now.place.now)) }
 {
     let evaluations = Evaluations::Param;
     let names = evaluated_names(alloc, &evaluations, &made.attributes)?;

@@ -21,7 +21,8 @@ use unit_nodes::Page;
 /// The code of nodes in the unit of a page, one after the other, each behind its visit.
 #[cycle(nodes)]
 pub fn nodes(alloc: Global, page: &Page, ground: &Shape, acts: &[Act]) -> Result<Code, AllocError>
-    ensures { IfOk result (λ code. code ≡ form_code ground.now (nodes_form (page_of (page_view page.now)) (acts_of acts.now))) }
+    ensures { IfOk result (λ code. code ≡ form_code ground.now (nodes_form (page_of (page_view page.now))
+        (acts_of acts.now))) }
 {
     let mut code = Code::new(alloc);
     for act in acts {
@@ -35,7 +36,8 @@ pub fn nodes(alloc: Global, page: &Page, ground: &Shape, acts: &[Act]) -> Result
 #[cycle(nodes)]
 #[tactic(auto, using(page_acts::proofs::Rows::rows))]
 fn node(alloc: Global, page: &Page, ground: &Shape, act: &Act) -> Result<Code, AllocError>
-    ensures { IfOk result (λ code. code ≡ form_code ground.now (node_form (page_of (page_view page.now)) (act_of act.now))) }
+    ensures { IfOk result (λ code. code ≡ form_code ground.now (node_form (page_of (page_view page.now))
+        (act_of act.now))) }
 {
     match act {
         Act::Template { text, place } => template(alloc, ground, place, text),

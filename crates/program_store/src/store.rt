@@ -42,7 +42,8 @@ impl<P: Compiled> Store<P> {
 
     /// The value of the path, where its needs stand so in the tree. It takes no memory.
     pub fn hit(&self, path: &Path, tree: &Tree) -> Option<&Arc<P>>
-        ensures { option_map (λ made. arc_value made.now) result ≡ hit_of P.needed path.now tree.now (kept_in self.now.shelves.items) }
+        ensures { option_map (λ made. arc_value made.now) result ≡ hit_of P.needed path.now tree.now
+            (kept_in self.now.shelves.items) }
     {
         match place_of(&self.shelves, path) {
             Ok(at) => ready(&self.shelves[at], tree),
@@ -52,7 +53,8 @@ impl<P: Compiled> Store<P> {
 
     /// Keeps the value for the path, in the place of the one that was kept for it. Where memory ends all is as before.
     pub fn put(&mut self, path: Path, made: Arc<P>) -> Result<(), AllocError>
-        ensures ok { OnOk result (kept_in self.new.shelves.items ≡ with_value path (arc_value made) (kept_in self.old.shelves.items)) }
+        ensures ok { OnOk result (kept_in self.new.shelves.items
+            ≡ with_value path (arc_value made) (kept_in self.old.shelves.items)) }
         ensures err { OnErr result (kept_in self.new.shelves.items ≡ kept_in self.old.shelves.items) }
     {
         let names = names_of(*self.shelves.allocator(), made.stamps().as_slice())?;
@@ -65,7 +67,9 @@ impl<P: Compiled> Store<P> {
     /// Keeps the value for the path where its needs stand so in the latest tree, and says whether they do.
     pub fn keep(&mut self, path: &Path, made: Arc<P>, latest: &Tree) -> Result<bool, AllocError>
         ensures ok { IfOk result (λ kept. (kept ≡ agrees (P.needed (arc_value made)) latest.now)
-            × (kept_in self.new.shelves.items ≡ (if kept then with_value path.now (arc_value made) (kept_in self.old.shelves.items) else kept_in self.old.shelves.items))) }
+            × (kept_in self.new.shelves.items
+            ≡ (if kept then with_value path.now (arc_value made) (kept_in self.old.shelves.items)
+            else kept_in self.old.shelves.items))) }
         ensures err { OnErr result (kept_in self.new.shelves.items ≡ kept_in self.old.shelves.items) }
     {
         if !fits(&*made, latest) {
@@ -86,7 +90,8 @@ impl<P: Compiled> Store<P> {
     /// Takes out the values of these paths, which are those of all that is dirty where a publishing clears it. It takes no memory.
     pub fn clear(&mut self, paths: &Names)
         ensures left { kept_in self.new.shelves.items ≡ without_values paths.now (kept_in self.old.shelves.items) }
-        ensures clean { (names : List (List ℕ)) → paths.now ≡ dirty_in P.needed names (kept_in self.old.shelves.items)
+        ensures clean { (names : List (List ℕ)) →
+            paths.now ≡ dirty_in P.needed names (kept_in self.old.shelves.items)
             → kept_in self.new.shelves.items ≡ clean_in P.needed names (kept_in self.old.shelves.items) }
     {
         clear(&mut self.shelves, paths);
@@ -95,7 +100,9 @@ impl<P: Compiled> Store<P> {
 
     /// Takes out the values that need one of the names, and tells their paths.
     pub fn drop_dirty(&mut self, names: &Names) -> Result<Names, AllocError>
-        ensures ok { IfOk result (λ dirty. (dirty ≡ dirty_in P.needed names.now (kept_in self.old.shelves.items)) × (kept_in self.new.shelves.items ≡ clean_in P.needed names.now (kept_in self.old.shelves.items))) }
+        ensures ok { IfOk result (λ dirty. (dirty
+            ≡ dirty_in P.needed names.now (kept_in self.old.shelves.items)) × (kept_in self.new.shelves.items
+            ≡ clean_in P.needed names.now (kept_in self.old.shelves.items))) }
         ensures err { OnErr result (kept_in self.new.shelves.items ≡ kept_in self.old.shelves.items) }
     {
         let dirty = self.dirty(names)?;
@@ -106,7 +113,8 @@ impl<P: Compiled> Store<P> {
 
 // The value of the shelf, where its needs stand so in the tree.
 fn ready<'a, P: Compiled>(shelf: &'a Shelf<P>, tree: &Tree) -> Option<&'a Arc<P>>
-    ensures { option_map (λ made. arc_value made.now) result ≡ value_for P.needed tree.now (Some (kept_of shelf.entry.now)) }
+    ensures { option_map (λ made. arc_value made.now) result
+        ≡ value_for P.needed tree.now (Some (kept_of shelf.entry.now)) }
 {
     if fits(&*shelf.made, tree) {
         Some(&shelf.made)

@@ -48,13 +48,23 @@ pub fn answer<'a, Q: Port<Made>, L: Ledger, K: Sink>(
     requires headed { IsHeaded close shown course.old.around course.old.writer }
     requires in_order { IsInOrder course.old.scopes course.old.around (asking_over Q.opening Q.pass Q.seen port.old) }
     requires funded { IsFunded course.old.around (asking_over Q.opening Q.pass Q.seen port.old) }
-    requires begun { (course.old.around.depth ≡ 0) × (course.old.around.charge ≡ 0) × (course.old.around.exception ≡ None) }
+    requires begun { (course.old.around.depth ≡ 0) × (course.old.around.charge ≡ 0) ×
+        (course.old.around.exception ≡ None) }
     requires last { IsLast port.old.tree.now port.old.last }
-    requires stands { (origin : Origin) × (s : State) × StandsFor origin course.old.scopes course.old.writer (K.taken sink.old) (K.faults sink.old) course.old.around (asking_over Q.opening Q.pass Q.seen port.old) s × (s.writer.pieces ≡ []) }
-    ensures closed { (origin : Origin) (s : State) → StandsFor origin course.old.scopes course.old.writer (K.taken sink.old) (K.faults sink.old) course.old.around (asking_over Q.opening Q.pass Q.seen port.old) s → s.writer.pieces ≡ []
-        → Closed (request_answers (served_at port.old.tree.now request.now course.old.around) request.now) (Reached origin course.new.scopes course.new.writer (K.taken sink.new) (K.faults sink.new) course.new.around (asking_over Q.opening Q.pass Q.seen port.new)) s (asking_over Q.opening Q.pass Q.seen port.old).answers (asking_over Q.opening Q.pass Q.seen port.new).answers course.new.writer result }
+    requires stands { (origin : Origin) × (s : State) × StandsFor origin course.old.scopes course.old.writer
+        (K.taken sink.old) (K.faults sink.old) course.old.around (asking_over Q.opening Q.pass Q.seen port.old)
+        s × (s.writer.pieces ≡ []) }
+    ensures closed { (origin : Origin) (s : State) → StandsFor origin course.old.scopes course.old.writer
+        (K.taken sink.old) (K.faults sink.old) course.old.around (asking_over Q.opening Q.pass Q.seen port.old)
+        s → s.writer.pieces ≡ []
+        → Closed (request_answers (served_at port.old.tree.now request.now course.old.around) request.now)
+        (Reached origin course.new.scopes course.new.writer (K.taken sink.new) (K.faults sink.new)
+        course.new.around (asking_over Q.opening Q.pass Q.seen port.new)) s
+        (asking_over Q.opening Q.pass Q.seen port.old).answers
+        (asking_over Q.opening Q.pass Q.seen port.new).answers course.new.writer result }
     ensures headed { IsHeaded close shown course.new.around course.new.writer }
-    ensures in_order { OnOk result (IsInOrder course.new.scopes course.new.around (asking_over Q.opening Q.pass Q.seen port.new)) }
+    ensures in_order { OnOk result (IsInOrder course.new.scopes course.new.around
+        (asking_over Q.opening Q.pass Q.seen port.new)) }
     ensures tree { port.new.tree.now ≡ port.old.tree.now }
     ensures leads { Leads needs_at Q.pass Q.opening Q.home Q.seen port.old port.new }
 {
@@ -94,13 +104,22 @@ fn first_page<'a, Q: Port<Made>, L: Ledger, K: Sink>(
     requires depth { course.old.around.depth ≡ 0 }
     requires charge { course.old.around.charge ≤ MAX_ASKED_CHARGE }
     requires last { IsLast port.old.tree.now port.old.last }
-    requires known { (page : Page) × (path : List ℕ) × (origin : Origin) × (s : State) × IsProgramOf (arc_value program) port.old.tree.now path × IsPageAt page port.old.tree.now path
-        × StandsFor origin course.old.scopes course.old.writer (K.taken sink.old) (K.faults sink.old) course.old.around (asking_over Q.opening Q.pass Q.seen port.old) s }
-    ensures closed { (path : List ℕ) → IsProgramOf (arc_value program) port.old.tree.now path → (page : Page) → IsPageAt page port.old.tree.now path
-        → (origin : Origin) (s : State) → StandsFor origin course.old.scopes course.old.writer (K.taken sink.old) (K.faults sink.old) course.old.around (asking_over Q.opening Q.pass Q.seen port.old) s
-        → Closed (first_answers (served_at port.old.tree.now request.now course.old.around) page request.now.params) (Reached origin course.new.scopes course.new.writer (K.taken sink.new) (K.faults sink.new) course.new.around (asking_over Q.opening Q.pass Q.seen port.new)) s (asking_over Q.opening Q.pass Q.seen port.old).answers (asking_over Q.opening Q.pass Q.seen port.new).answers course.new.writer result }
+    requires known { (page : Page) × (path : List ℕ) × (origin : Origin) × (s : State) × IsProgramOf
+        (arc_value program) port.old.tree.now path × IsPageAt page port.old.tree.now path
+        × StandsFor origin course.old.scopes course.old.writer (K.taken sink.old) (K.faults sink.old)
+        course.old.around (asking_over Q.opening Q.pass Q.seen port.old) s }
+    ensures closed { (path : List ℕ) → IsProgramOf (arc_value program) port.old.tree.now path →
+        (page : Page) → IsPageAt page port.old.tree.now path
+        → (origin : Origin) (s : State) → StandsFor origin course.old.scopes course.old.writer
+        (K.taken sink.old) (K.faults sink.old) course.old.around (asking_over Q.opening Q.pass Q.seen port.old) s
+        → Closed (first_answers (served_at port.old.tree.now request.now course.old.around)
+        page request.now.params) (Reached origin course.new.scopes course.new.writer (K.taken sink.new)
+        (K.faults sink.new) course.new.around (asking_over Q.opening Q.pass Q.seen port.new)) s
+        (asking_over Q.opening Q.pass Q.seen port.old).answers
+        (asking_over Q.opening Q.pass Q.seen port.new).answers course.new.writer result }
     ensures headed { IsHeaded close shown course.new.around course.new.writer }
-    ensures in_order { OnOk result (IsInOrder course.new.scopes course.new.around (asking_over Q.opening Q.pass Q.seen port.new)) }
+    ensures in_order { OnOk result (IsInOrder course.new.scopes course.new.around
+        (asking_over Q.opening Q.pass Q.seen port.new)) }
     ensures tree { port.new.tree.now ≡ port.old.tree.now }
     ensures leads { Leads needs_at Q.pass Q.opening Q.home Q.seen port.old port.new }
 {

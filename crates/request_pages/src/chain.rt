@@ -66,15 +66,26 @@ pub(crate) fn run_chain<'a, Q: Port<Made>, L: Ledger, K: Sink>(
     requires funded { IsFunded course.old.around (asking_over Q.opening Q.pass Q.seen port.old) }
     requires last { IsLast port.old.tree.now port.old.last }
     requires levels { level_limit - course.old.around.depth ≤ forwards }
-    requires known { (page : Page) × (path : List ℕ) × (origin : Origin) × (s : State) × IsProgramOf (arc_value program) port.old.tree.now path × IsPageAt page port.old.tree.now path
-        × StandsFor origin course.old.scopes course.old.writer (K.taken sink.old) (K.faults sink.old) course.old.around (asking_over Q.opening Q.pass Q.seen port.old) s }
-    ensures chained { (path : List ℕ) → IsProgramOf (arc_value program) port.old.tree.now path → (page : Page) → IsPageAt page port.old.tree.now path
-        → (origin : Origin) (s : State) → StandsFor origin course.old.scopes course.old.writer (K.taken sink.old) (K.faults sink.old) course.old.around (asking_over Q.opening Q.pass Q.seen port.old) s
-        → Chained (chain_answers (served_at port.old.tree.now request.now course.old.around) way.status (level_limit - course.old.around.depth) page (params_of request.now own)) request.now port.old.tree.now (StandsFor origin course.new.scopes course.new.writer (K.taken sink.new) (K.faults sink.new) course.new.around (asking_over Q.opening Q.pass Q.seen port.new)) s (asking_over Q.opening Q.pass Q.seen port.old).answers (asking_over Q.opening Q.pass Q.seen port.new).answers course.new.writer result }
+    requires known { (page : Page) × (path : List ℕ) × (origin : Origin) × (s : State) × IsProgramOf
+        (arc_value program) port.old.tree.now path × IsPageAt page port.old.tree.now path
+        × StandsFor origin course.old.scopes course.old.writer (K.taken sink.old) (K.faults sink.old)
+        course.old.around (asking_over Q.opening Q.pass Q.seen port.old) s }
+    ensures chained { (path : List ℕ) → IsProgramOf (arc_value program) port.old.tree.now path →
+        (page : Page) → IsPageAt page port.old.tree.now path
+        → (origin : Origin) (s : State) → StandsFor origin course.old.scopes course.old.writer
+        (K.taken sink.old) (K.faults sink.old) course.old.around (asking_over Q.opening Q.pass Q.seen port.old) s
+        → Chained (chain_answers (served_at port.old.tree.now request.now course.old.around) way.status
+        (level_limit - course.old.around.depth) page (params_of request.now own))
+        request.now port.old.tree.now (StandsFor origin course.new.scopes course.new.writer
+        (K.taken sink.new) (K.faults sink.new) course.new.around
+        (asking_over Q.opening Q.pass Q.seen port.new)) s
+        (asking_over Q.opening Q.pass Q.seen port.old).answers
+        (asking_over Q.opening Q.pass Q.seen port.new).answers course.new.writer result }
     ensures headed { IsHeaded way.close way.shown course.new.around course.new.writer }
     ensures in_order { IsInOrder course.new.scopes course.new.around (asking_over Q.opening Q.pass Q.seen port.new) }
     ensures funded { IsFunded course.new.around (asking_over Q.opening Q.pass Q.seen port.new) }
-    ensures charged { HasCharged course.old.around course.new.around (asking_over Q.opening Q.pass Q.seen port.old) (asking_over Q.opening Q.pass Q.seen port.new) }
+    ensures charged { HasCharged course.old.around course.new.around
+        (asking_over Q.opening Q.pass Q.seen port.old) (asking_over Q.opening Q.pass Q.seen port.new) }
     ensures session { KeepsSession course.old.around course.new.around }
     ensures exception { course.new.around.exception ≡ course.old.around.exception }
     ensures tree { port.new.tree.now ≡ port.old.tree.now }
@@ -119,7 +130,8 @@ fn tell_target(
     found: &Paged<Program>,
 ) -> Result<Reply, AllocError>
     requires other { IsOther found.now }
-    ensures told { (tree : List File) → IsPaged IsProgramOf IsFaultOf tree path.now found.now → IfOk result (λ reply. IsTargetReply tree status path.now reply) }
+    ensures told { (tree : List File) → IsPaged IsProgramOf IsFaultOf tree path.now found.now →
+        IfOk result (λ reply. IsTargetReply tree status path.now reply) }
 {
     match found {
         Paged::Plain(text) => file(alloc, status, path, text),

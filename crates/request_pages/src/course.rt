@@ -45,9 +45,13 @@ pub(crate) fn begin_page(
 ) -> Result<(), AllocError>
     requires buffered { ForSome program.now.settings.buffer (λ size. 0 < size) }
     requires uncommitted { course.old.writer.committed ≡ false }
-    ensures stands { (origin : Origin) (taken : Option (List ℕ)) (faults : ℕ) (asking : Asking) (s : State) (page : Page) → program.now.settings ≡ page.settings → StandsFor origin course.old.scopes course.old.writer taken faults course.old.around asking s
-        → OnOk result (StandsFor origin course.new.scopes course.new.writer taken faults course.new.around asking (at_start page s)) }
-    ensures head { OnOk result (course.new.writer.head ≡ head_for way.status (Some program.now.settings.content_type) way.close course.new.around) }
+    ensures stands { (origin : Origin) (taken : Option (List ℕ)) (faults : ℕ) (asking : Asking) (s : State)
+        (page : Page) → program.now.settings ≡ page.settings →
+        StandsFor origin course.old.scopes course.old.writer taken faults course.old.around asking s
+        → OnOk result (StandsFor origin course.new.scopes course.new.writer taken faults course.new.around
+        asking (at_start page s)) }
+    ensures head { OnOk result (course.new.writer.head
+        ≡ head_for way.status (Some program.now.settings.content_type) way.close course.new.around) }
     ensures shown { OnOk result (course.new.writer.shown ≡ way.shown) }
     ensures fresh { OnOk result (course.new.writer.committed ≡ false) }
     ensures session { OnOk result (course.new.scopes.session ≡ course.old.scopes.session) }

@@ -25,9 +25,13 @@ pub(crate) fn look<P: AppPort<Program>>(
 ) -> Result<Paged<Program>, AllocError>
     requires charge { around.old.charge ≤ MAX_ASKED_CHARGE }
     requires funded { IsFunded around.old (P.asking port.old) }
-    ensures looked { (origin : Origin) (scopes : ScopeState) (held : Held) (taken : Option (List ℕ)) (faults : ℕ) (s : State) → StandsFor origin scopes held taken faults around.old (P.asking port.old) s
-        → LookedSo P.made P.faulty (P.tree port.old) path.now (StandsFor origin scopes held taken faults around.new (P.asking port.new)) s (P.asking port.old) (P.asking port.new) result }
-    ensures in_order { (scopes : ScopeState) → IsInOrder scopes around.old (P.asking port.old) → OnOk result (IsInOrder scopes around.new (P.asking port.new)) }
+    ensures looked { (origin : Origin) (scopes : ScopeState) (held : Held) (taken : Option (List ℕ))
+        (faults : ℕ) (s : State) → StandsFor origin scopes held taken faults around.old (P.asking port.old) s
+        → LookedSo P.made P.faulty (P.tree port.old) path.now
+        (StandsFor origin scopes held taken faults around.new (P.asking port.new)) s (P.asking port.old)
+        (P.asking port.new) result }
+    ensures in_order { (scopes : ScopeState) → IsInOrder scopes around.old (P.asking port.old) →
+        OnOk result (IsInOrder scopes around.new (P.asking port.new)) }
     ensures funded { OnOk result (IsFunded around.new (P.asking port.new)) }
     ensures charge { around.new.charge ≤ around.old.charge + MAX_PAGE_CHARGE }
     ensures around { around.new ≡ record around.old { charge = around.new.charge } }
@@ -49,7 +53,8 @@ pub(crate) fn look<P: AppPort<Program>>(
 
 // The path of a page's error page, where it has one and that names a path.
 pub(crate) fn error_path(alloc: Global, program: &Program) -> Result<Option<Path>, AllocError>
-    ensures { (page : Page) → program.now.path ≡ page.path → program.now.settings ≡ page.settings → IfOk result (λ found. found ≡ error_path page) }
+    ensures { (page : Page) → program.now.path ≡ page.path → program.now.settings ≡ page.settings →
+        IfOk result (λ found. found ≡ error_path page) }
 {
     let Some(target) = &program.settings.error_page else {
         return Ok(None);

@@ -36,11 +36,18 @@ pub(crate) fn play_page<P: AppPort<Program>, K: Sink>(
     requires headed { IsHeaded way.close way.shown course.old.around course.old.writer }
     requires in_order { IsInOrder course.old.scopes course.old.around (P.asking port.old) }
     requires funded { IsFunded course.old.around (P.asking port.old) }
-    requires stands { (page : Page) × (path : List ℕ) × (origin : Origin) × (s : State) × IsProgramOf program.now (P.tree port.old) path × IsPageAt page (P.tree port.old) path
-        × StandsFor origin course.old.scopes course.old.writer (K.taken sink.old) (K.faults sink.old) course.old.around (P.asking port.old) s }
-    ensures played { (path : List ℕ) → IsProgramOf program.now (P.tree port.old) path → (page : Page) → IsPageAt page (P.tree port.old) path
-        → (origin : Origin) (s : State) → StandsFor origin course.old.scopes course.old.writer (K.taken sink.old) (K.faults sink.old) course.old.around (P.asking port.old) s
-        → Played (served_at (P.tree port.old) request.now course.old.around) way.status page params.now (level_limit - course.old.around.depth) (StandsFor origin course.new.scopes course.new.writer (K.taken sink.new) (K.faults sink.new) course.new.around (P.asking port.new)) s (P.asking port.old).answers (P.asking port.new).answers course.new.around.depth course.new.writer result }
+    requires stands { (page : Page) × (path : List ℕ) × (origin : Origin) × (s : State) × IsProgramOf
+        program.now (P.tree port.old) path × IsPageAt page (P.tree port.old) path
+        × StandsFor origin course.old.scopes course.old.writer (K.taken sink.old) (K.faults sink.old)
+        course.old.around (P.asking port.old) s }
+    ensures played { (path : List ℕ) → IsProgramOf program.now (P.tree port.old) path → (page : Page) →
+        IsPageAt page (P.tree port.old) path
+        → (origin : Origin) (s : State) → StandsFor origin course.old.scopes course.old.writer
+        (K.taken sink.old) (K.faults sink.old) course.old.around (P.asking port.old) s
+        → Played (served_at (P.tree port.old) request.now course.old.around) way.status page params.now
+        (level_limit - course.old.around.depth) (StandsFor origin course.new.scopes course.new.writer
+        (K.taken sink.new) (K.faults sink.new) course.new.around (P.asking port.new)) s
+        (P.asking port.old).answers (P.asking port.new).answers course.new.around.depth course.new.writer result }
     ensures headed { IsHeaded way.close way.shown course.new.around course.new.writer }
     ensures in_order { IsInOrder course.new.scopes course.new.around (P.asking port.new) }
     ensures funded { IsFunded course.new.around (P.asking port.new) }

@@ -39,10 +39,16 @@ pub(crate) fn run_page<P: AppPort<Program>, K: Sink>(
     requires tells { TellsPages P.made P.faulty }
     requires in_order { IsInOrder course.old.scopes course.old.around (P.asking port.old) }
     requires promise { RUN_PROMISE ≤ course.old.around.charge + (P.asking port.old).left }
-    requires writer { (start : Option (List ℕ)) × (before : ℕ) × (written : Wrote) × Stands start before course.old.writer (K.taken sink.old) (K.faults sink.old) written }
-    ensures gone { (path : List ℕ) → IsProgramOf program.now (P.tree port.old) path → (page : Page) → IsPageAt page (P.tree port.old) path
-        → (origin : Origin) (s : State) → StandsFor origin course.old.scopes course.old.writer (K.taken sink.old) (K.faults sink.old) course.old.around (P.asking port.old) s
-        → PageGone (served_at (P.tree port.old) request.now course.old.around) page params.now (level_limit - course.old.around.depth) (StandsFor origin course.new.scopes course.new.writer (K.taken sink.new) (K.faults sink.new) course.new.around (P.asking port.new)) s (P.asking port.old).answers (P.asking port.new).answers course.new.around.depth course.new.writer result }
+    requires writer { (start : Option (List ℕ)) × (before : ℕ) × (written : Wrote) × Stands start before
+        course.old.writer (K.taken sink.old) (K.faults sink.old) written }
+    ensures gone { (path : List ℕ) → IsProgramOf program.now (P.tree port.old) path → (page : Page) →
+        IsPageAt page (P.tree port.old) path
+        → (origin : Origin) (s : State) → StandsFor origin course.old.scopes course.old.writer
+        (K.taken sink.old) (K.faults sink.old) course.old.around (P.asking port.old) s
+        → PageGone (served_at (P.tree port.old) request.now course.old.around) page params.now
+        (level_limit - course.old.around.depth) (StandsFor origin course.new.scopes course.new.writer
+        (K.taken sink.new) (K.faults sink.new) course.new.around (P.asking port.new)) s
+        (P.asking port.old).answers (P.asking port.new).answers course.new.around.depth course.new.writer result }
     ensures in_order { IsInOrder course.new.scopes course.new.around (P.asking port.new) }
     ensures charged { HasCharged course.old.around course.new.around (P.asking port.old) (P.asking port.new) }
     ensures session { KeepsSession course.old.around course.new.around }

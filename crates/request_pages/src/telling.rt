@@ -29,7 +29,8 @@ pub(crate) fn plain(alloc: Global, status: Status, line: &[u8]) -> Result<Reply,
 
 /// The answer where no file is found.
 pub(crate) fn not_found(alloc: Global) -> Result<Reply, AllocError>
-    ensures { IfOk result (λ told. told ≡ Reply.Whole Status.NotFound (Some plain_type) None (codes "NotFound" ++ codes "\n")) }
+    ensures { IfOk result (λ told. told ≡ Reply.Whole Status.NotFound (Some plain_type) None
+        (codes "NotFound" ++ codes "\n")) }
 {
     plain(alloc, Status::NotFound, b"NotFound")
 }
@@ -71,7 +72,8 @@ fn file_type(path: &Path) -> &'static str
 
 /// The line of a page's fault.
 pub(crate) fn page_fault(alloc: Global, fault: &PageFault) -> Result<Reply, AllocError>
-    ensures { IfOk result (λ told. told ≡ Reply.Whole Status.InternalServerError (Some plain_type) None (page_fault_line fault.now ++ codes "\n")) }
+    ensures { IfOk result (λ told. told ≡ Reply.Whole Status.InternalServerError (Some plain_type) None
+        (page_fault_line fault.now ++ codes "\n")) }
 {
     let line = page_fault_line(alloc, fault)?;
     plain(alloc, Status::InternalServerError, &line)
@@ -79,7 +81,8 @@ pub(crate) fn page_fault(alloc: Global, fault: &PageFault) -> Result<Reply, Allo
 
 /// The line of a fault that a run raised.
 pub(crate) fn run_fault(alloc: Global, raise: &Raise) -> Result<Reply, AllocError>
-    ensures { IfOk result (λ told. told ≡ Reply.Whole Status.InternalServerError (Some plain_type) None (run_fault_line (raise_of raise.now) ++ codes "\n")) }
+    ensures { IfOk result (λ told. told ≡ Reply.Whole Status.InternalServerError (Some plain_type) None
+        (run_fault_line (raise_of raise.now) ++ codes "\n")) }
 {
     let line = run_fault_line(alloc, raise.fault, &raise.place)?;
     plain(alloc, Status::InternalServerError, line.as_bytes())

@@ -34,11 +34,15 @@ pub(crate) fn find<Q: Port<Made>, L: Ledger>(
     request: u64,
     path: &Path,
 ) -> Result<Arc<Made>, AllocError>
-    requires under { (run : Run) × Under (Q.opening port.old) (Q.pass port.old) (Q.seen port.old) request tree.now run × (op_weight (op.Fetch request path.now) + op_weight (op.Offer request path.now) + end_weight ≤ run.left) }
+    requires under { (run : Run) × Under (Q.opening port.old) (Q.pass port.old) (Q.seen port.old)
+        request tree.now run × (op_weight (op.Fetch request path.now) + op_weight (op.Offer request path.now)
+        + end_weight ≤ run.left) }
     requires file { IsPageFile path.now (file_at path.now tree.now) }
-    ensures same { IsSamePort (Q.pass port.old) (Q.pass port.new) (Q.opening port.old) (Q.opening port.new) (Q.home port.old) (Q.home port.new) }
+    ensures same { IsSamePort (Q.pass port.old) (Q.pass port.new) (Q.opening port.old) (Q.opening port.new)
+        (Q.home port.old) (Q.home port.new) }
     ensures made { IfOk result (λ made. IsMade (arc_value made) tree.now path.now) }
-    ensures found { IsFound needs_at (Q.opening port.old) (Q.pass port.old) (Q.seen port.old) (Q.seen port.new) steps.old steps.new request tree.now path.now result }
+    ensures found { IsFound needs_at (Q.opening port.old) (Q.pass port.old) (Q.seen port.old) (Q.seen port.new)
+        steps.old steps.new request tree.now path.now result }
 {
     match port.fetch(request, path) {
         Err(AllocError) => Err(AllocError),
@@ -56,11 +60,14 @@ fn make<Q: Port<Made>, L: Ledger>(
     request: u64,
     path: &Path,
 ) -> Result<Arc<Made>, AllocError>
-    requires under { (run : Run) × Under (Q.opening port.old) (Q.pass port.old) (Q.seen port.old) request tree.now run × (op_weight (op.Offer request path.now) + end_weight ≤ run.left) }
+    requires under { (run : Run) × Under (Q.opening port.old) (Q.pass port.old) (Q.seen port.old)
+        request tree.now run × (op_weight (op.Offer request path.now) + end_weight ≤ run.left) }
     requires file { IsPageFile path.now (file_at path.now tree.now) }
-    ensures same { IsSamePort (Q.pass port.old) (Q.pass port.new) (Q.opening port.old) (Q.opening port.new) (Q.home port.old) (Q.home port.new) }
+    ensures same { IsSamePort (Q.pass port.old) (Q.pass port.new) (Q.opening port.old) (Q.opening port.new)
+        (Q.home port.old) (Q.home port.new) }
     ensures made { IfOk result (λ made. IsMade (arc_value made) tree.now path.now) }
-    ensures offers { Offers needs_at (Q.opening port.old) (Q.pass port.old) (Q.seen port.old) (Q.seen port.new) steps.old steps.new request tree.now path.now result }
+    ensures offers { Offers needs_at (Q.opening port.old) (Q.pass port.old) (Q.seen port.old) (Q.seen port.new)
+        steps.old steps.new request tree.now path.now result }
 {
     port.law();
     let Ok(made) = translated(alloc, steps, tree, path) else {

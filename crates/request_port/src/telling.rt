@@ -20,8 +20,11 @@ pub(crate) fn tell(
     path: &Path,
     made: Arc<Made>,
 ) -> Result<Paged<Program>, AllocError>
-    ensures paged { (tree : List File) → IsMade (arc_value made) tree path.now → IsPageFile path.now (file_at path.now tree) → IfOk result (λ found. IsPaged IsProgramOf IsFaultOf tree path.now found) }
-    ensures last { (tree : List File) → IsMade (arc_value made) tree path.now → IsLast tree last.old → IsLast tree last.new }
+    ensures paged { (tree : List File) → IsMade (arc_value made) tree path.now →
+        IsPageFile path.now (file_at path.now tree) →
+        IfOk result (λ found. IsPaged IsProgramOf IsFaultOf tree path.now found) }
+    ensures last { (tree : List File) → IsMade (arc_value made) tree path.now → IsLast tree last.old →
+        IsLast tree last.new }
 {
     let found = paged(&made.body)?;
     let name = path.copy()?;
@@ -31,7 +34,9 @@ pub(crate) fn tell(
 
 // The page or its fault.
 pub(crate) fn paged(body: &MadeBody) -> Result<Paged<Program>, AllocError>
-    ensures { (tree : List File) (path : List ℕ) → IsBodyOf body.now tree path → IsPageFile path (file_at path tree) → IfOk result (λ found. IsPaged IsProgramOf IsFaultOf tree path found) }
+    ensures { (tree : List File) (path : List ℕ) → IsBodyOf body.now tree path →
+        IsPageFile path (file_at path tree) →
+        IfOk result (λ found. IsPaged IsProgramOf IsFaultOf tree path found) }
 {
     match body {
         MadeBody::Program(program) => Ok(Paged::Page(Arc::try_clone(program)?)),

@@ -31,7 +31,8 @@ pub fn roll<P: Compiled, K: Sink>(
     sink: &mut K,
 ) -> Rolled<P>
     requires { AllRest site.opening site.history }
-    ensures rolls { Rolls P.needs site (option_copied talk.entry) (K.taken sink.old) (K.taken sink.new) (K.faults sink.old) (K.faults sink.new) result }
+    ensures rolls { Rolls P.needs site (option_copied talk.entry) (K.taken sink.old) (K.taken sink.new)
+        (K.faults sink.old) (K.faults sink.new) result }
     ensures later { K.faults sink.old ≤ K.faults sink.new }
 {
     site.law();

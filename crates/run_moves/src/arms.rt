@@ -33,7 +33,8 @@ pub(crate) fn take<W: World>(pc: usize, above: usize, open: &mut Open, world: &m
     requires within { pc + 1 < 2 ^ 64 }
     requires there { above < length open.old.stack }
     ensures covered { W.covered world.new }
-    ensures acted { Acted W.reached W.replies (λ s. brought_up (slice_get (open_of open.old).stack above) above (pc + 1) s (open_of open.old)) world.old world.new (open_of open.new) result }
+    ensures acted { Acted W.reached W.replies (λ s. brought_up (slice_get (open_of open.old).stack above) above
+        (pc + 1) s (open_of open.old)) world.old world.new (open_of open.new) result }
     ensures left { open.new.left ≡ open.old.left }
 {
     open.stack.bring_up(above);
@@ -45,7 +46,9 @@ pub(crate) fn start_body<W: World>(pc: usize, open: &mut Open, world: &mut W) ->
     requires covered { W.covered world.old }
     requires within { pc + 1 < 2 ^ 64 }
     ensures covered { W.covered world.new }
-    ensures acted { Acted W.reached W.replies (λ s. On (Running (pc + 1) (in_writer (with_body s.writer) s) (open_of open.old))) world.old world.new (open_of open.new) result }
+    ensures acted { Acted W.reached W.replies
+        (λ s. On (Running (pc + 1) (in_writer (with_body s.writer) s) (open_of open.old))) world.old world.new
+        (open_of open.new) result }
     ensures left { open.new.left ≡ open.old.left }
 {
     match world.start_body() {
@@ -66,7 +69,9 @@ pub(crate) fn take_body<W: World>(
     requires within { pc + 1 < 2 ^ 64 }
     requires some { 0 < W.kept world.old }
     ensures covered { W.covered world.new }
-    ensures acted { Acted W.reached W.replies (λ s. On (land (pc + 1) (λ t. text t ∷ (open_of open.old).stack) (open_of open.old) (taken place.now s))) world.old world.new (open_of open.new) result }
+    ensures acted { Acted W.reached W.replies
+        (λ s. On (land (pc + 1) (λ t. text t ∷ (open_of open.old).stack) (open_of open.old)
+        (taken place.now s))) world.old world.new (open_of open.new) result }
     ensures left { open.new.left ≡ open.old.left }
 {
     match world.take_body() {
@@ -90,7 +95,9 @@ pub(crate) fn jump_if<W: World>(
     requires within { pc + 1 + size < 2 ^ 64 }
     requires filled { 0 < length open.old.stack }
     ensures covered { W.covered world.new }
-    ensures acted { Acted W.reached W.replies (λ s. popped (open_of open.old) (open_of open.old).stack (λ d p. On (one_of (is_same_truth holds (is_true d)) (Running (pc + 1 + size) s p) (Running (pc + 1) s p)))) world.old world.new (open_of open.new) result }
+    ensures acted { Acted W.reached W.replies (λ s. popped (open_of open.old) (open_of open.old).stack
+        (λ d p. On (one_of (is_same_truth holds (is_true d)) (Running (pc + 1 + size) s p)
+        (Running (pc + 1) s p)))) world.old world.new (open_of open.new) result }
     ensures left { open.new.left ≡ open.old.left }
 {
     let Some(value) = open.stack.pop() else {
@@ -138,7 +145,9 @@ pub(crate) fn jump_null<W: World>(pc: usize, size: usize, open: &mut Open, world
     requires within { pc + 1 + size < 2 ^ 64 }
     requires filled { 0 < length open.old.stack }
     ensures covered { W.covered world.new }
-    ensures acted { Acted W.reached W.replies (λ s. popped (open_of open.old) (open_of open.old).stack (λ d p. On (jump_null d (pc + 1 + size) (pc + 1) s (open_of open.old) p))) world.old world.new (open_of open.new) result }
+    ensures acted { Acted W.reached W.replies (λ s. popped (open_of open.old) (open_of open.old).stack
+        (λ d p. On (jump_null d (pc + 1 + size) (pc + 1) s (open_of open.old) p))) world.old world.new
+        (open_of open.new) result }
     ensures left { open.new.left ≡ open.old.left }
 {
     if has_null(&open.stack) {
@@ -154,7 +163,9 @@ pub(crate) fn catch_start<W: World>(pc: usize, size: usize, open: &mut Open, wor
     requires covered { W.covered world.old }
     requires within { pc + 1 + size < 2 ^ 64 }
     ensures covered { W.covered world.new }
-    ensures acted { Acted W.reached W.replies (λ s. On (Running (pc + 1) s (with_catch (pc + 1 + size) s (open_of open.old)))) world.old world.new (open_of open.new) result }
+    ensures acted { Acted W.reached W.replies
+        (λ s. On (Running (pc + 1) s (with_catch (pc + 1 + size) s (open_of open.old)))) world.old world.new
+        (open_of open.new) result }
     ensures left { open.new.left ≡ open.old.left }
 {
     let opened = OpenCatch {
@@ -175,7 +186,8 @@ pub(crate) fn catch_end<W: World>(pc: usize, open: &mut Open, world: &mut W) -> 
     requires within { pc + 1 < 2 ^ 64 }
     requires opened { 0 < length open.old.catches }
     ensures covered { W.covered world.new }
-    ensures acted { Acted W.reached W.replies (λ s. catch_closed (open_of open.old).catches (pc + 1) s (open_of open.old)) world.old world.new (open_of open.new) result }
+    ensures acted { Acted W.reached W.replies (λ s. catch_closed (open_of open.old).catches (pc + 1) s
+        (open_of open.old)) world.old world.new (open_of open.new) result }
     ensures left { open.new.left ≡ open.old.left }
 {
     let Some(_) = open.catches.pop() else {
@@ -201,7 +213,9 @@ fn make_bean<W: World>(
 ) -> Result<bool, Failure<RunFault>>
     requires covered { W.covered world.old }
     ensures covered { W.covered world.new }
-    ensures does { Doing W.reached W.replies (λ b. b) (λ place. bean_made place (held_scope variable.now.scope) variable.now.name (datum_of bean.now)) world.old world.new result }
+    ensures does { Doing W.reached W.replies (λ b. b)
+        (λ place. bean_made place (held_scope variable.now.scope) variable.now.name (datum_of bean.now))
+        world.old world.new result }
 {
     let name = variable.name.as_text();
     let Some(held) = HeldScope::of(variable.scope) else {
@@ -229,7 +243,11 @@ pub(crate) fn ensure<W: World>(
     requires covered { W.covered world.old }
     requires within { pc + 1 + size < 2 ^ 64 }
     ensures covered { W.covered world.new }
-    ensures acted { Acted W.reached W.replies (λ s. On (then_at (open_of open.old) (bean_made place.now (held_scope variable.now.scope) variable.now.name (datum_of bean.now) s) (λ made s1. one_of made (Running (pc + 1) s1 (open_of open.old)) (Running (pc + 1 + size) s1 (open_of open.old))))) world.old world.new (open_of open.new) result }
+    ensures acted { Acted W.reached W.replies
+        (λ s. On (then_at (open_of open.old) (bean_made place.now (held_scope variable.now.scope)
+        variable.now.name (datum_of bean.now) s) (λ made s1.
+        one_of made (Running (pc + 1) s1 (open_of open.old)) (Running (pc + 1 + size) s1 (open_of open.old)))))
+        world.old world.new (open_of open.new) result }
     ensures left { open.new.left ≡ open.old.left }
 {
     match make_bean(variable, bean, world) {

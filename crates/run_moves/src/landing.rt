@@ -26,7 +26,8 @@ pub fn fail<W: World>(
 ) -> Flow
     requires covered { W.covered world.old }
     ensures covered { W.covered world.new }
-    ensures acted { Acted W.reached W.replies (failing place.now (open_of open.old) failed) world.old world.new (open_of open.new) result }
+    ensures acted { Acted W.reached W.replies (failing place.now (open_of open.old) failed) world.old world.new
+        (open_of open.new) result }
     ensures short { failed ≡ failure.NoMemory → (result ≡ flow.Over end.NoMemory) × (world.new ≡ world.old) }
     ensures left { open.new.left ≡ open.old.left }
 {
@@ -48,7 +49,8 @@ pub(crate) fn land<W: World>(
     requires covered { W.covered world.old }
     requires within { pc + 1 < 2 ^ 64 }
     ensures covered { W.covered world.new }
-    ensures acted { Acted W.reached W.replies (landing pc place.now (open_of open.old) made) world.old world.new (open_of open.new) result }
+    ensures acted { Acted W.reached W.replies (landing pc place.now (open_of open.old) made) world.old world.new
+        (open_of open.new) result }
     ensures short { made ≡ Err failure.NoMemory → (result ≡ flow.Over end.NoMemory) × (world.new ≡ world.old) }
     ensures left { open.new.left ≡ open.old.left }
 {
@@ -77,7 +79,8 @@ pub(crate) fn land_done<W: World>(
     requires covered { W.covered world.old }
     requires within { pc + 1 < 2 ^ 64 }
     ensures covered { W.covered world.new }
-    ensures acted { Acted W.reached W.replies (landing pc place.now (open_of open.old) (none_of done)) world.old world.new (open_of open.new) result }
+    ensures acted { Acted W.reached W.replies (landing pc place.now (open_of open.old) (none_of done))
+        world.old world.new (open_of open.new) result }
     ensures short { done ≡ Err failure.NoMemory → (result ≡ flow.Over end.NoMemory) × (world.new ≡ world.old) }
     ensures left { open.new.left ≡ open.old.left }
 {
@@ -99,7 +102,8 @@ pub(crate) fn land_value<W: World>(
     requires covered { W.covered world.old }
     requires within { pc + 1 < 2 ^ 64 }
     ensures covered { W.covered world.new }
-    ensures acted { Acted W.reached W.replies (landing pc place.now (open_of open.old) (one_of made)) world.old world.new (open_of open.new) result }
+    ensures acted { Acted W.reached W.replies (landing pc place.now (open_of open.old) (one_of made))
+        world.old world.new (open_of open.new) result }
     ensures short { made ≡ Err failure.NoMemory → (result ≡ flow.Over end.NoMemory) × (world.new ≡ world.old) }
     ensures left { open.new.left ≡ open.old.left }
 {

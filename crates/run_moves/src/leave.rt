@@ -52,7 +52,9 @@ pub(crate) fn leave<W: World>(
     requires covered { W.covered world.old }
     requires finds { LeaveFinds (open_of open.old) how.now }
     ensures covered { W.covered world.new }
-    ensures acted { ActedFor W.reached W.replies (ServesSo W.stores served.now) (λ serving s. leaving serving (seat_of seat.now) place.now how.now s (open_of open.old)) world.old world.new (open_of open.new) result }
+    ensures acted { ActedFor W.reached W.replies (ServesSo W.stores served.now) (λ serving s.
+        leaving serving (seat_of seat.now) place.now how.now s (open_of open.old)) world.old world.new
+        (open_of open.new) result }
     ensures left { open.new.left ≡ open.old.left }
 {
     match how {
@@ -67,7 +69,9 @@ fn redirect_away<W: World>(alloc: Global, place: &Place, open: &mut Open, world:
     requires covered { W.covered world.old }
     requires filled { 1 ≤ length open.old.stack }
     ensures covered { W.covered world.new }
-    ensures acted { (serving : Serving) (seat : Seat') → Acted W.reached W.replies (λ s. leaving serving seat place.now leave.Redirect s (open_of open.old)) world.old world.new (open_of open.new) result }
+    ensures acted { (serving : Serving) (seat : Seat') →
+        Acted W.reached W.replies (λ s. leaving serving seat place.now leave.Redirect s (open_of open.old))
+        world.old world.new (open_of open.new) result }
     ensures left { open.new.left ≡ open.old.left }
 {
     let asked = ask_redirect(alloc, open.stack.top(1), world);
@@ -91,7 +95,9 @@ fn forward_away<W: World>(
     requires covered { W.covered world.old }
     requires filled { address_with params ≤ length open.old.stack }
     ensures covered { W.covered world.new }
-    ensures acted { (serving : Serving) → ServesSo W.stores served.now world.old serving → Acted W.reached W.replies (λ s. leaving serving (seat_of seat.now) place.now (leave.Forward params) s (open_of open.old)) world.old world.new (open_of open.new) result }
+    ensures acted { (serving : Serving) → ServesSo W.stores served.now world.old serving →
+        Acted W.reached W.replies (λ s. leaving serving (seat_of seat.now) place.now (leave.Forward params) s
+        (open_of open.old)) world.old world.new (open_of open.new) result }
     ensures left { open.new.left ≡ open.old.left }
 {
     let held = open.stack.len();
@@ -118,7 +124,8 @@ fn ask_redirect<W: World>(
     requires covered { W.covered world.old }
     requires some { 1 ≤ length values.now }
     ensures covered { W.covered world.new }
-    ensures does { Doing W.reached W.replies (λ t. t) (λ place. redirect_asked place (text_at 0 (map datum_of values.now))) world.old world.new result }
+    ensures does { Doing W.reached W.replies (λ t. t)
+        (λ place. redirect_asked place (text_at 0 (map datum_of values.now))) world.old world.new result }
 {
     if world.has_committed() {
         return Err(Failure::Fault(RunFault::Committed));
@@ -159,7 +166,10 @@ fn ask_forward<W: World>(
     requires covered { W.covered world.old }
     requires some { 1 ≤ length values.now }
     ensures covered { W.covered world.new }
-    ensures does { (serving : Serving) → ServesSo W.stores served.now world.old serving → Doing W.reached W.replies goal_of (λ place. forward_asked serving left place (page_run_of (seat_of seat.now)) (text_at 0 (map datum_of values.now)) (params_in (behind_first (map datum_of values.now)))) world.old world.new result }
+    ensures does { (serving : Serving) → ServesSo W.stores served.now world.old serving →
+        Doing W.reached W.replies goal_of (λ place. forward_asked serving left place
+        (page_run_of (seat_of seat.now)) (text_at 0 (map datum_of values.now))
+        (params_in (behind_first (map datum_of values.now)))) world.old world.new result }
     ensures uncommitted { IfOk result (λ goal. W.committed world.new ≡ false) }
 {
     if world.has_committed() {

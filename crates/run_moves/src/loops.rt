@@ -64,14 +64,16 @@ impl Loops {
     }
 
     pub fn pop(&mut self) -> Option<Loop>
-        ensures { MatchOption result ((self.old ≡ []) × (self.new ≡ [])) (λ innermost. self.old ≡ loop_of innermost ∷ self.new) }
+        ensures { MatchOption result ((self.old ≡ []) × (self.new ≡ [])) (λ innermost. self.old
+            ≡ loop_of innermost ∷ self.new) }
     {
         self.loops.pop()
     }
 
     /// The innermost loop.
     pub fn innermost(&self) -> Option<&Loop>
-        ensures { MatchOption result (self.now ≡ []) (λ innermost. (outer : List Loop') × (self.now ≡ loop_of innermost.now ∷ outer)) }
+        ensures { MatchOption result (self.now ≡ []) (λ innermost. (outer : List Loop') × (self.now
+            ≡ loop_of innermost.now ∷ outer)) }
     {
         self.loops.last()
     }

@@ -48,7 +48,8 @@ impl Stack {
     }
 
     pub fn pop(&mut self) -> Option<Value>
-        ensures { MatchOption result ((self.old ≡ []) × (self.new ≡ [])) (λ value. self.old ≡ datum_of value ∷ self.new) }
+        ensures { MatchOption result ((self.old ≡ []) × (self.new ≡ [])) (λ value. self.old
+            ≡ datum_of value ∷ self.new) }
     {
         self.values.pop()
     }
@@ -69,7 +70,8 @@ impl Stack {
 
     /// The topmost value.
     pub fn topmost(&self) -> Option<&Value>
-        ensures { MatchOption result (self.now ≡ []) (λ value. (rest : List Datum) × (self.now ≡ datum_of value.now ∷ rest)) }
+        ensures { MatchOption result (self.now ≡ []) (λ value. (rest : List Datum) × (self.now
+            ≡ datum_of value.now ∷ rest)) }
     {
         self.values.last()
     }
@@ -142,7 +144,8 @@ impl Catches {
     }
 
     pub fn pop(&mut self) -> Option<OpenCatch>
-        ensures { MatchOption result ((self.old ≡ []) × (self.new ≡ [])) (λ innermost. self.old ≡ innermost ∷ self.new) }
+        ensures { MatchOption result ((self.old ≡ []) × (self.new ≡ [])) (λ innermost. self.old
+            ≡ innermost ∷ self.new) }
     {
         self.catches.pop()
     }

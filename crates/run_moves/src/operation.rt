@@ -38,7 +38,9 @@ pub(crate) fn operation<W: World>(
     requires within { pc + 1 < 2 ^ 64 }
     requires filled { takes op.now ≤ length open.old.stack }
     ensures covered { W.covered world.new }
-    ensures acted { ActedFor W.reached W.replies (ServesSo W.stores served.now) (λ serving s. act serving (seat_of seat.now) place.now pc s (open_of open.old) (instr.Op op.now)) world.old world.new (open_of open.new) result }
+    ensures acted { ActedFor W.reached W.replies (ServesSo W.stores served.now) (λ serving s.
+        act serving (seat_of seat.now) place.now pc s (open_of open.old) (instr.Op op.now)) world.old world.new
+        (open_of open.new) result }
     ensures left { open.new.left ≡ open.old.left }
 {
     match op {
@@ -73,7 +75,9 @@ fn put_top<W: World>(
     requires within { pc + 1 < 2 ^ 64 }
     requires filled { 1 ≤ length open.old.stack }
     ensures covered { W.covered world.new }
-    ensures acted { (serving : Serving) (seat : Seat') → Acted W.reached W.replies (λ s. act serving seat place.now pc s (open_of open.old) (instr.Op op.Put)) world.old world.new (open_of open.new) result }
+    ensures acted { (serving : Serving) (seat : Seat') →
+        Acted W.reached W.replies (λ s. act serving seat place.now pc s (open_of open.old) (instr.Op op.Put))
+        world.old world.new (open_of open.new) result }
     ensures left { open.new.left ≡ open.old.left }
 {
     let Some(value) = open.stack.topmost() else {
@@ -98,7 +102,9 @@ fn value_at_top<W: World>(
     requires filled { takes op.now ≤ length open.old.stack }
     requires computed { IsComputed op.now }
     ensures covered { W.covered world.new }
-    ensures acted { (serving : Serving) (seat : Seat') → Acted W.reached W.replies (λ s. act serving seat place.now pc s (open_of open.old) (instr.Op op.now)) world.old world.new (open_of open.new) result }
+    ensures acted { (serving : Serving) (seat : Seat') →
+        Acted W.reached W.replies (λ s. act serving seat place.now pc s (open_of open.old) (instr.Op op.now))
+        world.old world.new (open_of open.new) result }
     ensures left { open.new.left ≡ open.old.left }
 {
     let held = open.stack.len();
@@ -125,7 +131,9 @@ fn at_one_place<W: World>(
     requires filled { takes op.now ≤ length open.old.stack }
     requires placed { HasOnePlace op.now }
     ensures covered { W.covered world.new }
-    ensures acted { ActedFor W.reached W.replies (ServesSo W.stores served.now) (λ serving s. act serving (seat_of seat.now) place.now pc s (open_of open.old) (instr.Op op.now)) world.old world.new (open_of open.new) result }
+    ensures acted { ActedFor W.reached W.replies (ServesSo W.stores served.now) (λ serving s.
+        act serving (seat_of seat.now) place.now pc s (open_of open.old) (instr.Op op.now)) world.old world.new
+        (open_of open.new) result }
     ensures left { open.new.left ≡ open.old.left }
 {
     let held = open.stack.len();
@@ -151,7 +159,10 @@ fn set_value<W: World>(
     requires within { pc + 1 < 2 ^ 64 }
     requires filled { 1 ≤ length open.old.stack }
     ensures covered { W.covered world.new }
-    ensures acted { (serving : Serving) (seat : Seat') → Acted W.reached W.replies (λ s. act serving seat place.now pc s (open_of open.old) (instr.Op (op.SetProperty name.now (mode.Value property.now value_place.now)))) world.old world.new (open_of open.new) result }
+    ensures acted { (serving : Serving) (seat : Seat') →
+        Acted W.reached W.replies (λ s. act serving seat place.now pc s (open_of open.old)
+        (instr.Op (op.SetProperty name.now (mode.Value property.now value_place.now)))) world.old world.new
+        (open_of open.new) result }
     ensures left { open.new.left ≡ open.old.left }
 {
     let Some(value) = open.stack.pop() else {

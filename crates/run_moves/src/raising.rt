@@ -36,7 +36,8 @@ fn unwind<W: World>(left: usize, loops: &mut Loops, world: &mut W)
     requires covered { W.covered world.old }
     ensures covered { W.covered world.new }
     ensures loops { loops.new ≡ last_of left loops.old }
-    ensures unwound { Changes W.reached (λ s. unwound (take (length loops.old - left) loops.old) s) world.old world.new }
+    ensures unwound { Changes W.reached (λ s. unwound (take (length loops.old - left) loops.old) s)
+        world.old world.new }
     ensures replies { W.replies world.new ≡ W.replies world.old }
 {
     while loops.len() > left {
@@ -52,7 +53,8 @@ fn unwind<W: World>(left: usize, loops: &mut Loops, world: &mut W)
 fn fall<W: World>(fault: RunFault, place: &Place, open: &mut Open, world: &mut W) -> Flow
     requires covered { W.covered world.old }
     ensures covered { W.covered world.new }
-    ensures acted { Acted W.reached W.replies (λ s. On (uncaught fault place.now s (open_of open.old))) world.old world.new (open_of open.new) result }
+    ensures acted { Acted W.reached W.replies (λ s. On (uncaught fault place.now s (open_of open.old)))
+        world.old world.new (open_of open.new) result }
     ensures left { open.new.left ≡ open.old.left }
 {
     let Ok(place) = place.copy() else {
@@ -72,7 +74,8 @@ pub fn throw<W: World>(
 ) -> Flow
     requires covered { W.covered world.old }
     ensures covered { W.covered world.new }
-    ensures acted { Acted W.reached W.replies (λ s. On (thrown fault place.now s (open_of open.old))) world.old world.new (open_of open.new) result }
+    ensures acted { Acted W.reached W.replies (λ s. On (thrown fault place.now s (open_of open.old)))
+        world.old world.new (open_of open.new) result }
     ensures left { open.new.left ≡ open.old.left }
 {
     if fault.number() > 16 {

@@ -42,7 +42,9 @@ pub(crate) fn loop_start<W: World>(
     requires within { pc + 1 < 2 ^ 64 }
     requires filled { length kind.now.names ≤ length open.old.stack }
     ensures covered { W.covered world.new }
-    ensures acted { Acted W.reached W.replies (λ s. popped_all (length kind.now.names) (open_of open.old) (λ ds p. On (loop_opened place.now kind.now (table_of kind.now.names ds) (pc + 1) s p))) world.old world.new (open_of open.new) result }
+    ensures acted { Acted W.reached W.replies (λ s. popped_all (length kind.now.names) (open_of open.old)
+        (λ ds p. On (loop_opened place.now kind.now (table_of kind.now.names ds) (pc + 1) s p)))
+        world.old world.new (open_of open.new) result }
     ensures left { open.new.left ≡ open.old.left }
 {
     let count = kind.names.len();
@@ -61,7 +63,8 @@ pub(crate) fn loop_start<W: World>(
 // The loop that the values on top open.
 fn opened(alloc: Global, kind: &LoopKind, open: &Open) -> Result<Loop, Failure<RunFault>>
     requires { length kind.now.names ≤ length open.now.stack }
-    ensures { AnswersAs loop_of (loop_answer kind.now (table_of kind.now.names (reverse (take (length kind.now.names) (open_of open.now).stack)))) result }
+    ensures { AnswersAs loop_of (loop_answer kind.now
+        (table_of kind.now.names (reverse (take (length kind.now.names) (open_of open.now).stack)))) result }
 {
     let values = table_of(
         alloc,
@@ -109,7 +112,8 @@ pub(crate) fn loop_next<W: World>(
     requires back { size ≤ pc }
     requires opened { 1 ≤ length open.old.loops }
     ensures covered { W.covered world.new }
-    ensures acted { Acted W.reached W.replies (λ s. loop_next place.now (open_of open.old).loops (pc - size) (pc + 1) s (open_of open.old)) world.old world.new (open_of open.new) result }
+    ensures acted { Acted W.reached W.replies (λ s. loop_next place.now (open_of open.old).loops (pc - size)
+        (pc + 1) s (open_of open.old)) world.old world.new (open_of open.new) result }
     ensures left { open.new.left ≡ open.old.left }
 {
     let Some(innermost) = open.loops.innermost() else {
@@ -141,8 +145,11 @@ fn begin_round<W: World>(
 ) -> Result<(), Failure<RunFault>>
     requires covered { W.covered world.old }
     ensures covered { W.covered world.new }
-    ensures does { (r : Round) (rest : List Round) → looping.now.rounds ≡ r ∷ rest → r.index ≡ mark.now.index → r.count ≡ mark.now.count → r.is_last ≡ mark.now.is_last
-        → Doing W.reached W.replies (λ u. u) (λ place. round_begun place looping.now.variable looping.now.status (map entry_of looping.now.values.items) r) world.old world.new result }
+    ensures does { (r : Round) (rest : List Round) → looping.now.rounds ≡ r ∷ rest →
+        r.index ≡ mark.now.index → r.count ≡ mark.now.count → r.is_last ≡ mark.now.is_last
+        → Doing W.reached W.replies (λ u. u)
+        (λ place. round_begun place looping.now.variable looping.now.status
+        (map entry_of looping.now.values.items) r) world.old world.new result }
 {
     count_visit(world)?;
     let item = looping.rounds.item(alloc)?;
@@ -179,7 +186,8 @@ fn set_named<W: World>(
 ) -> Result<(), Failure<RunFault>>
     requires covered { W.covered world.old }
     ensures covered { W.covered world.new }
-    ensures does { Doing W.reached W.replies (λ u. u) (λ place s. Well tt (with_named name.now (datum_of value.now) s)) world.old world.new result }
+    ensures does { Doing W.reached W.replies (λ u. u) (λ place s.
+        Well tt (with_named name.now (datum_of value.now) s)) world.old world.new result }
 {
     match name {
         Some(name) => world.set(HeldScope::Page, name.as_text(), value.copy()?),
@@ -199,7 +207,9 @@ fn set_status<W: World>(
 ) -> Result<(), Failure<RunFault>>
     requires covered { W.covered world.old }
     ensures covered { W.covered world.new }
-    ensures does { Doing W.reached W.replies (λ u. u) (λ place. set_status place name.now (status_record (map entry_of values.now) (round_at mark.now) (datum_of item.now))) world.old world.new result }
+    ensures does { Doing W.reached W.replies (λ u. u)
+        (λ place. set_status place name.now (status_record (map entry_of values.now) (round_at mark.now)
+        (datum_of item.now))) world.old world.new result }
 {
     let Some(name) = name else {
         return Ok(());

@@ -38,7 +38,9 @@ pub fn step<W: World>(
     requires finds { Finds (length (code_of (seat_of seat.now))) pc (W.kept world.old) (open_of open.old) instr.now }
     requires simple { IsSimple instr.now }
     ensures covered { W.covered world.new }
-    ensures acted { ActedFor W.reached W.replies (ServesSo W.stores served.now) (λ serving s. act serving (seat_of seat.now) place.now pc s (open_of open.old) instr.now) world.old world.new (open_of open.new) result }
+    ensures acted { ActedFor W.reached W.replies (ServesSo W.stores served.now) (λ serving s.
+        act serving (seat_of seat.now) place.now pc s (open_of open.old) instr.now) world.old world.new
+        (open_of open.new) result }
     ensures left { open.new.left ≡ open.old.left }
 {
     match instr {

@@ -36,7 +36,8 @@ fn with_others(
     table: &[(Text, Value)],
     frame: Attrs,
 ) -> Result<Attrs, Failure<RunFault>>
-    ensures { Answers (with_dynamic decl.now.dynamic (filter (λ v. not (is_declared decl.now v)) (map entry_of table.now)) frame) result }
+    ensures { Answers (with_dynamic decl.now.dynamic (filter (λ v. not (is_declared decl.now v))
+        (map entry_of table.now)) frame) result }
 {
     let Some(name) = &decl.dynamic else {
         return Ok(frame);
@@ -54,7 +55,8 @@ fn declared_values(
     decl: &TagDecl,
     table: &[(Text, Value)],
 ) -> Result<Attrs, AllocError>
-    ensures { IfOk result (λ entries. entries ≡ of_entries (filter (is_declared decl.now) (map entry_of table.now))) }
+    ensures { IfOk result (λ entries. entries
+        ≡ of_entries (filter (is_declared decl.now) (map entry_of table.now))) }
 {
     let mut entries = Attrs::empty(alloc);
     for (name, value) in table {
@@ -71,7 +73,8 @@ fn undeclared_values(
     decl: &TagDecl,
     table: &[(Text, Value)],
 ) -> Result<Attrs, AllocError>
-    ensures { IfOk result (λ entries. entries ≡ of_entries (filter (λ v. not (is_declared decl.now v)) (map entry_of table.now))) }
+    ensures { IfOk result (λ entries. entries
+        ≡ of_entries (filter (λ v. not (is_declared decl.now v)) (map entry_of table.now))) }
 {
     let mut entries = Attrs::empty(alloc);
     for (name, value) in table {

@@ -100,7 +100,8 @@ fn is_copied(time: CopyTime, scope: VarScope) -> bool
 
 // A name with a copy of a value, where there is one.
 fn changed_to(name: &Text, value: Option<&Value>) -> Result<Change, AllocError>
-    ensures { IfOk result (λ made. change_of made ≡ record { name = name.now; value = option_map (λ value. datum_of value.now) value.entry }) }
+    ensures { IfOk result (λ made. change_of made
+        ≡ record { name = name.now; value = option_map (λ value. datum_of value.now) value.entry }) }
 {
     let value = match value {
         Some(value) => Some(value.copy()?),
@@ -119,7 +120,9 @@ fn own_changes(
     exports: &[Export],
     scopes: &Scopes,
 ) -> Result<Vec<Change>, AllocError>
-    ensures { IfOk result (λ changes. map change_of changes.items ≡ own_changes (is_copied time) (map export_of exports.now) (entries_of_frame scopes.now scopes.now.current)) }
+    ensures { IfOk result (λ changes. map change_of changes.items
+        ≡ own_changes (is_copied time) (map export_of exports.now)
+        (entries_of_frame scopes.now scopes.now.current)) }
 {
     let mut changes = Vec::new(alloc);
     for export in exports {
@@ -137,7 +140,8 @@ pub fn nested_changes(
     exports: &[Export],
     scopes: &Scopes,
 ) -> Result<Vec<Change>, AllocError>
-    ensures { IfOk result (λ changes. map change_of changes.items ≡ nested_changes (map export_of exports.now) (entries_of_frame scopes.now scopes.now.current)) }
+    ensures { IfOk result (λ changes. map change_of changes.items
+        ≡ nested_changes (map export_of exports.now) (entries_of_frame scopes.now scopes.now.current)) }
 {
     let mut changes = Vec::new(alloc);
     for export in exports {
@@ -153,7 +157,8 @@ pub fn nested_changes(
 fn make<W: World>(change: &Change, world: &mut W) -> Result<(), Failure<RunFault>>
     requires covered { W.covered world.old }
     ensures covered { W.covered world.new }
-    ensures does { Doing W.reached W.replies (λ u. u) (λ place s. Well tt (changed_by (change_of change.now ∷ []) s)) world.old world.new result }
+    ensures does { Doing W.reached W.replies (λ u. u) (λ place s.
+        Well tt (changed_by (change_of change.now ∷ []) s)) world.old world.new result }
     ensures frames { length (W.variables world.new).frames ≡ length (W.variables world.old).frames }
 {
     match &change.value {
@@ -169,7 +174,8 @@ fn make<W: World>(change: &Change, world: &mut W) -> Result<(), Failure<RunFault
 fn make_all<W: World>(changes: &[Change], world: &mut W) -> Result<(), Failure<RunFault>>
     requires covered { W.covered world.old }
     ensures covered { W.covered world.new }
-    ensures does { Doing W.reached W.replies (λ u. u) (λ place s. Well tt (changed_by (map change_of changes.now) s)) world.old world.new result }
+    ensures does { Doing W.reached W.replies (λ u. u) (λ place s.
+        Well tt (changed_by (map change_of changes.now) s)) world.old world.new result }
     ensures frames { length (W.variables world.new).frames ≡ length (W.variables world.old).frames }
 {
     for change in changes {
@@ -189,7 +195,9 @@ pub fn copy_out<W: World>(
     requires there { frame < length (W.variables world.old).frames }
     ensures covered { W.covered world.new }
     ensures frames { length (W.variables world.new).frames ≡ length (W.variables world.old).frames }
-    ensures does { Doing W.reached W.replies (λ u. u) (λ place s. Well tt (in_scopes (copied_out is_at_fragment (map export_of exports.now) frame s.scopes) s)) world.old world.new result }
+    ensures does { Doing W.reached W.replies (λ u. u) (λ place s.
+        Well tt (in_scopes (copied_out is_at_fragment (map export_of exports.now) frame s.scopes) s))
+        world.old world.new result }
 {
     let changes = own_changes(alloc, CopyTime::AtFragment, exports, world.scopes())?;
     let own = world.frame();
@@ -212,8 +220,11 @@ pub fn give_back<W: World>(
     requires there { frame < length (W.variables world.old).frames }
     ensures covered { W.covered world.new }
     ensures frames { length (W.variables world.new).frames ≡ length (W.variables world.old).frames }
-    ensures does { (scopes : ScopeState) → map change_of before.now ≡ nested_changes (map export_of exports.now) (entries_of_frame scopes frame)
-        → Doing W.reached W.replies (λ u. u) (λ place s. Well tt (in_scopes (turned_to (given_back (map export_of exports.now) scopes frame (copied_out is_at_end (map export_of exports.now) frame s.scopes)) frame) s)) world.old world.new result }
+    ensures does { (scopes : ScopeState) → map change_of before.now
+        ≡ nested_changes (map export_of exports.now) (entries_of_frame scopes frame)
+        → Doing W.reached W.replies (λ u. u) (λ place s.
+        Well tt (in_scopes (turned_to (given_back (map export_of exports.now) scopes frame
+        (copied_out is_at_end (map export_of exports.now) frame s.scopes)) frame) s)) world.old world.new result }
 {
     let changes = own_changes(alloc, CopyTime::AtEnd, exports, world.scopes())?;
     world.turn_to(frame);

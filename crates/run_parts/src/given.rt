@@ -30,8 +30,10 @@ pub fn body_given<'a>(call: &'a CallSeat) -> Given<'a>
 
 /// The fragment of a name that a call gives.
 pub fn fragment_given<'a>(name: &Text, call: &'a CallSeat) -> Given<'a>
-    requires within { call.now.behind + (body_size (call_of call.now).body + fragments_size (call_of call.now).fragments) < 2 ^ 64 }
-    ensures { given_of result ≡ fragment_given name.now (call_of call.now).body (call_of call.now).fragments call.now.behind }
+    requires within { call.now.behind + (body_size (call_of call.now).body + fragments_size
+        (call_of call.now).fragments) < 2 ^ 64 }
+    ensures { given_of result ≡ fragment_given name.now (call_of call.now).body (call_of call.now).fragments
+        call.now.behind }
 {
     let mut at = call.behind + size_of_body(call.body);
     for fragment in call.fragments {

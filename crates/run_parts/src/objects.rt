@@ -46,7 +46,8 @@ fn whole(reply: AppReply) -> Result<Value, Failure<RunFault>>
 fn whole_application<W: World>(world: &mut W) -> Result<Value, Failure<RunFault>>
     requires covered { W.covered world.old }
     ensures covered { W.covered world.new }
-    ensures does { Doing W.reached W.replies datum_of (λ place s. then_do (ask place step.All s) (whole_application place)) world.old world.new result }
+    ensures does { Doing W.reached W.replies datum_of (λ place s. then_do (ask place step.All s)
+        (whole_application place)) world.old world.new result }
 {
     let reply = world.ask(AppStep::All)?;
     whole(reply)
@@ -69,7 +70,9 @@ pub(crate) fn implicit_value<W: World>(
 ) -> Result<Value, Failure<RunFault>>
     requires covered { W.covered world.old }
     ensures covered { W.covered world.new }
-    ensures does { (serving : Serving) → ServesSo W.stores served.now world.old serving → Doing W.reached W.replies datum_of (λ place. implicit_value (served_of serving) (here_of (seat_of seat.now)) place (implicit_of object)) world.old world.new result }
+    ensures does { (serving : Serving) → ServesSo W.stores served.now world.old serving →
+        Doing W.reached W.replies datum_of (λ place. implicit_value (served_of serving)
+        (here_of (seat_of seat.now)) place (implicit_of object)) world.old world.new result }
 {
     let Implicit::Scope(scope) = object else {
         let value = request_value(alloc, served, seat.params(), world.id(), object)?;
@@ -90,7 +93,9 @@ pub(crate) fn scope_entry<W: World>(
 ) -> Result<Value, Failure<RunFault>>
     requires covered { W.covered world.old }
     ensures covered { W.covered world.new }
-    ensures does { (serving : Serving) → Doing W.reached W.replies datum_of (λ place. entry_of_object (served_of serving) place (keyed_scope scope) (datum_of key.now)) world.old world.new result }
+    ensures does { (serving : Serving) → Doing W.reached W.replies datum_of
+        (λ place. entry_of_object (served_of serving) place (keyed_scope scope) (datum_of key.now))
+        world.old world.new result }
 {
     if let Value::Null = key {
         return Ok(Value::Null);
@@ -116,7 +121,9 @@ fn held_entry(scope: HeldScope, name: &str, scopes: &Scopes) -> Result<Value, Al
 fn application_entry<W: World>(name: Text, world: &mut W) -> Result<Value, Failure<RunFault>>
     requires covered { W.covered world.old }
     ensures covered { W.covered world.new }
-    ensures does { Doing W.reached W.replies datum_of (λ place s. then_do (result_of place (made name) s) (λ key s1. then_do (ask place (step.Get key) s1) (λ answer s2. Well (told_value answer) s2))) world.old world.new result }
+    ensures does { Doing W.reached W.replies datum_of (λ place s. then_do (result_of place (made name) s)
+        (λ key s1. then_do (ask place (step.Get key) s1) (λ answer s2. Well (told_value answer) s2)))
+        world.old world.new result }
 {
     let key = made_key(name)?;
     let reply = world.ask(AppStep::Get(key))?;

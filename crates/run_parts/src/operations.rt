@@ -83,7 +83,9 @@ fn set_or_remove<W: World>(
 ) -> Result<(), Failure<RunFault>>
     requires covered { W.covered world.old }
     ensures covered { W.covered world.new }
-    ensures does { Doing W.reached W.replies (λ u. u) (λ place. set_or_remove place (record { name = variable.now.name; scope = Some variable.now.scope }) (datum_of value.now)) world.old world.new result }
+    ensures does { Doing W.reached W.replies (λ u. u)
+        (λ place. set_or_remove place (record { name = variable.now.name; scope = Some variable.now.scope })
+        (datum_of value.now)) world.old world.new result }
 {
     match value {
         Value::Null => unassign(variable.scope, &variable.name, world),
@@ -118,7 +120,9 @@ pub fn operate<W: World>(
     requires args { length args.now ≡ takes op.now }
     requires placed { HasOnePlace op.now }
     ensures covered { W.covered world.new }
-    ensures does { (serving : Serving) → ServesSo W.stores served.now world.old serving → Doing W.reached W.replies left_by (λ place. operation serving (seat_of seat.now) place op.now (map datum_of args.now)) world.old world.new result }
+    ensures does { (serving : Serving) → ServesSo W.stores served.now world.old serving →
+        Doing W.reached W.replies left_by (λ place. operation serving (seat_of seat.now) place op.now
+        (map datum_of args.now)) world.old world.new result }
 {
     match op {
         Op::Write(text) => none(world.put(text.as_str())),

@@ -15,7 +15,8 @@ pub(crate) fn put_escaped<W: World>(
 ) -> Result<(), Failure<RunFault>>
     requires covered { W.covered world.old }
     ensures covered { W.covered world.new }
-    ensures does { Doing W.reached W.replies (λ u. u) (λ place. put_text place (escaped text.now)) world.old world.new result }
+    ensures does { Doing W.reached W.replies (λ u. u) (λ place. put_text place (escaped text.now))
+        world.old world.new result }
 {
     let escaped = escape_xml(alloc, text)?;
     world.put(&escaped)

@@ -18,7 +18,8 @@ use std::alloc::{AllocError, Global};
 
 // The fault that an error page sees, as a record.
 fn exception_value(alloc: Global, exception: Option<&Raise>) -> Result<Value, AllocError>
-    ensures { IfOk result (λ made. datum_of made ≡ exception_datum (option_map (λ raise. raise_of raise.now) exception.entry)) }
+    ensures { IfOk result (λ made. datum_of made
+        ≡ exception_datum (option_map (λ raise. raise_of raise.now) exception.entry)) }
 {
     match exception {
         Some(raise) => fault_record(alloc, raise.fault, &raise.place),
@@ -28,7 +29,8 @@ fn exception_value(alloc: Global, exception: Option<&Raise>) -> Result<Value, Al
 
 // The record that `pageContext` is.
 fn page_context(alloc: Global, served: &Served, id: Option<&Text>) -> Result<Value, AllocError>
-    ensures { IfOk result (λ made. datum_of made ≡ page_context_of served.now.request.now (option_map (λ raise. raise_of raise.now) served.now.exception) (option_map (λ id. id.now) id.entry)) }
+    ensures { IfOk result (λ made. datum_of made ≡ page_context_of served.now.request.now
+        (option_map (λ raise. raise_of raise.now) served.now.exception) (option_map (λ id. id.now) id.entry)) }
 {
     let mut entries = Attrs::empty(alloc);
     let exception = exception_value(alloc, served.exception)?;
@@ -51,7 +53,9 @@ pub(crate) fn request_value(
     id: Option<&Text>,
     object: Implicit,
 ) -> Result<Value, AllocError>
-    ensures { IfOk result (λ made. datum_of made ≡ request_value served.now.request.now (option_map (λ raise. raise_of raise.now) served.now.exception) (option_map (λ id. id.now) id.entry) params.now object) }
+    ensures { IfOk result (λ made. datum_of made ≡ request_value served.now.request.now
+        (option_map (λ raise. raise_of raise.now) served.now.exception) (option_map (λ id. id.now) id.entry)
+        params.now object) }
 {
     match object {
         Implicit::PageContext => page_context(alloc, served, id),

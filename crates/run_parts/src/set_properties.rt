@@ -34,7 +34,8 @@ pub fn find_property<W: World>(
 ) -> Result<FoundProperty, Failure<RunFault>>
     requires covered { W.covered world.old }
     ensures covered { W.covered world.new }
-    ensures does { Doing W.reached W.replies found_of (λ place. found_property place name.now property.now) world.old world.new result }
+    ensures does { Doing W.reached W.replies found_of (λ place. found_property place name.now property.now)
+        world.old world.new result }
 {
     let found = look_up(name, world)?;
     property_found(found.0, &found.1, property)
@@ -49,7 +50,8 @@ fn write_record<W: World>(
 ) -> Result<(), Failure<RunFault>>
     requires covered { W.covered world.old }
     ensures covered { W.covered world.new }
-    ensures does { Doing W.reached W.replies (λ u. u) (λ place. written place scope entries name.now) world.old world.new result }
+    ensures does { Doing W.reached W.replies (λ u. u) (λ place. written place scope entries name.now)
+        world.old world.new result }
 {
     let record = measured_record(entries)?;
     assign(scope, name, record, world)
@@ -65,7 +67,8 @@ pub fn write_back<W: World>(
 ) -> Result<(), Failure<RunFault>>
     requires covered { W.covered world.old }
     ensures covered { W.covered world.new }
-    ensures does { Doing W.reached W.replies (λ u. u) (λ place. put_back place (found_of found) property.now (datum_of new) name.now) world.old world.new result }
+    ensures does { Doing W.reached W.replies (λ u. u) (λ place. put_back place (found_of found) property.now
+        (datum_of new) name.now) world.old world.new result }
 {
     let FoundProperty {
         scope,
@@ -84,7 +87,8 @@ pub(crate) fn get_property<W: World>(
 ) -> Result<Value, Failure<RunFault>>
     requires covered { W.covered world.old }
     ensures covered { W.covered world.new }
-    ensures does { Doing W.reached W.replies datum_of (λ place s. then_do (look_up place name.now s) (λ p s1. result_of place (property_of property.now p.1) s1)) world.old world.new result }
+    ensures does { Doing W.reached W.replies datum_of (λ place s. then_do (look_up place name.now s)
+        (λ p s1. result_of place (property_of property.now p.1) s1)) world.old world.new result }
 {
     let found = look_up(name, world)?;
     property_of(property, &found.1)
@@ -100,7 +104,8 @@ fn set_entry<W: World>(
 ) -> Result<(), Failure<RunFault>>
     requires covered { W.covered world.old }
     ensures covered { W.covered world.new }
-    ensures does { Doing W.reached W.replies (λ u. u) (λ place. property_set place name.now mode.Entry [] (datum_of key.now ∷ datum_of new.now ∷ [])) world.old world.new result }
+    ensures does { Doing W.reached W.replies (λ u. u) (λ place. property_set place name.now mode.Entry []
+        (datum_of key.now ∷ datum_of new.now ∷ [])) world.old world.new result }
 {
     let property = Text::copy_of(alloc, text_of(key))?;
     let found = look_up(name, world)?;
@@ -117,7 +122,8 @@ fn set_all<W: World>(
 ) -> Result<(), Failure<RunFault>>
     requires covered { W.covered world.old }
     ensures covered { W.covered world.new }
-    ensures does { Doing W.reached W.replies (λ u. u) (λ place. property_set place name.now mode.Parameters params.now []) world.old world.new result }
+    ensures does { Doing W.reached W.replies (λ u. u)
+        (λ place. property_set place name.now mode.Parameters params.now []) world.old world.new result }
 {
     let params = first_values(alloc, params)?;
     let found = look_up(name, world)?;
@@ -136,7 +142,8 @@ fn set_one<W: World>(
 ) -> Result<(), Failure<RunFault>>
     requires covered { W.covered world.old }
     ensures covered { W.covered world.new }
-    ensures does { Doing W.reached W.replies (λ u. u) (λ place. property_set place name.now (mode.Parameter property.now parameter.now) params.now []) world.old world.new result }
+    ensures does { Doing W.reached W.replies (λ u. u) (λ place. property_set place name.now
+        (mode.Parameter property.now parameter.now) params.now []) world.old world.new result }
 {
     let params = first_values(alloc, params)?;
     let found = look_up(name, world)?;
@@ -159,7 +166,8 @@ pub(crate) fn set_property<W: World>(
     requires args { length args.now ≡ mode_takes mode.now }
     requires placed { ModeHasOnePlace mode.now }
     ensures covered { W.covered world.new }
-    ensures does { Doing W.reached W.replies (λ u. u) (λ place. property_set place name.now mode.now (page_run_of (seat_of seat.now)).params (map datum_of args.now)) world.old world.new result }
+    ensures does { Doing W.reached W.replies (λ u. u) (λ place. property_set place name.now mode.now
+        (page_run_of (seat_of seat.now)).params (map datum_of args.now)) world.old world.new result }
 {
     match (mode, args) {
         (PropertyMode::Entry, [key, new]) => set_entry(alloc, name, key, new, world),

@@ -39,7 +39,8 @@ pub fn target_params(
     target: &str,
     given: &[Value],
 ) -> Result<Listed<Param>, AllocError>
-    ensures { IfOk result (λ params. params ≡ target_params (page_run_of (seat_of seat.now)) target.now (params_in (map datum_of given.now))) }
+    ensures { IfOk result (λ params. params ≡ target_params (page_run_of (seat_of seat.now)) target.now
+        (params_in (map datum_of given.now))) }
 {
     let mut params = query_params(alloc, query_of(target))?;
     add_params(&mut params, params_in(alloc, given)?.as_slice())?;

@@ -47,7 +47,8 @@ pub(crate) fn look_up<W: World>(
 ) -> Result<(Scope, Value), Failure<RunFault>>
     requires covered { W.covered world.old }
     ensures covered { W.covered world.new }
-    ensures does { Doing W.reached W.replies (λ p. (p.0, datum_of p.1)) (λ place. look_up place name.now) world.old world.new result }
+    ensures does { Doing W.reached W.replies (λ p. (p.0, datum_of p.1)) (λ place. look_up place name.now)
+        world.old world.new result }
 {
     if let Some((scope, value)) = inner(world.scopes(), name.as_text().as_str()) {
         return Ok((scope, value.copy()?));
@@ -60,7 +61,8 @@ pub(crate) fn look_up<W: World>(
 pub fn find<W: World>(strict: bool, name: &Name, world: &mut W) -> Result<Value, Failure<RunFault>>
     requires covered { W.covered world.old }
     ensures covered { W.covered world.new }
-    ensures does { Doing W.reached W.replies datum_of (λ place s. variable_or_step strict place name.now (found s.scopes name.now) s) world.old world.new result }
+    ensures does { Doing W.reached W.replies datum_of (λ place s. variable_or_step strict place name.now
+        (found s.scopes name.now) s) world.old world.new result }
 {
     if let Some(value) = world.scopes().find(name.as_text().as_str()) {
         return Ok(value.copy()?);
@@ -89,7 +91,8 @@ pub(crate) fn assign<W: World>(
     requires covered { W.covered world.old }
     requires some { datum_of value ≢ null }
     ensures covered { W.covered world.new }
-    ensures does { Doing W.reached W.replies (λ u. u) (λ place. assign place scope name.now (datum_of value)) world.old world.new result }
+    ensures does { Doing W.reached W.replies (λ u. u) (λ place. assign place scope name.now (datum_of value))
+        world.old world.new result }
 {
     match HeldScope::of(scope) {
         Some(held) => world.set(held, name.as_text(), value),
@@ -105,7 +108,8 @@ fn assign_in_application<W: World>(
     requires covered { W.covered world.old }
     requires some { datum_of value ≢ null }
     ensures covered { W.covered world.new }
-    ensures does { Doing W.reached W.replies (λ u. u) (λ place. set_application place name.now (datum_of value)) world.old world.new result }
+    ensures does { Doing W.reached W.replies (λ u. u) (λ place. set_application place name.now
+        (datum_of value)) world.old world.new result }
 {
     if is_too_large(&value) {
         return Err(Failure::Fault(RunFault::ValueTooLarge));
@@ -122,7 +126,8 @@ pub(crate) fn unassign<W: World>(
 ) -> Result<(), Failure<RunFault>>
     requires covered { W.covered world.old }
     ensures covered { W.covered world.new }
-    ensures does { Doing W.reached W.replies (λ u. u) (λ place. unassign place scope name.now) world.old world.new result }
+    ensures does { Doing W.reached W.replies (λ u. u) (λ place. unassign place scope name.now)
+        world.old world.new result }
 {
     match HeldScope::of(scope) {
         Some(held) => world.remove(held, name.as_text().as_str()),
@@ -137,7 +142,8 @@ pub(crate) fn unassign<W: World>(
 pub(crate) fn unassign_all<W: World>(name: &Name, world: &mut W) -> Result<(), Failure<RunFault>>
     requires covered { W.covered world.old }
     ensures covered { W.covered world.new }
-    ensures does { Doing W.reached W.replies (λ u. u) (λ place. unassign_all place name.now) world.old world.new result }
+    ensures does { Doing W.reached W.replies (λ u. u) (λ place. unassign_all place name.now)
+        world.old world.new result }
 {
     world.remove(HeldScope::Page, name.as_text().as_str());
     world.remove(HeldScope::Request, name.as_text().as_str());

@@ -191,7 +191,13 @@ impl<'a, P: AppPort<Program>, K: Sink> World for Stage<'a, P, K> {
 // Drops the frames behind the first so many.
 fn drop_frames(scopes: &mut Scopes, frames: u64)
     requires { (0 < frames) × (frames ≤ length scopes.old.frames) }
-    ensures { (current : ℕ) × (scopes.new ≡ record { frames = take frames scopes.old.frames; current = current; request = scopes.old.request; session = scopes.old.session }) }
+    ensures { (current : ℕ) × (scopes.new ≡ record {
+      frames = take frames scopes.old.frames;
+      current =
+          current;
+      request = scopes.old.request;
+      session = scopes.old.session;
+    }) }
 {
     while scopes.frames() > frames {
         scopes.pop_frame();

@@ -75,7 +75,8 @@ fn has_mark(url: &[u8]) -> bool
 
 // A param as it stands in an address.
 fn encoded(alloc: Global, param: &Param) -> Result<String, AllocError>
-    ensures { IfOk result (λ text. string_bytes text ≡ byte_serialize param.now.name ++ codes "=" ++ byte_serialize param.now.value) }
+    ensures { IfOk result (λ text. string_bytes text ≡ byte_serialize param.now.name ++ codes "="
+        ++ byte_serialize param.now.value) }
 {
     let mut form = Serializer::new(String::new(alloc));
     form.append_pair(param.name.as_str(), param.value.as_str())?;

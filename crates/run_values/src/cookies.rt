@@ -43,7 +43,8 @@ fn add_cookies(alloc: Global, value: &str, found: &mut Listed<Param>) -> Result<
 
 // The text before the first semicolon, and the text behind it, where there is one.
 fn cut(text: &str) -> (&str, Option<&str>)
-    ensures pieces { slice_split is_semicolon text.entry.now ≡ result.0.now ∷ pieces_behind (option_map (λ behind. behind.now) result.1) }
+    ensures pieces { slice_split is_semicolon text.entry.now
+        ≡ result.0.now ∷ pieces_behind (option_map (λ behind. behind.now) result.1) }
     ensures shorter { IfSome result.1 (λ behind. length behind.now < length text.entry.now) }
 {
     match text.split_once(';') {

@@ -76,7 +76,8 @@ pub fn status_record(
     mark: &Mark,
     current: &Value,
 ) -> Result<Value, AllocError>
-    ensures { IfOk result (λ made. datum_of made ≡ status_record (map entry_of table.now) (round_at mark.now) (datum_of current.now)) }
+    ensures { IfOk result (λ made. datum_of made ≡ status_record (map entry_of table.now) (round_at mark.now)
+        (datum_of current.now)) }
 {
     match keys {
         Some(keys) => keys.record(alloc, table, mark, current),

@@ -32,7 +32,8 @@ pub fn lists_by_name(alloc: Global, entries: Vec<(Text, Value)>) -> Result<Attrs
 
 // The entries by rising names, where those of one name stay in their order.
 fn by_name(mut entries: Vec<(Text, Value)>) -> Result<Vec<(Text, Value)>, AllocError>
-    ensures { IfOk result (λ sorted. IsStableBy (λ a b. is_lt (slice_cmp nat_cmp a.0 b.0)) entries.items sorted.items) }
+    ensures { IfOk result (λ sorted. IsStableBy (λ a b. is_lt (slice_cmp nat_cmp a.0 b.0)) entries.items
+        sorted.items) }
 {
     entries.sort_by(|a, b| order(a, b.0.as_str()))?;
     Ok(entries)
@@ -72,7 +73,8 @@ fn split_by_name<'a>(
 
 // Copies of the items of a list, where there is one.
 fn items_in(alloc: Global, list: Option<&Value>) -> Result<Vec<Value>, AllocError>
-    ensures { IfOk result (λ items. items_of (map datum_of items.items) ≡ items_under (option_map (λ value. datum_of value.now) list.entry)) }
+    ensures { IfOk result (λ items. items_of (map datum_of items.items)
+        ≡ items_under (option_map (λ value. datum_of value.now) list.entry)) }
 {
     let mut items = Vec::new(alloc);
     if let Some(Value::List(list)) = list {
@@ -85,7 +87,8 @@ fn items_in(alloc: Global, list: Option<&Value>) -> Result<Vec<Value>, AllocErro
 
 // The list of these items, with a value and those of more entries behind them.
 fn list_with(items: Vec<Value>, value: &Value, more: &[(Text, Value)]) -> Result<Value, AllocError>
-    ensures { IfOk result (λ made. datum_of made ≡ list (items_of (map datum_of items.items ++ datum_of value.now ∷ map (λ e. datum_of e.1) more.now))) }
+    ensures { IfOk result (λ made. datum_of made
+        ≡ list (items_of (map datum_of items.items ++ datum_of value.now ∷ map (λ e. datum_of e.1) more.now))) }
 {
     let mut items = items;
     items.push(value.copy()?)?;

@@ -62,7 +62,8 @@ fn replaced_or_old(
     old: &Value,
     new: Option<&Value>,
 ) -> Result<Value, Failure<RunFault>>
-    ensures { AnswersAs datum_of (replaced_value (datum_of old.now) (filled (option_map (λ value. datum_of value.now) new.entry))) result }
+    ensures { AnswersAs datum_of (replaced_value (datum_of old.now)
+        (filled (option_map (λ value. datum_of value.now) new.entry))) result }
 {
     match filled(new) {
         Some(new) => replaced(alloc, old, new),
@@ -72,7 +73,8 @@ fn replaced_or_old(
 
 // A value where it is a text that isn't empty.
 fn filled(value: Option<&Value>) -> Option<&Value>
-    ensures { option_map (λ value. datum_of value.now) result ≡ filled (option_map (λ value. datum_of value.now) value.entry) }
+    ensures { option_map (λ value. datum_of value.now) result
+        ≡ filled (option_map (λ value. datum_of value.now) value.entry) }
 {
     match value {
         Some(Value::Text(text)) if !text.is_empty() => value,

@@ -147,7 +147,8 @@ fn text_count(texts: &Listed<Text>) -> u64
 
 // The record of a key and a value.
 fn pair(alloc: Global, key: &Text, value: &Value) -> Result<Value, AllocError>
-    ensures { IfOk result (λ made. datum_of made ≡ rec (entry (codes "key") (text key.now) (entry (codes "value") (datum_of value.now) no_entries))) }
+    ensures { IfOk result (λ made. datum_of made
+        ≡ rec (entry (codes "key") (text key.now) (entry (codes "value") (datum_of value.now) no_entries))) }
 {
     let mut entries = Attrs::empty(alloc);
     put(alloc, &mut entries, "key", text_value(key)?)?;
@@ -182,7 +183,8 @@ impl Rounds {
 
     /// The numbers of the next round, where there is one.
     pub fn next(&self) -> Option<Mark>
-        ensures { MatchOption result (self.now ≡ []) (λ mark. (r : Round) × (rest : List Round) × (self.now ≡ r ∷ rest) × (r.index ≡ mark.index) × (r.count ≡ mark.count) × (r.is_last ≡ mark.is_last)) }
+        ensures { MatchOption result (self.now ≡ []) (λ mark. (r : Round) × (rest : List Round) × (self.now
+            ≡ r ∷ rest) × (r.index ≡ mark.index) × (r.count ≡ mark.count) × (r.is_last ≡ mark.is_last)) }
     {
         if self.at >= self.stop {
             return None;

@@ -64,7 +64,8 @@ impl StatusKeys {
         mark: &Mark,
         current: &Value,
     ) -> Result<Vec<(Text, Value)>, AllocError>
-        ensures { IfOk result (λ made. map entry_of made.items ≡ status_front (map entry_of table.now) (round_at mark.now) (datum_of current.now)) }
+        ensures { IfOk result (λ made. map entry_of made.items ≡ status_front (map entry_of table.now)
+            (round_at mark.now) (datum_of current.now)) }
     {
         let mut entries = Vec::with_capacity(alloc, ENTRIES)?;
         put(&mut entries, &self.begin, given(table, "begin")?)?;
@@ -82,7 +83,8 @@ impl StatusKeys {
         mark: &Mark,
         current: &Value,
     ) -> Result<Vec<(Text, Value)>, AllocError>
-        ensures { IfOk result (λ made. map entry_of made.items ≡ status_entries (map entry_of table.now) (round_at mark.now) (datum_of current.now)) }
+        ensures { IfOk result (λ made. map entry_of made.items ≡ status_entries (map entry_of table.now)
+            (round_at mark.now) (datum_of current.now)) }
     {
         let mut entries = self.front(alloc, table, mark, current)?;
         put(&mut entries, &self.first, Value::Bool(mark.count == 1))?;
@@ -101,7 +103,8 @@ impl StatusKeys {
         mark: &Mark,
         current: &Value,
     ) -> Result<Value, AllocError>
-        ensures { IfOk result (λ made. datum_of made ≡ status_record (map entry_of table.now) (round_at mark.now) (datum_of current.now)) }
+        ensures { IfOk result (λ made. datum_of made ≡ status_record (map entry_of table.now)
+            (round_at mark.now) (datum_of current.now)) }
     {
         let entries = self.entries(alloc, table, mark, current)?;
         record(Attrs::new(entries))

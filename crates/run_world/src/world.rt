@@ -57,7 +57,8 @@ pub trait World {
 
     /// The id of the session, where there is one.
     fn id(&self) -> Option<&Text>
-        ensures { (first : Self) (origin : Origin) (s : State) → reached first origin self.now s → option_map (λ id. id.now) result ≡ s.id };
+        ensures { (first : Self) (origin : Origin) (s : State) → reached first origin self.now s →
+            option_map (λ id. id.now) result ≡ s.id };
 
     /// Whether the request has a session.
     fn has_session(&self) -> bool
@@ -122,7 +123,8 @@ pub trait World {
         requires covered { covered self.old }
         ensures covered { covered self.new }
         ensures counts { result ≡ nat_lt (visits self.old) visit_limit }
-        ensures counted { result ≡ true → Changes reached (λ s. record s { visits = s.visits + 1 }) self.old self.new }
+        ensures counted { result ≡ true →
+            Changes reached (λ s. record s { visits = s.visits + 1 }) self.old self.new }
         ensures same { result ≡ false → Changes reached (λ s. s) self.old self.new }
         ensures replies { replies self.new ≡ replies self.old };
 
@@ -130,14 +132,16 @@ pub trait World {
     fn set(&mut self, scope: HeldScope, name: &Text, value: Value) -> Result<(), Failure<RunFault>>
         requires covered { covered self.old }
         ensures covered { covered self.new }
-        ensures does { Doing reached replies (λ u. u) (λ place. set_held place scope name.now (datum_of value)) self.old self.new result }
+        ensures does { Doing reached replies (λ u. u) (λ place. set_held place scope name.now
+            (datum_of value)) self.old self.new result }
         ensures frames { length (variables self.new).frames ≡ length (variables self.old).frames };
 
     /// Removes a variable, where it is there.
     fn remove(&mut self, scope: HeldScope, name: &str)
         requires covered { covered self.old }
         ensures covered { covered self.new }
-        ensures removed { Changes reached (λ s. in_scopes (without_variable s.scopes scope name.now) s) self.old self.new }
+        ensures removed { Changes reached (λ s. in_scopes (without_variable s.scopes scope name.now) s)
+            self.old self.new }
         ensures replies { replies self.new ≡ replies self.old }
         ensures frames { length (variables self.new).frames ≡ length (variables self.old).frames };
 
@@ -153,7 +157,8 @@ pub trait World {
     fn push_frame_of(&mut self, entries: Attrs) -> Result<(), AllocError>
         requires covered { covered self.old }
         ensures covered { covered self.new }
-        ensures ok { OnOk result (Changes reached (λ s. in_scopes (with_frame_of entries s.scopes) s) self.old self.new) }
+        ensures ok { OnOk result (Changes reached (λ s. in_scopes (with_frame_of entries s.scopes) s)
+            self.old self.new) }
         ensures err { OnErr result (Changes reached (λ s. s) self.old self.new) }
         ensures replies { replies self.new ≡ replies self.old };
 
@@ -171,7 +176,9 @@ pub trait World {
         requires covered { covered self.old }
         requires there { (current < frames) × (frames ≤ length (variables self.old).frames) }
         ensures covered { covered self.new }
-        ensures back { Changes reached (λ s. in_scopes (record s.scopes { frames = take frames s.scopes.frames; current = current }) s) self.old self.new }
+        ensures back { Changes reached (λ s.
+            in_scopes (record s.scopes { frames = take frames s.scopes.frames; current = current }) s)
+            self.old self.new }
         ensures replies { replies self.new ≡ replies self.old };
 
     /// Asks a step on the application's attributes: X22.
@@ -188,15 +195,19 @@ pub trait World {
         requires none { IsNone (variables self.old).session }
         requires uncommitted { committed self.old ≡ false }
         ensures covered { covered self.new }
-        ensures does { Doing reached replies (λ u. u) (λ place s. session_started s.answers s) self.old self.new result };
+        ensures does { Doing reached replies (λ u. u) (λ place s. session_started s.answers s)
+            self.old self.new result };
 
     /// What stands at a path: X22, X11, X12.
     fn page(&mut self, path: &Path) -> Result<Paged<Program>, Failure<RunFault>>
         requires covered { covered self.old }
         ensures covered { covered self.new }
-        ensures does { (serving : Serving) → stores self.old serving.stored → Doing reached replies (λ found. paged_of (stored_of found)) (λ place. ask_page (served_of serving) place path.now) self.old self.new result }
+        ensures does { (serving : Serving) → stores self.old serving.stored →
+            Doing reached replies (λ found. paged_of (stored_of found))
+            (λ place. ask_page (served_of serving) place path.now) self.old self.new result }
         ensures committed { committed self.new ≡ committed self.old }
-        ensures found { (serving : Serving) → stores self.old serving.stored → IfOk result (λ found. stored_of found ≡ serving.stored path.now) };
+        ensures found { (serving : Serving) → stores self.old serving.stored →
+            IfOk result (λ found. stored_of found ≡ serving.stored path.now) };
 
     /// What stands at each path is the same for all worlds that are reached.
     ghost stores_on: { (first world : Self) (origin : Origin) (s : State) (stored : (path : List ℕ) → Stored) → reached first origin world s → stores first stored → stores world stored };

@@ -48,12 +48,18 @@ impl<P: Compiled, A: Actor<P>> Acting<P, A> {
 
     // An operation without a value.
     fn ask(&mut self, op: Op) -> Acted<Given<P>, Refusal>
-        requires may { May (A.opening self.old.actor) (A.seen self.old.actor) (A.pass self.old.actor) (own (A.pass self.old.actor) (A.seen self.old.actor)) op }
-        requires made { IsMade P.made (A.opening self.old.actor) (A.seen self.old.actor) (run_of (own (A.pass self.old.actor) (A.seen self.old.actor))) op None }
-        ensures same { IsSamePort (A.pass self.old.actor) (A.pass self.new.actor) (A.opening self.old.actor) (A.opening self.new.actor) (A.home self.old.actor) (A.home self.new.actor) }
-        ensures answer { Answered P.needs P.made (A.opening self.old.actor) (A.pass self.old.actor) (A.seen self.old.actor) (A.seen self.new.actor) op result }
-        ensures call { Calls P.needs (A.opening self.old.actor) (A.pass self.old.actor) (A.seen self.old.actor) (A.seen self.new.actor) op (reply_in result) }
-        ensures sure { Sure (A.opening self.old.actor) (A.seen self.old.actor) (A.pass self.old.actor) (own (A.pass self.old.actor) (A.seen self.old.actor)) op → IsDid result }
+        requires may { May (A.opening self.old.actor) (A.seen self.old.actor) (A.pass self.old.actor)
+            (own (A.pass self.old.actor) (A.seen self.old.actor)) op }
+        requires made { IsMade P.made (A.opening self.old.actor) (A.seen self.old.actor)
+            (run_of (own (A.pass self.old.actor) (A.seen self.old.actor))) op None }
+        ensures same { IsSamePort (A.pass self.old.actor) (A.pass self.new.actor) (A.opening self.old.actor)
+            (A.opening self.new.actor) (A.home self.old.actor) (A.home self.new.actor) }
+        ensures answer { Answered P.needs P.made (A.opening self.old.actor) (A.pass self.old.actor)
+            (A.seen self.old.actor) (A.seen self.new.actor) op result }
+        ensures call { Calls P.needs (A.opening self.old.actor) (A.pass self.old.actor) (A.seen self.old.actor)
+            (A.seen self.new.actor) op (reply_in result) }
+        ensures sure { Sure (A.opening self.old.actor) (A.seen self.old.actor) (A.pass self.old.actor)
+            (own (A.pass self.old.actor) (A.seen self.old.actor)) op → IsDid result }
     {
         self.actor.act(Act { op, made: None })
     }
@@ -129,10 +135,15 @@ impl<P: Compiled, A: Actor<P>> Port<P> for Acting<P, A> {
     }
 
     fn offer(&mut self, request: u64, path: &Path, made: Arc<P>) -> Result<bool, AllocError>
-        requires may { May (A.opening self.old.actor) (A.seen self.old.actor) (A.pass self.old.actor) (own (A.pass self.old.actor) (A.seen self.old.actor)) (op.Offer request path.now) }
-        requires made { ForRun (A.opening self.old.actor) (A.seen self.old.actor) (run_of (own (A.pass self.old.actor) (A.seen self.old.actor))) (λ tree. P.made (arc_value made) tree path.now) }
-        ensures same { IsSamePort (A.pass self.old.actor) (A.pass self.new.actor) (A.opening self.old.actor) (A.opening self.new.actor) (A.home self.old.actor) (A.home self.new.actor) }
-        ensures call { Calls P.needs (A.opening self.old.actor) (A.pass self.old.actor) (A.seen self.old.actor) (A.seen self.new.actor) (op.Offer request path.now) (of_offered result) }
+        requires may { May (A.opening self.old.actor) (A.seen self.old.actor) (A.pass self.old.actor)
+            (own (A.pass self.old.actor) (A.seen self.old.actor)) (op.Offer request path.now) }
+        requires made { ForRun (A.opening self.old.actor) (A.seen self.old.actor)
+            (run_of (own (A.pass self.old.actor) (A.seen self.old.actor)))
+            (λ tree. P.made (arc_value made) tree path.now) }
+        ensures same { IsSamePort (A.pass self.old.actor) (A.pass self.new.actor) (A.opening self.old.actor)
+            (A.opening self.new.actor) (A.home self.old.actor) (A.home self.new.actor) }
+        ensures call { Calls P.needs (A.opening self.old.actor) (A.pass self.old.actor) (A.seen self.old.actor)
+            (A.seen self.new.actor) (op.Offer request path.now) (of_offered result) }
     {
         self.actor.law();
         let Ok(path) = path.copy() else {

@@ -34,16 +34,24 @@ pub trait Actor<P: Compiled> {
 
     /// Does one operation of the pass.
     fn act(&mut self, act: Act<P>) -> Acted<Given<P>, Refusal>
-        requires may { May (opening self.old) (seen self.old) (pass self.old) (own (pass self.old) (seen self.old)) act.op }
-        requires made { IsMade P.made (opening self.old) (seen self.old) (run_of (own (pass self.old) (seen self.old))) act.op (value_in act.made) }
-        ensures same { IsSamePort (pass self.old) (pass self.new) (opening self.old) (opening self.new) (home self.old) (home self.new) }
-        ensures answer { Answered P.needs P.made (opening self.old) (pass self.old) (seen self.old) (seen self.new) act.op result }
-        ensures sure { Sure (opening self.old) (seen self.old) (pass self.old) (own (pass self.old) (seen self.old)) act.op → IsDid result };
+        requires may { May (opening self.old) (seen self.old) (pass self.old)
+            (own (pass self.old) (seen self.old)) act.op }
+        requires made { IsMade P.made (opening self.old) (seen self.old)
+            (run_of (own (pass self.old) (seen self.old))) act.op (value_in act.made) }
+        ensures same { IsSamePort (pass self.old) (pass self.new) (opening self.old) (opening self.new)
+            (home self.old) (home self.new) }
+        ensures answer { Answered P.needs P.made (opening self.old) (pass self.old) (seen self.old)
+            (seen self.new) act.op result }
+        ensures sure { Sure (opening self.old) (seen self.old) (pass self.old)
+            (own (pass self.old) (seen self.old)) act.op → IsDid result };
 
     /// Begins a request. A busy session is waited for, at the same moment.
     fn begin(&mut self, cookie: &Text, moment: u64) -> Acted<Given<P>, Refusal>
-        requires may { May (opening self.old) (seen self.old) (pass self.old) (own (pass self.old) (seen self.old)) (op.Begin cookie.now moment) }
-        ensures same { IsSamePort (pass self.old) (pass self.new) (opening self.old) (opening self.new) (home self.old) (home self.new) }
-        ensures answer { Answered P.needs P.made (opening self.old) (pass self.old) (seen self.old) (seen self.new) (op.Begin cookie.now moment) result }
+        requires may { May (opening self.old) (seen self.old) (pass self.old)
+            (own (pass self.old) (seen self.old)) (op.Begin cookie.now moment) }
+        ensures same { IsSamePort (pass self.old) (pass self.new) (opening self.old) (opening self.new)
+            (home self.old) (home self.new) }
+        ensures answer { Answered P.needs P.made (opening self.old) (pass self.old) (seen self.old)
+            (seen self.new) (op.Begin cookie.now moment) result }
         ensures full { IsFullOnRefused result };
 }

@@ -59,10 +59,13 @@ impl<P: Compiled> Actor<P> for Alone<P> {
 
     fn act(&mut self, act: Act<P>) -> Acted<Given<P>, Refusal>
         requires may { May self.old.site.opening self.old.site.history 0 (own 0 self.old.site.history) act.op }
-        requires made { IsMade P.made self.old.site.opening self.old.site.history (run_of (own 0 self.old.site.history)) act.op (value_in act.made) }
+        requires made { IsMade P.made self.old.site.opening self.old.site.history
+            (run_of (own 0 self.old.site.history)) act.op (value_in act.made) }
         ensures same { IsSamePort {H = ℕ} 0 0 self.old.site.opening self.new.site.opening 0 0 }
-        ensures answer { Answered P.needs P.made self.old.site.opening 0 self.old.site.history self.new.site.history act.op result }
-        ensures sure { Sure self.old.site.opening self.old.site.history 0 (own 0 self.old.site.history) act.op → IsDid result }
+        ensures answer { Answered P.needs P.made self.old.site.opening 0 self.old.site.history
+            self.new.site.history act.op result }
+        ensures sure { Sure self.old.site.opening self.old.site.history 0 (own 0 self.old.site.history)
+            act.op → IsDid result }
     {
         self.site.law();
         let answer = self.site.apply(0, act);

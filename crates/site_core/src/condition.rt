@@ -26,7 +26,8 @@ pub(crate) fn at_rest(runs: &[Option<Request>]) -> bool
 
 /// Whether the operation meets the condition of a step.
 pub(crate) fn fits<P: Compiled>(opening: &Opening, held: &Held<P>, pass: u8, op: &Op) -> bool
-    ensures { (history : List TheEntry) → result ≡ fits opening.now (state_of opening.now history (parts_of held.now)) pass op.now }
+    ensures { (history : List TheEntry) → result
+        ≡ fits opening.now (state_of opening.now history (parts_of held.now)) pass op.now }
 {
     pass < opening.passes
         && asks(run_at(&held.runs, pass), op)

@@ -59,7 +59,8 @@ pub fn start<P: Compiled>(
     idle: u64,
 ) -> Result<Site<P>, AllocError>
     requires { is_sound (first_opening seed app tree limit passes idle) ≡ true }
-    ensures { IfOk result (λ site. (site.opening ≡ first_opening seed app tree limit passes idle) × (site.history ≡ [])) }
+    ensures { IfOk result (λ site. (site.opening ≡ first_opening seed app tree limit passes idle) ×
+        (site.history ≡ [])) }
 {
     Site::resume(
         alloc,
@@ -140,7 +141,8 @@ impl<P: Compiled> Site<P> {
 
     /// The opening that goes on from here.
     pub fn next_opening(&self) -> Result<Opening, AllocError>
-        ensures { IfOk result (λ next. next ≡ next_opening self.now.opening (after P.needs self.now.opening self.now.history)) }
+        ensures { IfOk result (λ next. next ≡ next_opening self.now.opening
+            (after P.needs self.now.opening self.now.history)) }
     {
         self.held.next_opening(&self.opening, &self.history)
     }
@@ -163,7 +165,8 @@ impl<P: Compiled> Site<P> {
     /// last operation of a request takes no memory and is never refused.
     pub fn apply(&mut self, pass: u8, act: Act<P>) -> Acted<Given<P>, Refusal>
         requires may { May self.old.opening self.old.history pass (own pass self.old.history) act.op }
-        requires made { IsMade P.made self.old.opening self.old.history (run_of (own pass self.old.history)) act.op (value_in act.made) }
+        requires made { IsMade P.made self.old.opening self.old.history (run_of (own pass self.old.history))
+            act.op (value_in act.made) }
         ensures applies { Applies P.needs P.made self.old self.new pass act.op result }
         ensures sure { Sure self.old.opening self.old.history pass (own pass self.old.history) act.op → IsDid result }
     {

@@ -17,7 +17,8 @@ const ROLL: [u8; 2] = [0, 10];
 /// Writes a history with a Roll behind it.
 pub(crate) fn put_rolled<K: Sink>(sink: &mut K, failed: &mut bool, history: &BlockList<Entry>)
     requires { length history.now.items < 2 ^ 63 }
-    ensures { Writes (K.taken sink.old) (K.taken sink.new) (K.faults sink.old) (K.faults sink.new) failed.old failed.new (of_list of_entry (rolled history.now.items)) }
+    ensures { Writes (K.taken sink.old) (K.taken sink.new) (K.faults sink.old) (K.faults sink.new)
+        failed.old failed.new (of_list of_entry (rolled history.now.items)) }
 {
     put_number(sink, failed, history.len() as u64 + 1);
     put_entries(sink, failed, history);
@@ -26,7 +27,8 @@ pub(crate) fn put_rolled<K: Sink>(sink: &mut K, failed: &mut bool, history: &Blo
 
 // Writes the entries of a history.
 fn put_entries<K: Sink>(sink: &mut K, failed: &mut bool, history: &BlockList<Entry>)
-    ensures { Writes (K.taken sink.old) (K.taken sink.new) (K.faults sink.old) (K.faults sink.new) failed.old failed.new (flat_map of_entry history.now.items) }
+    ensures { Writes (K.taken sink.old) (K.taken sink.new) (K.faults sink.old) (K.faults sink.new)
+        failed.old failed.new (flat_map of_entry history.now.items) }
 {
     for entry in history.iter() {
         entry.put(sink, failed);
@@ -78,7 +80,8 @@ fn kind_of(op: &Op) -> u8
 
 // Writes the parts of an operation.
 fn put_op<K: Sink>(sink: &mut K, failed: &mut bool, op: &Op)
-    ensures { Writes (K.taken sink.old) (K.taken sink.new) (K.faults sink.old) (K.faults sink.new) failed.old failed.new (of_op op.now) }
+    ensures { Writes (K.taken sink.old) (K.taken sink.new) (K.faults sink.old) (K.faults sink.new)
+        failed.old failed.new (of_op op.now) }
 {
     match op {
         Op::Publish { base, edits } => {
@@ -113,7 +116,8 @@ fn put_op<K: Sink>(sink: &mut K, failed: &mut bool, op: &Op)
 
 // Writes the parts of a reply.
 fn put_reply<K: Sink>(sink: &mut K, failed: &mut bool, reply: &Reply)
-    ensures { Writes (K.taken sink.old) (K.taken sink.new) (K.faults sink.old) (K.faults sink.new) failed.old failed.new (of_reply reply.now) }
+    ensures { Writes (K.taken sink.old) (K.taken sink.new) (K.faults sink.old) (K.faults sink.new)
+        failed.old failed.new (of_reply reply.now) }
 {
     match reply {
         Reply::Published { version, dirty } => {
@@ -169,7 +173,8 @@ impl Item for Path {
 
 // Writes a step on the application's attributes.
 fn put_step<K: Sink>(sink: &mut K, failed: &mut bool, step: &AppStep)
-    ensures { Writes (K.taken sink.old) (K.taken sink.new) (K.faults sink.old) (K.faults sink.new) failed.old failed.new (of_step step.now) }
+    ensures { Writes (K.taken sink.old) (K.taken sink.new) (K.faults sink.old) (K.faults sink.new)
+        failed.old failed.new (of_step step.now) }
 {
     match step {
         AppStep::Get(name) => {
@@ -196,7 +201,8 @@ fn put_step<K: Sink>(sink: &mut K, failed: &mut bool, step: &AppStep)
 
 // Writes what a step is told.
 fn put_answer<K: Sink>(sink: &mut K, failed: &mut bool, answer: &AppReply)
-    ensures { Writes (K.taken sink.old) (K.taken sink.new) (K.faults sink.old) (K.faults sink.new) failed.old failed.new (of_answer answer.now) }
+    ensures { Writes (K.taken sink.old) (K.taken sink.new) (K.faults sink.old) (K.faults sink.new)
+        failed.old failed.new (of_answer answer.now) }
 {
     match answer {
         AppReply::Value(value) => {

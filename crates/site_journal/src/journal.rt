@@ -25,7 +25,8 @@ pub fn write_journal<K: Sink>(
     talk: Option<&Talk>,
 )
     requires { length history.now.items < 2 ^ 63 }
-    ensures { Writes (K.taken sink.old) (K.taken sink.new) (K.faults sink.old) (K.faults sink.new) failed.old failed.new (journal opening.now (rolled history.now.items) (option_copied talk.entry)) }
+    ensures { Writes (K.taken sink.old) (K.taken sink.new) (K.faults sink.old) (K.faults sink.new)
+        failed.old failed.new (journal opening.now (rolled history.now.items) (option_copied talk.entry)) }
 {
     put(sink, failed, MARK);
     put_opening(sink, failed, opening);
@@ -35,7 +36,8 @@ pub fn write_journal<K: Sink>(
 
 // Writes a talk, where there is one.
 fn put_optional<K: Sink>(sink: &mut K, failed: &mut bool, talk: Option<&Talk>)
-    ensures { Writes (K.taken sink.old) (K.taken sink.new) (K.faults sink.old) (K.faults sink.new) failed.old failed.new (of_option of_talk (option_copied talk.entry)) }
+    ensures { Writes (K.taken sink.old) (K.taken sink.new) (K.faults sink.old) (K.faults sink.new)
+        failed.old failed.new (of_option of_talk (option_copied talk.entry)) }
 {
     match talk {
         None => put_byte(sink, failed, 0),
@@ -48,7 +50,8 @@ fn put_optional<K: Sink>(sink: &mut K, failed: &mut bool, talk: Option<&Talk>)
 
 // Writes a talk.
 fn put_talk<K: Sink>(sink: &mut K, failed: &mut bool, talk: &Talk)
-    ensures { Writes (K.taken sink.old) (K.taken sink.new) (K.faults sink.old) (K.faults sink.new) failed.old failed.new (of_talk talk.now) }
+    ensures { Writes (K.taken sink.old) (K.taken sink.new) (K.faults sink.old) (K.faults sink.new)
+        failed.old failed.new (of_talk talk.now) }
 {
     put_bytes(sink, failed, talk.bytes.as_slice());
     put_list(sink, failed, talk.moments.as_slice());

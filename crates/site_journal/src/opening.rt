@@ -30,7 +30,8 @@ impl Item for KeptSession {
 
 /// Writes an opening.
 pub(crate) fn put_opening<K: Sink>(sink: &mut K, failed: &mut bool, opening: &Opening)
-    ensures { Writes (K.taken sink.old) (K.taken sink.new) (K.faults sink.old) (K.faults sink.new) failed.old failed.new (of_opening opening.now) }
+    ensures { Writes (K.taken sink.old) (K.taken sink.new) (K.faults sink.old) (K.faults sink.new)
+        failed.old failed.new (of_opening opening.now) }
 {
     put(sink, failed, &opening.seed);
     put_counts(sink, failed, opening);
@@ -48,7 +49,8 @@ fn files(tree: &Tree) -> &[File]
 
 // Writes the counts of an opening.
 fn put_counts<K: Sink>(sink: &mut K, failed: &mut bool, opening: &Opening)
-    ensures { Writes (K.taken sink.old) (K.taken sink.new) (K.faults sink.old) (K.faults sink.new) failed.old failed.new (of_counts opening.now) }
+    ensures { Writes (K.taken sink.old) (K.taken sink.new) (K.faults sink.old) (K.faults sink.new)
+        failed.old failed.new (of_counts opening.now) }
 {
     put_number(sink, failed, opening.limit);
     put_number(sink, failed, opening.passes as u64);

@@ -13,7 +13,8 @@ use pg_value::{Attrs, Value};
 #[cycle(values)]
 #[tactic(auto, using(pg_value::proofs::Sizes::sizes, pg_value::proofs::Lengths::lengths))]
 pub(crate) fn put_value<K: Sink>(sink: &mut K, failed: &mut bool, value: &Value)
-    ensures { Writes (K.taken sink.old) (K.taken sink.new) (K.faults sink.old) (K.faults sink.new) failed.old failed.new (of_datum (datum_of value.now)) }
+    ensures { Writes (K.taken sink.old) (K.taken sink.new) (K.faults sink.old) (K.faults sink.new)
+        failed.old failed.new (of_datum (datum_of value.now)) }
 {
     match value {
         Value::Null => put_byte(sink, failed, 0),
@@ -46,7 +47,8 @@ pub(crate) fn put_value<K: Sink>(sink: &mut K, failed: &mut bool, value: &Value)
 #[cycle(values)]
 #[tactic(auto, using(pg_value::proofs::Sizes::sizes, pg_value::proofs::Lengths::lengths))]
 fn put_items<K: Sink>(sink: &mut K, failed: &mut bool, items: &[Value])
-    ensures { Writes (K.taken sink.old) (K.taken sink.new) (K.faults sink.old) (K.faults sink.new) failed.old failed.new (of_items (items_of (map datum_of items.now))) }
+    ensures { Writes (K.taken sink.old) (K.taken sink.new) (K.faults sink.old) (K.faults sink.new)
+        failed.old failed.new (of_items (items_of (map datum_of items.now))) }
 {
     for item in items {
         put_value(sink, failed, item);
@@ -57,7 +59,8 @@ fn put_items<K: Sink>(sink: &mut K, failed: &mut bool, items: &[Value])
 #[cycle(values)]
 #[tactic(auto, using(pg_value::proofs::Sizes::sizes, pg_value::proofs::Lengths::lengths))]
 fn put_keys<K: Sink>(sink: &mut K, failed: &mut bool, entries: &[(Text, Value)])
-    ensures { Writes (K.taken sink.old) (K.taken sink.new) (K.faults sink.old) (K.faults sink.new) failed.old failed.new (of_entries (entries_of (map entry_of entries.now))) }
+    ensures { Writes (K.taken sink.old) (K.taken sink.new) (K.faults sink.old) (K.faults sink.new)
+        failed.old failed.new (of_entries (entries_of (map entry_of entries.now))) }
 {
     for entry in entries {
         put_bytes(sink, failed, entry.0.as_bytes());
@@ -67,7 +70,8 @@ fn put_keys<K: Sink>(sink: &mut K, failed: &mut bool, entries: &[(Text, Value)])
 
 /// Writes attributes.
 pub(crate) fn put_attrs<K: Sink>(sink: &mut K, failed: &mut bool, attrs: &Attrs)
-    ensures { Writes (K.taken sink.old) (K.taken sink.new) (K.faults sink.old) (K.faults sink.new) failed.old failed.new (of_attrs attrs.now) }
+    ensures { Writes (K.taken sink.old) (K.taken sink.new) (K.faults sink.old) (K.faults sink.new)
+        failed.old failed.new (of_attrs attrs.now) }
 {
     put_number(sink, failed, attrs.len() as u64);
     put_keys(sink, failed, attrs.as_slice());

@@ -11,7 +11,8 @@ pub(crate) trait Item {
 
     /// Writes this item.
     fn put<K: Sink>(&self, sink: &mut K, failed: &mut bool)
-        ensures { Writes (K.taken sink.old) (K.taken sink.new) (K.faults sink.old) (K.faults sink.new) failed.old failed.new (text self.now) };
+        ensures { Writes (K.taken sink.old) (K.taken sink.new) (K.faults sink.old) (K.faults sink.new)
+            failed.old failed.new (text self.now) };
 }
 
 impl Item for u64 {
@@ -24,35 +25,40 @@ impl Item for u64 {
 
 /// Writes these bytes.
 pub(crate) fn put<K: Sink>(sink: &mut K, failed: &mut bool, bytes: &[u8])
-    ensures { Writes (K.taken sink.old) (K.taken sink.new) (K.faults sink.old) (K.faults sink.new) failed.old failed.new bytes.now }
+    ensures { Writes (K.taken sink.old) (K.taken sink.new) (K.faults sink.old) (K.faults sink.new)
+        failed.old failed.new bytes.now }
 {
     write(sink, failed, bytes);
 }
 
 /// Writes one byte.
 pub(crate) fn put_byte<K: Sink>(sink: &mut K, failed: &mut bool, byte: u8)
-    ensures { Writes (K.taken sink.old) (K.taken sink.new) (K.faults sink.old) (K.faults sink.new) failed.old failed.new (byte ∷ []) }
+    ensures { Writes (K.taken sink.old) (K.taken sink.new) (K.faults sink.old) (K.faults sink.new)
+        failed.old failed.new (byte ∷ []) }
 {
     put(sink, failed, &[byte]);
 }
 
 /// Writes a number.
 pub(crate) fn put_number<K: Sink>(sink: &mut K, failed: &mut bool, number: u64)
-    ensures { Writes (K.taken sink.old) (K.taken sink.new) (K.faults sink.old) (K.faults sink.new) failed.old failed.new (of_number number) }
+    ensures { Writes (K.taken sink.old) (K.taken sink.new) (K.faults sink.old) (K.faults sink.new)
+        failed.old failed.new (of_number number) }
 {
     put(sink, failed, &number.to_be_bytes());
 }
 
 /// Writes an integer.
 pub(crate) fn put_int<K: Sink>(sink: &mut K, failed: &mut bool, integer: &i64)
-    ensures { Writes (K.taken sink.old) (K.taken sink.new) (K.faults sink.old) (K.faults sink.new) failed.old failed.new (of_int integer.now) }
+    ensures { Writes (K.taken sink.old) (K.taken sink.new) (K.faults sink.old) (K.faults sink.new)
+        failed.old failed.new (of_int integer.now) }
 {
     put(sink, failed, &integer.to_be_bytes());
 }
 
 /// Writes a truth value.
 pub(crate) fn put_truth<K: Sink>(sink: &mut K, failed: &mut bool, truth: bool)
-    ensures { Writes (K.taken sink.old) (K.taken sink.new) (K.faults sink.old) (K.faults sink.new) failed.old failed.new (of_truth truth) }
+    ensures { Writes (K.taken sink.old) (K.taken sink.new) (K.faults sink.old) (K.faults sink.new)
+        failed.old failed.new (of_truth truth) }
 {
     if truth {
         put_byte(sink, failed, 1);
@@ -63,7 +69,8 @@ pub(crate) fn put_truth<K: Sink>(sink: &mut K, failed: &mut bool, truth: bool)
 
 /// Writes bytes with their length.
 pub(crate) fn put_bytes<K: Sink>(sink: &mut K, failed: &mut bool, bytes: &[u8])
-    ensures { Writes (K.taken sink.old) (K.taken sink.new) (K.faults sink.old) (K.faults sink.new) failed.old failed.new (of_bytes bytes.now) }
+    ensures { Writes (K.taken sink.old) (K.taken sink.new) (K.faults sink.old) (K.faults sink.new)
+        failed.old failed.new (of_bytes bytes.now) }
 {
     put_number(sink, failed, bytes.len() as u64);
     put(sink, failed, bytes);
@@ -71,7 +78,8 @@ pub(crate) fn put_bytes<K: Sink>(sink: &mut K, failed: &mut bool, bytes: &[u8])
 
 /// Writes an optional number.
 pub(crate) fn put_option<K: Sink>(sink: &mut K, failed: &mut bool, number: Option<u64>)
-    ensures { Writes (K.taken sink.old) (K.taken sink.new) (K.faults sink.old) (K.faults sink.new) failed.old failed.new (of_option of_number number) }
+    ensures { Writes (K.taken sink.old) (K.taken sink.new) (K.faults sink.old) (K.faults sink.new)
+        failed.old failed.new (of_option of_number number) }
 {
     match number {
         None => put_byte(sink, failed, 0),
@@ -84,7 +92,8 @@ pub(crate) fn put_option<K: Sink>(sink: &mut K, failed: &mut bool, number: Optio
 
 /// Writes a list.
 pub(crate) fn put_list<K: Sink, T: Item>(sink: &mut K, failed: &mut bool, items: &[T])
-    ensures { Writes (K.taken sink.old) (K.taken sink.new) (K.faults sink.old) (K.faults sink.new) failed.old failed.new (of_list T.text items.now) }
+    ensures { Writes (K.taken sink.old) (K.taken sink.new) (K.faults sink.old) (K.faults sink.new)
+        failed.old failed.new (of_list T.text items.now) }
 {
     put_number(sink, failed, items.len() as u64);
     put_items(sink, failed, items);
@@ -92,7 +101,8 @@ pub(crate) fn put_list<K: Sink, T: Item>(sink: &mut K, failed: &mut bool, items:
 
 // Writes the items of a list.
 fn put_items<K: Sink, T: Item>(sink: &mut K, failed: &mut bool, items: &[T])
-    ensures { Writes (K.taken sink.old) (K.taken sink.new) (K.faults sink.old) (K.faults sink.new) failed.old failed.new (flat_map T.text items.now) }
+    ensures { Writes (K.taken sink.old) (K.taken sink.new) (K.faults sink.old) (K.faults sink.new)
+        failed.old failed.new (flat_map T.text items.now) }
 {
     for item in items {
         item.put(sink, failed);

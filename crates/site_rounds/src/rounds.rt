@@ -116,7 +116,8 @@ fn workers_of<'a, P: Compiled, R: Wait, G: Gate + Drop, E: Drop>(
     passes: SitePasses<P>,
 ) -> Result<Vec<Worker<'a, P, G, R, E>>, AllocError>
     requires { All (IsReady site.now) passes.items }
-    ensures ready { IfOk result (λ all. All (λ worker. (worker.token.actor.site.now ≡ site.now) × IsReady site.now worker.token.actor.pass) all.items) }
+    ensures ready { IfOk result (λ all. All (λ worker. (worker.token.actor.site.now ≡ site.now)
+        × IsReady site.now worker.token.actor.pass) all.items) }
     ensures passes { IfOk result (λ all. map (λ worker. worker.token.actor.pass) all.items ≡ passes.items) }
     ensures apart { IfOk result (λ all. All (λ worker. worker.closing ≡ None) all.items) }
 {
@@ -136,9 +137,11 @@ fn passes_of<'a, P: Compiled, R: Wait, G: Gate + Drop, E: Drop>(
     site: &SharedSite<P, G>,
     workers: Vec<Worker<'a, P, G, R, E>>,
 ) -> Result<SitePasses<P>, AllocError>
-    requires { All (λ worker. (worker.token.actor.site.now ≡ site.now) × IsIdle site.now.opening worker.token.actor.pass.number worker.token.actor.pass.seen) workers.items }
+    requires { All (λ worker. (worker.token.actor.site.now ≡ site.now) × IsIdle site.now.opening
+        worker.token.actor.pass.number worker.token.actor.pass.seen) workers.items }
     ensures ready { IfOk result (λ passes. All (IsReady site.now) passes.items) }
-    ensures passes { IfOk result (λ passes. passes.items ≡ map (λ worker. worker.token.actor.pass) workers.entry.items) }
+    ensures passes { IfOk result (λ passes. passes.items
+        ≡ map (λ worker. worker.token.actor.pass) workers.entry.items) }
 {
     let mut passes = Vec::with_capacity(alloc, workers.len())?;
     for worker in workers {

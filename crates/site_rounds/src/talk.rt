@@ -16,6 +16,7 @@ pub trait Talk<P: Compiled> {
         clock: &mut C,
     )
         requires { IsIdle (Q.opening port.old) (Q.pass port.old) (Q.seen port.old) }
-        ensures same { IsSamePort (Q.pass port.old) (Q.pass port.new) (Q.opening port.old) (Q.opening port.new) (Q.home port.old) (Q.home port.new) }
+        ensures same { IsSamePort (Q.pass port.old) (Q.pass port.new) (Q.opening port.old) (Q.opening port.new)
+            (Q.home port.old) (Q.home port.new) }
         ensures idle { IsIdle (Q.opening port.new) (Q.pass port.new) (Q.seen port.new) };
 }

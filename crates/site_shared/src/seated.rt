@@ -62,16 +62,22 @@ impl<P: Compiled> Object for Seated<P> {
     }
 
     fn apply(&mut self, pass: u8, act: Act<P>) -> Acted<Given<P>, Refusal>
-        requires may { May self.old.site.opening self.old.site.history pass (own pass self.old.site.history) act.op × IsMade P.made self.old.site.opening self.old.site.history (run_of (own pass self.old.site.history)) act.op (value_in act.made) }
+        requires may { May self.old.site.opening self.old.site.history pass (own pass self.old.site.history)
+            act.op × IsMade P.made self.old.site.opening self.old.site.history
+            (run_of (own pass self.old.site.history)) act.op (value_in act.made) }
         ensures opening { self.new.site.opening ≡ self.old.site.opening }
         ensures short { length self.new.site.history < 2 ^ 63 }
         ensures is_legal { Legal P.needs self.new.site.opening self.new.site.history }
         ensures answer { MatchActed result
             (λ given. (e : TheEntry) × (pass_in e ≡ pass) × Stands e pass act.op given.reply
-            × Replies P.needs P.made self.old.site.opening self.old.site.history pass act.op given × (self.new.site.history ≡ self.old.site.history ++ e ∷ []))
-            (λ refusal. (step P.needs self.old.site.opening (after P.needs self.old.site.opening self.old.site.history) pass act.op ≡ Refused refusal) × (self.new.site.history ≡ self.old.site.history))
+            × Replies P.needs P.made self.old.site.opening self.old.site.history pass act.op given ×
+            (self.new.site.history ≡ self.old.site.history ++ e ∷ []))
+            (λ refusal. (step P.needs self.old.site.opening
+            (after P.needs self.old.site.opening self.old.site.history) pass act.op ≡ Refused refusal) ×
+            (self.new.site.history ≡ self.old.site.history))
             (self.new.site.history ≡ self.old.site.history) }
-        ensures surely { Sure self.old.site.opening self.old.site.history pass (own pass self.old.site.history) act.op → IsDid result }
+        ensures surely { Sure self.old.site.opening self.old.site.history pass (own pass self.old.site.history)
+            act.op → IsDid result }
     {
         let answer = self.site.apply(pass, act);
         self.site.law();

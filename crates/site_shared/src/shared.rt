@@ -82,7 +82,8 @@ impl<P: Compiled, G: Gate + Drop> SharedSite<P, G> {
         requires { AreAll self passes.items }
         ensures opening { result.opening ≡ self.opening }
         ensures passes { All (λ pass. Stays P.needs self.opening pass.number pass.seen result.history) passes.items }
-        ensures rest { All (λ pass. run_of (own pass.number pass.seen) ≡ None) passes.items → AllRest result.opening result.history }
+        ensures rest { All (λ pass. run_of (own pass.number pass.seen) ≡ None) passes.items →
+            AllRest result.opening result.history }
     {
         self.turns.close(passes).site
     }

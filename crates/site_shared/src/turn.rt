@@ -64,9 +64,12 @@ impl<'a, P: Compiled, G: Gate + Drop, R: Wait> Turn<'a, P, G, R> {
 
     // Asks once for a request.
     fn ask_begin(&mut self, cookie: &Text, moment: u64) -> Acted<Given<P>, Refusal>
-        requires may { May self.old.site.now.opening self.old.pass.seen self.old.pass.number (own self.old.pass.number self.old.pass.seen) (op.Begin cookie.now moment) }
-        ensures same { IsSamePort self.old.pass.number self.new.pass.number self.old.site.now.opening self.new.site.now.opening self.old.site.now self.new.site.now }
-        ensures answer { Answered P.needs P.made self.old.site.now.opening self.old.pass.number self.old.pass.seen self.new.pass.seen (op.Begin cookie.now moment) result }
+        requires may { May self.old.site.now.opening self.old.pass.seen self.old.pass.number
+            (own self.old.pass.number self.old.pass.seen) (op.Begin cookie.now moment) }
+        ensures same { IsSamePort self.old.pass.number self.new.pass.number self.old.site.now.opening
+            self.new.site.now.opening self.old.site.now self.new.site.now }
+        ensures answer { Answered P.needs P.made self.old.site.now.opening self.old.pass.number
+            self.old.pass.seen self.new.pass.seen (op.Begin cookie.now moment) result }
     {
         self.law();
         let Ok(cookie) = cookie.copy() else {
@@ -78,8 +81,10 @@ impl<'a, P: Compiled, G: Gate + Drop, R: Wait> Turn<'a, P, G, R> {
 
     // Looks at the length of the history, all of which is then seen. It takes no turn.
     fn look(&mut self) -> u64
-        ensures same { IsSamePort self.old.pass.number self.new.pass.number self.old.site.now.opening self.new.site.now.opening self.old.site.now self.new.site.now }
-        ensures stays { Stays P.needs self.old.site.now.opening self.old.pass.number self.old.pass.seen self.new.pass.seen }
+        ensures same { IsSamePort self.old.pass.number self.new.pass.number self.old.site.now.opening
+            self.new.site.now.opening self.old.site.now self.new.site.now }
+        ensures stays { Stays P.needs self.old.site.now.opening self.old.pass.number self.old.pass.seen
+            self.new.pass.seen }
     {
         let site = self.site;
         site.turns.latest(&mut self.pass)
@@ -87,8 +92,10 @@ impl<'a, P: Compiled, G: Gate + Drop, R: Wait> Turn<'a, P, G, R> {
 
     // Waits until the length of the history is another than this, and answers it. It takes no turn.
     fn await_other(&mut self, known: u64) -> u64
-        ensures same { IsSamePort self.old.pass.number self.new.pass.number self.old.site.now.opening self.new.site.now.opening self.old.site.now self.new.site.now }
-        ensures stays { Stays P.needs self.old.site.now.opening self.old.pass.number self.old.pass.seen self.new.pass.seen }
+        ensures same { IsSamePort self.old.pass.number self.new.pass.number self.old.site.now.opening
+            self.new.site.now.opening self.old.site.now self.new.site.now }
+        ensures stays { Stays P.needs self.old.site.now.opening self.old.pass.number self.old.pass.seen
+            self.new.pass.seen }
     {
         self.law();
         let rt = self.rt;
@@ -126,11 +133,16 @@ impl<'a, P: Compiled, G: Gate + Drop, R: Wait> Actor<P> for Turn<'a, P, G, R> {
     }
 
     fn act(&mut self, act: Act<P>) -> Acted<Given<P>, Refusal>
-        requires may { May self.old.site.now.opening self.old.pass.seen self.old.pass.number (own self.old.pass.number self.old.pass.seen) act.op }
-        requires made { IsMade P.made self.old.site.now.opening self.old.pass.seen (run_of (own self.old.pass.number self.old.pass.seen)) act.op (value_in act.made) }
-        ensures same { IsSamePort self.old.pass.number self.new.pass.number self.old.site.now.opening self.new.site.now.opening self.old.site.now self.new.site.now }
-        ensures answer { Answered P.needs P.made self.old.site.now.opening self.old.pass.number self.old.pass.seen self.new.pass.seen act.op result }
-        ensures sure { Sure self.old.site.now.opening self.old.pass.seen self.old.pass.number (own self.old.pass.number self.old.pass.seen) act.op → IsDid result }
+        requires may { May self.old.site.now.opening self.old.pass.seen self.old.pass.number
+            (own self.old.pass.number self.old.pass.seen) act.op }
+        requires made { IsMade P.made self.old.site.now.opening self.old.pass.seen
+            (run_of (own self.old.pass.number self.old.pass.seen)) act.op (value_in act.made) }
+        ensures same { IsSamePort self.old.pass.number self.new.pass.number self.old.site.now.opening
+            self.new.site.now.opening self.old.site.now self.new.site.now }
+        ensures answer { Answered P.needs P.made self.old.site.now.opening self.old.pass.number
+            self.old.pass.seen self.new.pass.seen act.op result }
+        ensures sure { Sure self.old.site.now.opening self.old.pass.seen self.old.pass.number
+            (own self.old.pass.number self.old.pass.seen) act.op → IsDid result }
     {
         let site = self.site;
         site.gate.pass(u64::from(self.pass.number()));

@@ -76,7 +76,8 @@ pub fn work<P: Compiled, Q: Port<P>>(
     watch: &Watch,
 )
     requires { IsIdle (Q.opening port.old) (Q.pass port.old) (Q.seen port.old) }
-    ensures same { IsSamePort (Q.pass port.old) (Q.pass port.new) (Q.opening port.old) (Q.opening port.new) (Q.home port.old) (Q.home port.new) }
+    ensures same { IsSamePort (Q.pass port.old) (Q.pass port.new) (Q.opening port.old) (Q.opening port.new)
+        (Q.home port.old) (Q.home port.new) }
     ensures idle { IsIdle (Q.opening port.new) (Q.pass port.new) (Q.seen port.new) }
 {
     match job {
@@ -95,7 +96,8 @@ pub fn visit_often<P: Compiled, Q: Port<P>>(
     times: u32,
 )
     requires { IsIdle (Q.opening port.old) (Q.pass port.old) (Q.seen port.old) }
-    ensures same { IsSamePort (Q.pass port.old) (Q.pass port.new) (Q.opening port.old) (Q.opening port.new) (Q.home port.old) (Q.home port.new) }
+    ensures same { IsSamePort (Q.pass port.old) (Q.pass port.new) (Q.opening port.old) (Q.opening port.new)
+        (Q.home port.old) (Q.home port.new) }
     ensures idle { IsIdle (Q.opening port.new) (Q.pass port.new) (Q.seen port.new) }
 {
     for _ in 0..times {
@@ -113,7 +115,8 @@ fn meet<P: Compiled, Q: Port<P>>(
     until: &AtomicU64,
 )
     requires { IsIdle (Q.opening port.old) (Q.pass port.old) (Q.seen port.old) }
-    ensures same { IsSamePort (Q.pass port.old) (Q.pass port.new) (Q.opening port.old) (Q.opening port.new) (Q.home port.old) (Q.home port.new) }
+    ensures same { IsSamePort (Q.pass port.old) (Q.pass port.new) (Q.opening port.old) (Q.opening port.new)
+        (Q.home port.old) (Q.home port.new) }
     ensures idle { IsIdle (Q.opening port.new) (Q.pass port.new) (Q.seen port.new) }
 {
     if number != 0 {
@@ -132,7 +135,8 @@ fn meet<P: Compiled, Q: Port<P>>(
 // A request without a session, once the others wait for one.
 fn pass_by<P: Compiled, Q: Port<P>>(alloc: Global, port: &mut Q, watch: &Watch)
     requires { IsIdle (Q.opening port.old) (Q.pass port.old) (Q.seen port.old) }
-    ensures same { IsSamePort (Q.pass port.old) (Q.pass port.new) (Q.opening port.old) (Q.opening port.new) (Q.home port.old) (Q.home port.new) }
+    ensures same { IsSamePort (Q.pass port.old) (Q.pass port.new) (Q.opening port.old) (Q.opening port.new)
+        (Q.home port.old) (Q.home port.new) }
     ensures idle { IsIdle (Q.opening port.new) (Q.pass port.new) (Q.seen port.new) }
 {
     wait_until(&watch.tries, WAITING);

@@ -45,7 +45,8 @@ fn alone<P: Compiled>(site: Site<P>) -> SoloPort<P>
 // How often the session of the cookie was visited, by a picture.
 fn pictured<P: Compiled, Q: Port<P>>(port: &mut Q, cookie: &Text) -> i64
     requires { IsIdle (Q.opening port.old) (Q.pass port.old) (Q.seen port.old) }
-    ensures { IsSamePort (Q.pass port.old) (Q.pass port.new) (Q.opening port.old) (Q.opening port.new) (Q.home port.old) (Q.home port.new) }
+    ensures { IsSamePort (Q.pass port.old) (Q.pass port.new) (Q.opening port.old) (Q.opening port.new)
+        (Q.home port.old) (Q.home port.new) }
 {
     if cookie.len() > MAX_COOKIE {
         return 0;

@@ -30,7 +30,8 @@ pub struct Errand {
 /// One visit. True where its request began with a session, all of it was done, and the path was found.
 pub fn visit<P: Compiled, Q: Port<P>>(alloc: Global, port: &mut Q, errand: &Errand) -> bool
     requires { IsIdle (Q.opening port.old) (Q.pass port.old) (Q.seen port.old) }
-    ensures same { IsSamePort (Q.pass port.old) (Q.pass port.new) (Q.opening port.old) (Q.opening port.new) (Q.home port.old) (Q.home port.new) }
+    ensures same { IsSamePort (Q.pass port.old) (Q.pass port.new) (Q.opening port.old) (Q.opening port.new)
+        (Q.home port.old) (Q.home port.new) }
     ensures idle { IsIdle (Q.opening port.new) (Q.pass port.new) (Q.seen port.new) }
 {
     let Some(begun) = begin(port, &errand.cookie) else {
@@ -45,7 +46,8 @@ pub fn visit<P: Compiled, Q: Port<P>>(alloc: Global, port: &mut Q, errand: &Erra
 /// Begins a request at the moment 0.
 pub fn begin<P: Compiled, Q: Port<P>>(port: &mut Q, cookie: &Text) -> Option<Begun>
     requires { IsIdle (Q.opening port.old) (Q.pass port.old) (Q.seen port.old) }
-    ensures same { IsSamePort (Q.pass port.old) (Q.pass port.new) (Q.opening port.old) (Q.opening port.new) (Q.home port.old) (Q.home port.new) }
+    ensures same { IsSamePort (Q.pass port.old) (Q.pass port.new) (Q.opening port.old) (Q.opening port.new)
+        (Q.home port.old) (Q.home port.new) }
     ensures begun { HasBegun (Q.opening port.new) (Q.pass port.new) (Q.seen port.new) result }
 {
     if cookie.len() > MAX_COOKIE {
@@ -60,9 +62,12 @@ pub fn begin<P: Compiled, Q: Port<P>>(port: &mut Q, cookie: &Text) -> Option<Beg
 
 // Publishes the edits, and says whether that was done.
 fn publish<P: Compiled, Q: Port<P>>(port: &mut Q, begun: &Begun, edits: &Edits) -> bool
-    requires { IsServing (Q.opening port.old) (Q.pass port.old) (Q.seen port.old) begun.now.request begun.now.session 4325000 }
-    ensures same { IsSamePort (Q.pass port.old) (Q.pass port.new) (Q.opening port.old) (Q.opening port.new) (Q.home port.old) (Q.home port.new) }
-    ensures serving { IsServing (Q.opening port.new) (Q.pass port.new) (Q.seen port.new) begun.now.request begun.now.session 4325000 }
+    requires { IsServing (Q.opening port.old) (Q.pass port.old) (Q.seen port.old) begun.now.request
+        begun.now.session 4325000 }
+    ensures same { IsSamePort (Q.pass port.old) (Q.pass port.new) (Q.opening port.old) (Q.opening port.new)
+        (Q.home port.old) (Q.home port.new) }
+    ensures serving { IsServing (Q.opening port.new) (Q.pass port.new) (Q.seen port.new) begun.now.request
+        begun.now.session 4325000 }
 {
     let answer = port.publish(None, edits);
     matches!(answer, Acted::Did(_))
@@ -70,9 +75,12 @@ fn publish<P: Compiled, Q: Port<P>>(port: &mut Q, begun: &Begun, edits: &Edits) 
 
 // Looks for the path, and says whether something was found.
 fn fetch<P: Compiled, Q: Port<P>>(port: &mut Q, begun: &Begun, path: &Path) -> bool
-    requires { IsServing (Q.opening port.old) (Q.pass port.old) (Q.seen port.old) begun.now.request begun.now.session 4325000 }
-    ensures same { IsSamePort (Q.pass port.old) (Q.pass port.new) (Q.opening port.old) (Q.opening port.new) (Q.home port.old) (Q.home port.new) }
-    ensures serving { IsServing (Q.opening port.new) (Q.pass port.new) (Q.seen port.new) begun.now.request begun.now.session 4000000 }
+    requires { IsServing (Q.opening port.old) (Q.pass port.old) (Q.seen port.old) begun.now.request
+        begun.now.session 4325000 }
+    ensures same { IsSamePort (Q.pass port.old) (Q.pass port.new) (Q.opening port.old) (Q.opening port.new)
+        (Q.home port.old) (Q.home port.new) }
+    ensures serving { IsServing (Q.opening port.new) (Q.pass port.new) (Q.seen port.new) begun.now.request
+        begun.now.session 4000000 }
 {
     if path.as_bytes().len() > MAX_NAME {
         return false;
@@ -87,9 +95,12 @@ fn is_found<P>(answer: &Result<Option<Arc<P>>, AllocError>) -> bool {
 
 // Sets an attribute of the application, and says whether that was done.
 fn set<P: Compiled, Q: Port<P>>(alloc: Global, port: &mut Q, begun: &Begun) -> bool
-    requires { IsServing (Q.opening port.old) (Q.pass port.old) (Q.seen port.old) begun.now.request begun.now.session 4000000 }
-    ensures same { IsSamePort (Q.pass port.old) (Q.pass port.new) (Q.opening port.old) (Q.opening port.new) (Q.home port.old) (Q.home port.new) }
-    ensures serving { IsServing (Q.opening port.new) (Q.pass port.new) (Q.seen port.new) begun.now.request begun.now.session 0 }
+    requires { IsServing (Q.opening port.old) (Q.pass port.old) (Q.seen port.old) begun.now.request
+        begun.now.session 4000000 }
+    ensures same { IsSamePort (Q.pass port.old) (Q.pass port.new) (Q.opening port.old) (Q.opening port.new)
+        (Q.home port.old) (Q.home port.new) }
+    ensures serving { IsServing (Q.opening port.new) (Q.pass port.new) (Q.seen port.new) begun.now.request
+        begun.now.session 0 }
 {
     let Ok(name) = Text::copy_of(alloc, "n") else {
         return false;
@@ -108,7 +119,8 @@ fn is_done(answer: &Result<AppReply, AllocError>) -> bool {
 /// Ends the request with one more in its session, and says whether that was done.
 pub fn finish<P: Compiled, Q: Port<P>>(alloc: Global, port: &mut Q, begun: Begun) -> bool
     requires { IsServing (Q.opening port.old) (Q.pass port.old) (Q.seen port.old) begun.request begun.session 0 }
-    ensures same { IsSamePort (Q.pass port.old) (Q.pass port.new) (Q.opening port.old) (Q.opening port.new) (Q.home port.old) (Q.home port.new) }
+    ensures same { IsSamePort (Q.pass port.old) (Q.pass port.new) (Q.opening port.old) (Q.opening port.new)
+        (Q.home port.old) (Q.home port.new) }
     ensures idle { IsIdle (Q.opening port.new) (Q.pass port.new) (Q.seen port.new) }
 {
     match (begun.session, counted(alloc, &begun.attrs)) {

@@ -74,8 +74,10 @@ impl<'a> DeclaredBefore<'a> {
 
 // Adds a name, where there is one.
 fn insert_name<'a>(names: &mut BTreeSet<&'a str>, name: Option<&'a str>) -> Result<(), AllocError>
-    ensures { OnOk result ((has : List ℕ → Bool) → ((other : Bor (List ℕ)) → contains text_order names.old other ≡ has other.now)
-        → (other : Bor (List ℕ)) → contains text_order names.new other ≡ (has other.now || is_value other.now (option_map (λ name. name.now) name.entry))) }
+    ensures { OnOk result ((has : List ℕ → Bool) →
+        ((other : Bor (List ℕ)) → contains text_order names.old other ≡ has other.now)
+        → (other : Bor (List ℕ)) → contains text_order names.new other
+        ≡ (has other.now || is_value other.now (option_map (λ name. name.now) name.entry))) }
 {
     if let Some(name) = name {
         names.insert(name)?;

@@ -45,7 +45,8 @@ fn push_attribute(
     decls: &mut AttrDecls,
     attributes: &Attributes,
 ) -> Result<(), AllocError>
-    ensures { OnOk result (decls.new ≡ decls.old ++ attribute_in attributes.now (value_of (codes "name") attributes.now)) }
+    ensures { OnOk result (decls.new ≡ decls.old ++ attribute_in attributes.now
+        (value_of (codes "name") attributes.now)) }
 {
     if let Some(name) = attributes.plain("name") {
         decls.push(attribute_named(alloc, attributes, name)?)?;
@@ -109,7 +110,8 @@ fn variables_of(alloc: Global, directives: &[Directive]) -> Result<VarDecls, All
 
 // What the `tag` directives decide of an attribute.
 fn decided_by_tag<'a>(directives: &[Directive<'a>], name: &str) -> Option<&'a str>
-    ensures { option_map (λ text. text.now) result ≡ decided tag_table name.now (given (codes "tag") directives.now) }
+    ensures { option_map (λ text. text.now) result
+        ≡ decided tag_table name.now (given (codes "tag") directives.now) }
 {
     decided(tag_table(), "tag", directives, name)
 }

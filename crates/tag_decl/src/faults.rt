@@ -78,7 +78,8 @@ fn clash_faults(before: &DeclaredBefore, directive: &Directive) -> Faults
 
 // Whether a fragment has what fragments haven't.
 fn is_bad_fragment(attributes: &Attributes) -> bool
-    ensures { result ≡ (is_value (codes "true") (value_of (codes "fragment") attributes.now) && (has_name (codes "type") attributes.now || has_name (codes "rtexprvalue") attributes.now)) }
+    ensures { result ≡ (is_value (codes "true") (value_of (codes "fragment") attributes.now) &&
+        (has_name (codes "type") attributes.now || has_name (codes "rtexprvalue") attributes.now)) }
 {
     is_value("true", attributes.plain("fragment"))
         && (has_name(attributes.as_slice(), "type")

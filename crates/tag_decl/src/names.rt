@@ -29,7 +29,8 @@ pub(crate) fn variable_of<'a>(directive: &Directive<'a>) -> Option<&'a str>
 
 // The name that a directive declares.
 pub(crate) fn declared_name<'a>(directive: &Directive<'a>) -> Option<&'a str>
-    ensures { option_map (λ name. name.now) result ≡ option_or (attribute_name directive.now) (variable_of directive.now) }
+    ensures { option_map (λ name. name.now) result ≡ option_or (attribute_name directive.now)
+        (variable_of directive.now) }
 {
     match attribute_name(directive) {
         Some(name) => Some(name),

@@ -14,7 +14,8 @@ use unit_program::program;
 /// What is kept of a unit: its page as the program, or its fault, with the stamps of its dependencies.
 pub fn translate(alloc: Global, unit: &Unit) -> Result<Made, AllocError>
     ensures by { IfOk result (λ made. IsMadeBy made unit.now) }
-    ensures made { (tree : List File) (path : List ℕ) → IsUnitOf unit.now tree path → IfOk result (λ made. IsMade made tree path) }
+    ensures made { (tree : List File) (path : List ℕ) → IsUnitOf unit.now tree path →
+        IfOk result (λ made. IsMade made tree path) }
 {
     let deps = copy_stamps(alloc, unit.deps.as_slice())?;
     let body = translate_body(alloc, &unit.body)?;

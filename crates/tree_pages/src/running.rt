@@ -56,9 +56,14 @@ pub fn run_at<P: AppPort<Program>, K: Sink, L: Ledger>(
     requires tells { TellsPages P.made P.faulty }
     requires in_order { IsInOrder scopes.old around.old (P.asking port.old) }
     requires promise { RUN_PROMISE ≤ around.old.charge + (P.asking port.old).left }
-    requires writer { (start : Option (List ℕ)) × (before : ℕ) × (written : Written) × Stands start before writer.old (K.taken sink.old) (K.faults sink.old) written }
-    ensures meant { ComesSo tree.now path.now (λ page end. (origin : Origin) (s : State) → StandsFor origin scopes.old writer.old (K.taken sink.old) (K.faults sink.old) around.old (P.asking port.old) s
-        → PageMeant (served_at tree.now request.now around.old) page params.now (level_limit - around.old.depth) (StandsFor origin scopes.new writer.new (K.taken sink.new) (K.faults sink.new) around.new (P.asking port.new)) s (P.asking port.old).answers (P.asking port.new).answers around.new.depth end) result }
+    requires writer { (start : Option (List ℕ)) × (before : ℕ) × (written : Written) × Stands start
+        before writer.old (K.taken sink.old) (K.faults sink.old) written }
+    ensures meant { ComesSo tree.now path.now (λ page end. (origin : Origin) (s : State) →
+        StandsFor origin scopes.old writer.old (K.taken sink.old) (K.faults sink.old) around.old (P.asking port.old) s
+        → PageMeant (served_at tree.now request.now around.old) page params.now
+        (level_limit - around.old.depth) (StandsFor origin scopes.new writer.new (K.taken sink.new)
+        (K.faults sink.new) around.new (P.asking port.new)) s (P.asking port.old).answers
+        (P.asking port.new).answers around.new.depth end) result }
     ensures steps { StepsSo tree.now path.now steps.old steps.new result }
     ensures scopes { IsUntouched scopes.old scopes.new result }
     ensures writer { IsUntouched writer.old writer.new result }

@@ -30,11 +30,13 @@ pub fn act<O: Object, R: Wait>(
     ensures same { (seat.new.me.0.numbers ≡ pass ∷ []) × (seat.new.me.0.opening ≡ seat.old.me.0.opening) }
     ensures answer { let old = seat.old.me.0.seen in let new = seat.new.me.0.seen in
         (x : O.Opening) → seat.old.me.0.opening ≡ Some x → MatchActed result
-        (λ reply. Acts O.pass_of (O.legal x) (λ front e. O.stands e pass op reply × O.replies x front pass op reply) pass old new)
+        (λ reply. Acts O.pass_of (O.legal x) (λ front e. O.stands e pass op reply × O.replies x front pass op
+        reply) pass old new)
         (λ refusal. Stays O.pass_of (O.legal x) pass old new × O.refuses x new pass op refusal)
         (Stays O.pass_of (O.legal x) pass old new) }
     ensures surely { let seen = seat.old.me.0.seen in
-        (x : O.Opening) → seat.old.me.0.opening ≡ Some x → O.sure x seen pass (own O.pass_of pass seen) op → IsDid result }
+        (x : O.Opening) → seat.old.me.0.opening ≡ Some x →
+        O.sure x seen pass (own O.pass_of pass seen) op → IsDid result }
 {
     let mut object = take_turn(rt, table, seat);
     match object.apply(pass, op) {
@@ -57,7 +59,12 @@ fn take_turn<O: Object, R: Wait>(rt: &R, table: &TurnTable<O>, seat: &mut TurnSe
     ensures table { seat.new.table_id ≡ seat.old.table_id }
     ensures out { seat.new.me.1 ≡ (0, None) ∷ [] }
     ensures view { (t : ℕ)
-        × (seat.new.me.0 ≡ record seat.old.me.0 { seen = O.history result; ticket = Some t; served = true; current = true }) }
+        × (seat.new.me.0 ≡ record seat.old.me.0 {
+          seen = O.history result;
+          ticket = Some t;
+          served = true;
+          current = true;
+        }) }
     ensures sees { Sees O.pass_of seat.old.me.0.numbers seat.old.me.0.seen (O.history result) }
     ensures is_legal { IsLegal O.legal seat.old.me.0 (O.history result) }
     ensures opening { (x : O.Opening) → seat.old.me.0.opening ≡ Some x → O.opening result ≡ x }
@@ -98,7 +105,8 @@ fn draw<O: Object>(table: &TurnTable<O>, seat: &mut TurnSeat<O>) -> u64
     requires idle { IsIdle seat.old.me.0 }
     requires number { (k : ℕ) × (seat.old.me.0.numbers ≡ k ∷ []) }
     ensures table { seat.new.table_id ≡ seat.old.table_id }
-    ensures drawn { (t : ℕ) × (result ≡ t % 2 ^ 64) × (seat.new.me.0 ≡ record seat.old.me.0 { ticket = Some t }) }
+    ensures drawn { (t : ℕ) × (result ≡ t % 2 ^ 64) × (seat.new.me.0
+        ≡ record seat.old.me.0 { ticket = Some t }) }
     ensures holds { seat.new.me.1 ≡ seat.old.me.1 }
 {
     table.shared.fetch_add::<Draw<O>>(seat, TICKET, 1)

@@ -57,7 +57,8 @@ impl<O: Object> Turns<O> {
     pub fn close(self, passes: Passes<O>) -> O
         requires { AreAll self passes.items }
         ensures opening { O.opening result ≡ self.opening }
-        ensures passes { All (λ pass. Stays O.pass_of (O.legal self.opening) pass.number pass.seen (O.history result)) passes.items }
+        ensures passes { All (λ pass. Stays O.pass_of (O.legal self.opening) pass.number pass.seen
+            (O.history result)) passes.items }
     {
         let Turns { table, door: _ } = self;
         let seat = passes::take_back_all(&table, passes);
@@ -69,14 +70,18 @@ impl<O: Object> Turns<O> {
     /// Done, it adds one entry to the history. Refused or without memory it adds none.
     pub fn act<R: Wait>(&self, rt: &R, pass: &mut Pass<O>, op: O::Op) -> Acted<O::Reply, O::Refusal>
         requires from { IsPassOf self.now pass.old }
-        requires may { O.may self.now.opening pass.old.seen pass.old.number (own O.pass_of pass.old.number pass.old.seen) op }
+        requires may { O.may self.now.opening pass.old.seen pass.old.number
+            (own O.pass_of pass.old.number pass.old.seen) op }
         ensures same { pass.new ≡ record pass.old { seen = pass.new.seen } }
         ensures answer { let x = self.now.opening in let k = pass.old.number in
             MatchActed result
-            (λ reply. Acts O.pass_of (O.legal x) (λ front e. O.stands e k op reply × O.replies x front k op reply) k pass.old.seen pass.new.seen)
-            (λ refusal. Stays O.pass_of (O.legal x) k pass.old.seen pass.new.seen × O.refuses x pass.new.seen k op refusal)
+            (λ reply. Acts O.pass_of (O.legal x) (λ front e.
+            O.stands e k op reply × O.replies x front k op reply) k pass.old.seen pass.new.seen)
+            (λ refusal. Stays O.pass_of (O.legal x) k pass.old.seen pass.new.seen × O.refuses x pass.new.seen
+            k op refusal)
             (Stays O.pass_of (O.legal x) k pass.old.seen pass.new.seen) }
-        ensures surely { O.sure self.now.opening pass.old.seen pass.old.number (own O.pass_of pass.old.number pass.old.seen) op
+        ensures surely { O.sure self.now.opening pass.old.seen pass.old.number
+            (own O.pass_of pass.old.number pass.old.seen) op
             → IsDid result }
     {
         let _inside = self.door.lock(rt);

@@ -17,7 +17,8 @@ use unit_source::PlacedNode;
 
 // Adds what a leaf is among what stands there.
 fn push_leaf<'n>(leaf: &'n Leaf, found: &mut Vec<Standing<'n>>) -> Result<(), AllocError>
-    ensures { OnOk result (map standing_made found.new.items ≡ map standing_made found.old.items ++ leaf_standing leaf.now) }
+    ensures { OnOk result (map standing_made found.new.items ≡ map standing_made found.old.items
+        ++ leaf_standing leaf.now) }
 {
     match leaf {
         Leaf::Comment => Ok(()),
@@ -58,7 +59,8 @@ pub(crate) fn push_standing<'n>(
     nodes: &'n [PlacedNode],
     found: &mut Vec<Standing<'n>>,
 ) -> Result<(), AllocError>
-    ensures { OnOk result (map standing_made found.new.items ≡ map standing_made found.old.items ++ standing_in (flat (in_place nodes.now))) }
+    ensures { OnOk result (map standing_made found.new.items ≡ map standing_made found.old.items
+        ++ standing_in (flat (in_place nodes.now))) }
 {
     for node in nodes {
         push_node(node, found)?;
@@ -69,7 +71,8 @@ pub(crate) fn push_standing<'n>(
 #[cycle(standing)]
 #[tactic(auto, using(crate::proofs::PlacedLemmas::one_standing, crate::proofs::PlacedLemmas::element_standing, crate::proofs::PlacedLemmas::include_standing))]
 fn push_node<'n>(node: &'n PlacedNode, found: &mut Vec<Standing<'n>>) -> Result<(), AllocError>
-    ensures { OnOk result (map standing_made found.new.items ≡ map standing_made found.old.items ++ standing_in (flat (node_in_place node.now))) }
+    ensures { OnOk result (map standing_made found.new.items ≡ map standing_made found.old.items
+        ++ standing_in (flat (node_in_place node.now))) }
 {
     match node {
         PlacedNode::Leaf(leaf, _) => push_leaf(leaf, found),
@@ -89,7 +92,8 @@ pub(crate) fn push_inner<'n>(
     nodes: &'n [PlacedNode],
     found: &mut Vec<Standing<'n>>,
 ) -> Result<(), AllocError>
-    ensures { OnOk result (map standing_made found.new.items ≡ map standing_made found.old.items ++ standing_in (inner (flat (in_place nodes.now)))) }
+    ensures { OnOk result (map standing_made found.new.items ≡ map standing_made found.old.items
+        ++ standing_in (inner (flat (in_place nodes.now)))) }
 {
     for node in nodes {
         push_inner_node(node, found)?;
@@ -103,7 +107,8 @@ fn push_inner_node<'n>(
     node: &'n PlacedNode,
     found: &mut Vec<Standing<'n>>,
 ) -> Result<(), AllocError>
-    ensures { OnOk result (map standing_made found.new.items ≡ map standing_made found.old.items ++ standing_in (inner (flat (node_in_place node.now)))) }
+    ensures { OnOk result (map standing_made found.new.items ≡ map standing_made found.old.items
+        ++ standing_in (inner (flat (node_in_place node.now)))) }
 {
     match node {
         PlacedNode::Element(element) if is_body(&element.head) => {

@@ -33,7 +33,8 @@ pub fn build<L: Ledger>(
 ) -> Result<Unit, AllocError>
     requires limits { IsWithinLimits tree.now }
     requires stands { IsSome (text_in tree.now path.now) }
-    ensures unit { IfOk result (λ unit. (text : List ℕ) → text_in tree.now path.now ≡ Some text → unit_view unit ≡ unit_of (text_in tree.now) path.now text) }
+    ensures unit { IfOk result (λ unit. (text : List ℕ) → text_in tree.now path.now ≡ Some text →
+        unit_view unit ≡ unit_of (text_in tree.now) path.now text) }
     ensures needs { IfOk result (λ unit. unit.deps ≡ needs_of tree.now (unit_view unit).deps) }
     ensures steps { IfOk result (λ unit. steps.new ≡ steps.old + bytes_of (text_in tree.now) (unit_view unit).deps) }
     ensures untouched { OnErr result (steps.new ≡ steps.old) }
@@ -49,7 +50,8 @@ fn read_unit(alloc: Global, tree: &Tree, path: &Path) -> Result<(Names, UnitBody
     requires limits { IsWithinLimits tree.now }
     requires stands { IsSome (text_in tree.now path.now) }
     ensures { (text : List ℕ) → text_in tree.now path.now ≡ Some text
-        → IfOk result (λ read. unit_of (text_in tree.now) path.now text ≡ record { deps = read.0; body = body_view read.1 }) }
+        → IfOk result (λ read. unit_of (text_in tree.now) path.now text
+        ≡ record { deps = read.0; body = body_view read.1 }) }
 {
     if is_xml(path) {
         return xml_unit(alloc, path);
@@ -65,7 +67,8 @@ fn read_unit(alloc: Global, tree: &Tree, path: &Path) -> Result<(Names, UnitBody
 // What was found in a page, as its dependencies and its page or fault.
 fn read_body(alloc: Global, root: &Root, found: Found) -> Result<(Names, UnitBody), AllocError>
     ensures { (files : List File) → IsPageMet files (root_view root.now) found.entry
-        → IfOk result (λ read. unit_read (text_in files) (root_view root.now) ≡ record { deps = read.0; body = body_view read.1 }) }
+        → IfOk result (λ read. unit_read (text_in files) (root_view root.now)
+        ≡ record { deps = read.0; body = body_view read.1 }) }
 {
     let names = found.names.copy()?;
     if let Some(fault) = &found.fault {

@@ -24,7 +24,8 @@ pub(crate) type Called = (Faults, Option<Arc<Tag>>);
 #[tactic(auto, using(crate::proofs::CalledLemmas::called_none))]
 fn refuse(path: &Path, faults: Faults, found: &mut Found) -> Result<Called, AllocError>
     ensures { IfOk result (λ answer. (before : Before) (comes : List TranslationFault) → faults ≡ in_order comes
-        → IsCalled found.old found.new before answer.0 (option_map (λ tag. root_view tag.value) answer.1) (called comes (path.now ∷ []) (state_in before found.old) None)) }
+        → IsCalled found.old found.new before answer.0 (option_map (λ tag. root_view tag.value) answer.1)
+        (called comes (path.now ∷ []) (state_in before found.old) None)) }
 {
     found.need(path)?;
     Ok((faults, None))
@@ -60,7 +61,8 @@ fn count_tag(
 ) -> Result<Called, AllocError>
     ensures { IfOk result (λ answer. (before : Before) → text_in found.old.site path.now ≡ Some text.now
         → IsCalled found.old found.new before answer.0 (option_map (λ tag. root_view tag.value) answer.1)
-        (call_counted (text_in found.old.site) path.now text.now (counted (length text.now) found.old.counts) (state_in before found.old))) }
+        (call_counted (text_in found.old.site) path.now text.now (counted (length text.now) found.old.counts)
+        (state_in before found.old))) }
 {
     match found.counts.count(text.len()) {
         Counted::Within => enter_tag(alloc, path, text, found),
@@ -88,7 +90,8 @@ fn meet_tag(
 
 /// What the call of the tag file at a path comes to.
 pub(crate) fn meet_call(alloc: Global, path: &Path, found: &mut Found) -> Result<Called, AllocError>
-    ensures { IfOk result (λ answer. (before : Before) → IsCalled found.old found.new before answer.0 (option_map (λ tag. root_view tag.value) answer.1)
+    ensures { IfOk result (λ answer. (before : Before) →
+        IsCalled found.old found.new before answer.0 (option_map (λ tag. root_view tag.value) answer.1)
         (call_met (text_in found.old.site) path.now (state_in before found.old))) }
 {
     match found.text(path)? {

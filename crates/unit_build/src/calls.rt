@@ -43,7 +43,8 @@ fn given_faults(decl: &TagDecl, attributes: &[Attribute], name: &str) -> Faults
 
 // The faults of the names that are written.
 fn written_faults(decl: &TagDecl, attributes: &[Attribute]) -> Faults
-    ensures { result ≡ in_order (names_faults decl.now (attribute_names attributes.now) (attribute_names attributes.now)) }
+    ensures { result ≡ in_order (names_faults decl.now (attribute_names attributes.now)
+        (attribute_names attributes.now)) }
 {
     let mut faults = Faults::none();
     for attribute in attributes {
@@ -54,7 +55,8 @@ fn written_faults(decl: &TagDecl, attributes: &[Attribute]) -> Faults
 
 // The faults of a name that is given beside these attributes, where there is one.
 fn named_faults(decl: &TagDecl, attributes: &[Attribute], name: Option<&str>) -> Faults
-    ensures { result ≡ in_order (names_faults decl.now (attribute_names attributes.now) (option_to_list (option_map (λ name. name.now) name.entry))) }
+    ensures { result ≡ in_order (names_faults decl.now (attribute_names attributes.now)
+        (option_to_list (option_map (λ name. name.now) name.entry))) }
 {
     match name {
         Some(name) => given_faults(decl, attributes, name),
@@ -64,7 +66,8 @@ fn named_faults(decl: &TagDecl, attributes: &[Attribute], name: Option<&str>) ->
 
 // The faults of the name that `jsp:attribute` gives.
 fn part_faults(decl: &TagDecl, attributes: &[Attribute], part: Standing) -> Faults
-    ensures { result ≡ in_order (names_faults decl.now (attribute_names attributes.now) (part_names_in (standing_made part.entry ∷ []))) }
+    ensures { result ≡ in_order (names_faults decl.now (attribute_names attributes.now)
+        (part_names_in (standing_made part.entry ∷ []))) }
 {
     match part {
         Standing::Element {
@@ -78,7 +81,8 @@ fn part_faults(decl: &TagDecl, attributes: &[Attribute], part: Standing) -> Faul
 
 // The faults of the names that `jsp:attribute` gives.
 fn parts_faults(decl: &TagDecl, attributes: &[Attribute], parts: &[Standing]) -> Faults
-    ensures { result ≡ in_order (names_faults decl.now (attribute_names attributes.now) (part_names_in (map standing_made parts.now))) }
+    ensures { result ≡ in_order (names_faults decl.now (attribute_names attributes.now)
+        (part_names_in (map standing_made parts.now))) }
 {
     let mut faults = Faults::none();
     for part in parts {
@@ -90,7 +94,8 @@ fn parts_faults(decl: &TagDecl, attributes: &[Attribute], parts: &[Standing]) ->
 // The faults of the names that are given.
 #[tactic(auto, using(crate::proofs::CallLemmas::names_joined))]
 fn names_faults(decl: &TagDecl, given: Given) -> Faults
-    ensures { result ≡ in_order (names_faults decl.now (attribute_names given.entry.attributes.now) (names_made given.entry)) }
+    ensures { result ≡ in_order (names_faults decl.now (attribute_names given.entry.attributes.now)
+        (names_made given.entry)) }
 {
     let attributes = given.attributes.as_slice();
     written_faults(decl, attributes).and(parts_faults(decl, attributes, given.parts))
@@ -116,7 +121,8 @@ fn is_empty_kind(kind: BodyKind) -> bool
 
 // What stands in the body of an element, where parts may stand there.
 fn parts_in<'b>(head: &Element, standing: &'b [Standing<'b>]) -> &'b [Standing<'b>]
-    ensures { map standing_made result.now ≡ (if takes_parts (opened_of head.now).tag then map standing_made standing.now else []) }
+    ensures { map standing_made result.now ≡ (if takes_parts (opened_of head.now).tag then map standing_made
+        standing.now else []) }
 {
     if takes_parts(head) {
         standing
@@ -129,7 +135,8 @@ fn parts_in<'b>(head: &Element, standing: &'b [Standing<'b>]) -> &'b [Standing<'
 #[tactic(auto, using(crate::proofs::CallLemmas::given_parts))]
 fn given_to<'b>(head: &'b Element, body: Body<'b>) -> Given<'b>
     ensures attributes { result.attributes.now ≡ head.now.attributes }
-    ensures names { (tree : Tree) → IsBody body.entry tree → names_made result ≡ given_names (opened_of head.now).tag tree }
+    ensures names { (tree : Tree) → IsBody body.entry tree → names_made result
+        ≡ given_names (opened_of head.now).tag tree }
 {
     Given {
         attributes: &head.attributes,
@@ -139,7 +146,9 @@ fn given_to<'b>(head: &'b Element, body: Body<'b>) -> Given<'b>
 
 // The faults of a call by what the tag file declares.
 fn declared_faults(decl: &TagDecl, head: &Element, body: Body) -> Faults
-    ensures { (tree : Tree) → IsBody body.entry tree → result ≡ in_order (declared_faults (Some decl.now) (opened_of head.now) tree (given_names (opened_of head.now).tag tree)) }
+    ensures { (tree : Tree) → IsBody body.entry tree →
+        result ≡ in_order (declared_faults (Some decl.now) (opened_of head.now) tree
+        (given_names (opened_of head.now).tag tree)) }
 {
     let given = given_to(head, body);
     let lacks = is_whole(head.closing) && lacks_required(decl.attributes.as_slice(), given);
@@ -152,7 +161,8 @@ fn declared_faults(decl: &TagDecl, head: &Element, body: Body) -> Faults
 // The same, where its declarations have no fault.
 fn faults_by(decl: Option<&TagDecl>, head: &Element, body: Body) -> Faults
     ensures { (tree : Tree) → IsBody body.entry tree
-        → result ≡ in_order (declared_faults (option_map (λ decl. decl.now) decl.entry) (opened_of head.now) tree (given_names (opened_of head.now).tag tree)) }
+        → result ≡ in_order (declared_faults (option_map (λ decl. decl.now) decl.entry)
+        (opened_of head.now) tree (given_names (opened_of head.now).tag tree)) }
 {
     match decl {
         None => Faults::none(),
@@ -162,7 +172,8 @@ fn faults_by(decl: Option<&TagDecl>, head: &Element, body: Body) -> Faults
 
 /// The faults of a call at its beginning, by the declaration where it has no fault.
 pub(crate) fn call_faults(decl: Option<&TagDecl>, head: &Element, body: Body) -> Faults
-    ensures { (tree : Tree) → IsBody body.entry tree → result ≡ in_order (call_faults (option_map (λ decl. decl.now) decl.entry) (opened_of head.now) tree) }
+    ensures { (tree : Tree) → IsBody body.entry tree →
+        result ≡ in_order (call_faults (option_map (λ decl. decl.now) decl.entry) (opened_of head.now) tree) }
 {
     let repeats = Given::of(head, body).repeats();
     Faults::one_if(repeats, TranslationFault::BadAttribute).and(split_faults(head, body).and(

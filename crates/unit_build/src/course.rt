@@ -58,10 +58,16 @@ impl<'r> Course<'r> {
         place: &'r Place,
     ) -> Result<Faults, AllocError>
         requires { IsOwn self.now }
-        ensures faults { IfOk result (λ faults. faults ≡ in_order (directive_faults (root_view self.old.root) self.old.before (directive name.now attributes.now place.now))) }
+        ensures faults { IfOk result (λ faults. faults
+            ≡ in_order (directive_faults (root_view self.old.root) self.old.before
+            (directive name.now attributes.now place.now))) }
         ensures root { OnOk result (self.new.root ≡ self.old.root) }
         ensures before { OnOk result (self.new.before
-            ≡ record { directives = self.old.before.directives ++ directive name.now attributes.now place.now ∷ []; prefixes = self.old.before.prefixes }) }
+            ≡ record {
+              directives = self.old.before.directives ++ directive name.now attributes.now place.now
+                  ∷ [];
+              prefixes = self.old.before.prefixes;
+            }) }
         ensures own { OnOk result (IsOwn self.new) }
     {
         let directive = Directive::new(alloc, name, attributes, place)?;
@@ -83,7 +89,11 @@ impl<'r> Course<'r> {
         requires { IsOwn self.now }
         ensures root { OnOk result (self.new.root ≡ self.old.root) }
         ensures before { OnOk result (self.new.before
-            ≡ record { directives = self.old.before.directives; prefixes = self.old.before.prefixes ++ prefixes_in_text text.now }) }
+            ≡ record {
+              directives = self.old.before.directives;
+              prefixes = self.old.before.prefixes
+                  ++ prefixes_in_text text.now;
+            }) }
         ensures own { OnOk result (IsOwn self.new) }
     {
         self.before.meet_text(text)

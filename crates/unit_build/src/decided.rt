@@ -78,7 +78,8 @@ fn push_core(
     directives: &Registered,
     prefix: Option<&str>,
 ) -> Result<(), AllocError>
-    ensures { OnOk result (core.new ≡ core.old ++ core_in directives.now (option_map (λ prefix. prefix.now) prefix.entry)) }
+    ensures { OnOk result (core.new ≡ core.old ++ core_in directives.now
+        (option_map (λ prefix. prefix.now) prefix.entry)) }
 {
     match prefix {
         Some(prefix) if is_core_prefix(directives, prefix) => core.push_copy(prefix),
@@ -119,7 +120,8 @@ impl<'r> Decided<'r> {
 
     /// The steps of the walk through it.
     pub fn steps(&self, alloc: Global) -> Result<Vec<Step<'r>>, AllocError>
-        ensures { IfOk result (λ steps. map step_made steps.items ≡ steps_of (root_view self.now).directives outermost (root_view self.now).nodes) }
+        ensures { IfOk result (λ steps. map step_made steps.items
+            ≡ steps_of (root_view self.now).directives outermost (root_view self.now).nodes) }
     {
         steps_of(alloc, &self.directives, &self.root.nodes)
     }
@@ -158,15 +160,22 @@ impl<'r> Decided<'r> {
         before: &mut Before<'r>,
         directive: Directive<'r>,
     ) -> Result<Faults, AllocError>
-        ensures faults { IfOk result (λ faults. faults ≡ in_order (met_faults stands (root_view self.now).first before.old directive.entry)) }
-        ensures before { OnOk result (before.new ≡ record { directives = before.old.directives ++ directive.entry ∷ []; prefixes = before.old.prefixes }) }
+        ensures faults { IfOk result (λ faults. faults
+            ≡ in_order (met_faults stands (root_view self.now).first before.old directive.entry)) }
+        ensures before { OnOk result (before.new
+            ≡ record {
+              directives = before.old.directives ++ directive.entry
+                  ∷ [];
+              prefixes = before.old.prefixes;
+            }) }
     {
         before.meet(stands, &self.first, directive)
     }
 
     /// The faults of what a directive declares in a tag file itself, behind these directives of it.
     pub fn declaring_faults(&self, own: &DeclaredBefore, directive: &Directive) -> Faults
-        ensures { result ≡ in_order (declaring_faults (attributes_of (root_directives (root_view self.now))) own.now directive.now) }
+        ensures { result ≡ in_order (declaring_faults (attributes_of (root_directives (root_view self.now)))
+            own.now directive.now) }
     {
         declaring_faults(&self.declared, own, directive)
     }

@@ -102,8 +102,10 @@ fn kind_faults(
     element: &PlacedElement,
     body: Body,
 ) -> Faults
-    ensures { (here : Around) → IsBody body.entry (flat (in_place element.now.body.items)) → here.around ≡ map host_made hosts.now → here.row ≡ option_map row_made row
-        → result ≡ in_order (kind_faults (λ prefix. contains_text prefix core.now) in_tag (option_map (λ decl. decl.now) decl.entry) (kind_made kind.now) here
+    ensures { (here : Around) → IsBody body.entry (flat (in_place element.now.body.items)) →
+        here.around ≡ map host_made hosts.now → here.row ≡ option_map row_made row
+        → result ≡ in_order (kind_faults (λ prefix. contains_text prefix core.now) in_tag
+        (option_map (λ decl. decl.now) decl.entry) (kind_made kind.now) here
         (opened_of element.now.head) (flat (in_place element.now.body.items))) }
 {
     let head = &element.head;
@@ -129,8 +131,10 @@ pub(crate) fn element_faults(
     here: Here,
     element: &PlacedElement,
 ) -> Result<Faults, AllocError>
-    ensures { IfOk result (λ faults. faults ≡ in_order (element_faults (λ prefix. contains_text prefix core.now) in_tag (option_map (λ decl. decl.now) decl.entry)
-        (kind_made kind.now) (here_made here.entry) (opened_of element.now.head) (flat (in_place element.now.body.items)))) }
+    ensures { IfOk result (λ faults. faults ≡ in_order
+        (element_faults (λ prefix. contains_text prefix core.now) in_tag (option_map (λ decl. decl.now) decl.entry)
+        (kind_made kind.now) (here_made here.entry) (opened_of element.now.head)
+        (flat (in_place element.now.body.items)))) }
 {
     let mut standing = Vec::new(alloc);
     push_standing(&element.body, &mut standing)?;
@@ -152,7 +156,8 @@ pub(crate) fn value_faults(
     kind: &Kind,
     attribute: &Attribute,
 ) -> Result<Faults, AllocError>
-    ensures { IfOk result (λ faults. faults ≡ in_order (value_faults (option_map (λ decl. decl.now) decl.entry) (kind_made kind.now) attribute.now)) }
+    ensures { IfOk result (λ faults. faults ≡ in_order
+        (value_faults (option_map (λ decl. decl.now) decl.entry) (kind_made kind.now) attribute.now)) }
 {
     let name = attribute.name.as_str();
     let parts = attribute.parts.as_slice();

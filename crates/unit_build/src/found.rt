@@ -75,7 +75,8 @@ fn bean_faults(bean: &Bean) -> Faults
 
 // The tag file at a path, where it was read.
 pub(crate) fn tag_in<'g>(path: &str, tags: &'g [Arc<Tag>]) -> Option<&'g Arc<Tag>>
-    ensures { option_map (λ tag. root_view tag.now.value) result ≡ find (λ root. bytes_eq root.path path.now) (map (λ tag. root_view tag.value) tags.now) }
+    ensures { option_map (λ tag. root_view tag.now.value) result
+        ≡ find (λ root. bytes_eq root.path path.now) (map (λ tag. root_view tag.value) tags.now) }
 {
     for tag in tags {
         if tag.root().path.as_str() == path {
@@ -142,7 +143,8 @@ impl<'t> Found<'t> {
     /// What a `jsp:useBean` of a class comes to: its faults.
     pub fn meet_bean(&mut self, alloc: Global, class: Option<&str>) -> Result<Faults, AllocError>
         ensures { IfOk result (λ faults. (before : Before) → IsBeanMet self.old self.new before faults
-            (bean_met (text_in self.old.site) (option_map (λ class. class.now) class.entry) (state_in before self.old))) }
+            (bean_met (text_in self.old.site) (option_map (λ class. class.now) class.entry)
+            (state_in before self.old))) }
     {
         match class {
             Some(class) => self.meet_class(alloc, class),
@@ -195,8 +197,10 @@ impl<'t> Found<'t> {
         class: &str,
         text: &Text,
     ) -> Result<Faults, AllocError>
-        ensures { IfOk result (λ faults. (before : Before) (path : List ℕ) → IsBeanRead self.old self.new before faults
-            (bean_again class.now path text.now (row_of class.now (map class_made self.old.beans.items)) (state_in before self.old))) }
+        ensures { IfOk result (λ faults. (before : Before) (path : List ℕ) →
+            IsBeanRead self.old self.new before faults
+            (bean_again class.now path text.now (row_of class.now (map class_made self.old.beans.items))
+            (state_in before self.old))) }
     {
         match bean_in(class, &self.beans) {
             Some(bean) => Ok(bean_faults(bean)),
@@ -206,8 +210,10 @@ impl<'t> Found<'t> {
 
     // Counts the file of a class, and reads it where it is within the limits.
     fn read_bean(&mut self, alloc: Global, class: &str, text: &Text) -> Result<Faults, AllocError>
-        ensures { IfOk result (λ faults. (before : Before) (path : List ℕ) → IsBeanRead self.old self.new before faults
-            (bean_counted class.now path text.now (counted (length text.now) self.old.counts) (state_in before self.old))) }
+        ensures { IfOk result (λ faults. (before : Before) (path : List ℕ) →
+            IsBeanRead self.old self.new before faults
+            (bean_counted class.now path text.now (counted (length text.now) self.old.counts)
+            (state_in before self.old))) }
     {
         match self.counts.count(text.len()) {
             Counted::Within => {

@@ -78,7 +78,8 @@ pub(crate) fn are_functions(before: &Before, el: &El) -> bool
 #[cycle(functions)]
 #[tactic(auto, using(el_reader::proofs::Rows::rows))]
 fn are_all_functions(before: &Before, items: &[El]) -> bool
-    ensures { result ≡ are_all_functions (is_function_prefix before.now.directives) (trees_of (map tree_of items.now)) }
+    ensures { result ≡ are_all_functions (is_function_prefix before.now.directives)
+        (trees_of (map tree_of items.now)) }
 {
     for item in items {
         if !are_functions(before, item) {
@@ -91,7 +92,8 @@ fn are_all_functions(before: &Before, items: &[El]) -> bool
 #[cycle(functions)]
 #[tactic(auto, using(el_reader::proofs::Rows::rows))]
 fn are_pairs_functions(before: &Before, pairs: &[(El, El)]) -> bool
-    ensures { result ≡ are_pairs_functions (is_function_prefix before.now.directives) (pairs_of (map pair_of pairs.now)) }
+    ensures { result ≡ are_pairs_functions (is_function_prefix before.now.directives)
+        (pairs_of (map pair_of pairs.now)) }
 {
     for (key, value) in pairs {
         if !are_functions(before, key) || !are_functions(before, value) {
@@ -105,7 +107,8 @@ fn are_pairs_functions(before: &Before, pairs: &[(El, El)]) -> bool
 #[cycle(functions)]
 #[tactic(auto, using(el_reader::proofs::Rows::rows, crate::proofs::FunctionLemmas::how_many_is))]
 fn is_call_of_functions(before: &Before, prefix: &str, name: &str, args: &[El]) -> bool
-    ensures { result ≡ (is_function (is_function_prefix before.now.directives) prefix.now name.now (how_many (trees_of (map tree_of args.now)))
+    ensures { result ≡ (is_function (is_function_prefix before.now.directives) prefix.now name.now
+        (how_many (trees_of (map tree_of args.now)))
         && are_all_functions (is_function_prefix before.now.directives) (trees_of (map tree_of args.now))) }
 {
     is_function(before, prefix, name, args.len()) && are_all_functions(before, args)

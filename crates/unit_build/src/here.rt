@@ -65,7 +65,8 @@ fn row_in(kind: &Kind) -> Option<Row>
 }
 
 fn row_of(kind: &Kind, head: &Element) -> Option<Row>
-    ensures { option_map row_made result ≡ (if takes_parts (opened_of head.now).tag then row_in (kind_made kind.now) else None) }
+    ensures { option_map row_made result ≡ (if takes_parts (opened_of head.now).tag then row_in
+        (kind_made kind.now) else None) }
 {
     if takes_parts(head) {
         row_in(kind)

@@ -88,7 +88,8 @@ fn call_kind(alloc: Global, folder: &str, name: &str) -> Result<Kind, AllocError
 
 // The element of this name whose prefix stands for that.
 fn target_kind(alloc: Global, name: &str, target: Option<&Target>) -> Result<Kind, AllocError>
-    ensures { IfOk result (λ kind. kind_made kind ≡ target_kind name.now (option_map (λ target. target.now) target.entry)) }
+    ensures { IfOk result (λ kind. kind_made kind
+        ≡ target_kind name.now (option_map (λ target. target.now) target.entry)) }
 {
     match target {
         None => Ok(Kind::Refused(TranslationFault::NoTag)),

@@ -48,7 +48,8 @@ pub(crate) fn meet_leaf<'r>(
     ensures root { OnOk result (course.new.root ≡ course.old.root) }
     ensures own { OnOk result (IsOwn course.new) }
     ensures met { OnOk result (IsRead found.old found.new (state_in course.new.before found.new)
-        (leaf_met (root_view course.old.root) (here_made here.entry) leaf.now place.now (state_in course.old.before found.old))) }
+        (leaf_met (root_view course.old.root) (here_made here.entry) leaf.now place.now
+        (state_in course.old.before found.old))) }
 {
     match leaf {
         Leaf::Text(text) => {

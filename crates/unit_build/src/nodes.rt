@@ -39,7 +39,8 @@ fn add_nodes(
     nodes: &[PlacedNode],
     made: &mut Vec<UnitNode>,
 ) -> Result<(), AllocError>
-    ensures { OnOk result (nodes_of made.new.items ≡ joined (nodes_of made.old.items) (built directives.now (in_place nodes.now))) }
+    ensures { OnOk result (nodes_of made.new.items
+        ≡ joined (nodes_of made.old.items) (built directives.now (in_place nodes.now))) }
 {
     for node in nodes {
         add_node(alloc, directives, node, made)?;
@@ -55,7 +56,8 @@ fn add_node(
     node: &PlacedNode,
     made: &mut Vec<UnitNode>,
 ) -> Result<(), AllocError>
-    ensures { OnOk result (nodes_of made.new.items ≡ joined (nodes_of made.old.items) (built directives.now (node_in_place node.now))) }
+    ensures { OnOk result (nodes_of made.new.items
+        ≡ joined (nodes_of made.old.items) (built directives.now (node_in_place node.now))) }
 {
     match node {
         PlacedNode::Leaf(leaf, place) => add_leaf(alloc, leaf, place, made),
@@ -74,7 +76,9 @@ fn add_element(
     placed: &PlacedElement,
     made: &mut Vec<UnitNode>,
 ) -> Result<(), AllocError>
-    ensures { OnOk result (nodes_of made.new.items ≡ joined (nodes_of made.old.items) (built directives.now (element (opened_of placed.now.head) (in_place placed.now.body.items) done))) }
+    ensures { OnOk result (nodes_of made.new.items
+        ≡ joined (nodes_of made.old.items) (built directives.now
+        (element (opened_of placed.now.head) (in_place placed.now.body.items) done))) }
 {
     match kind_of(alloc, directives, &placed.head)? {
         Kind::Core(name, _) => {
@@ -98,7 +102,8 @@ fn add_action(
     made: &mut Vec<UnitNode>,
 ) -> Result<(), AllocError>
     ensures { OnOk result (nodes_of made.new.items
-        ≡ joined (nodes_of made.old.items) (action (action_of (kind_view kind) (opened_of placed.now.head)) (built directives.now (in_place placed.now.body.items)) nothing)) }
+        ≡ joined (nodes_of made.old.items) (action (action_of (kind_view kind) (opened_of placed.now.head))
+        (built directives.now (in_place placed.now.body.items)) nothing)) }
 {
     let mut body = Vec::new(alloc);
     add_nodes(alloc, directives, &placed.body, &mut body)?;
@@ -114,7 +119,8 @@ fn action_node(
     head: &Element,
     body: Vec<UnitNode>,
 ) -> Result<UnitNode, AllocError>
-    ensures { IfOk result (λ node. node_of node ≡ action (action_of (kind_view kind) (opened_of head.now)) (nodes_of body.items) nothing) }
+    ensures { IfOk result (λ node. node_of node ≡ action (action_of (kind_view kind) (opened_of head.now))
+        (nodes_of body.items) nothing) }
 {
     Ok(UnitNode::Action(Action {
         kind,
@@ -143,7 +149,8 @@ fn add_leaf(
     place: &Place,
     made: &mut Vec<UnitNode>,
 ) -> Result<(), AllocError>
-    ensures { OnOk result (nodes_of made.new.items ≡ joined (nodes_of made.old.items) (leaf_before leaf.now place.now nothing)) }
+    ensures { OnOk result (nodes_of made.new.items
+        ≡ joined (nodes_of made.old.items) (leaf_before leaf.now place.now nothing)) }
 {
     match leaf {
         Leaf::Text(text) => {

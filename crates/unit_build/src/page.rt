@@ -23,7 +23,8 @@ use unit_source::{Root, directives};
 
 /// The page that was read, with the tag files and the beans that were found.
 pub(crate) fn page_of(alloc: Global, root: &Root, found: Found) -> Result<Page, AllocError>
-    ensures { IfOk result (λ page. (before : Before) → page_view page ≡ page_of (root_view root.now) (state_in before found.entry)) }
+    ensures { IfOk result (λ page. (before : Before) → page_view page
+        ≡ page_of (root_view root.now) (state_in before found.entry)) }
 {
     Ok(Page {
         path: root.path.copy()?,
@@ -36,7 +37,8 @@ pub(crate) fn page_of(alloc: Global, root: &Root, found: Found) -> Result<Page, 
 
 // The nodes of a page or a tag file.
 fn root_nodes(alloc: Global, root: &Root) -> Result<Vec<UnitNode>, AllocError>
-    ensures { IfOk result (λ nodes. nodes_of nodes.items ≡ built (root_view root.now).directives (root_view root.now).nodes) }
+    ensures { IfOk result (λ nodes. nodes_of nodes.items ≡ built (root_view root.now).directives
+        (root_view root.now).nodes) }
 {
     let directives = Registered::new(alloc, directives(alloc, &root.nodes)?)?;
     built_nodes(alloc, &directives, &root.nodes)
@@ -57,7 +59,8 @@ fn tag_file(alloc: Global, root: &Root) -> Result<TagFile, AllocError>
 
 // The tag files that were read.
 fn tag_files(alloc: Global, tags: &[Arc<Tag>]) -> Result<Vec<TagFile>, AllocError>
-    ensures { IfOk result (λ files. map tag_view files.items ≡ map tag_file (map (λ tag. root_view tag.value) tags.now)) }
+    ensures { IfOk result (λ files. map tag_view files.items
+        ≡ map tag_file (map (λ tag. root_view tag.value) tags.now)) }
 {
     let mut files = Vec::with_capacity(alloc, tags.len())?;
     for tag in tags {

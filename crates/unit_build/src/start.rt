@@ -37,7 +37,8 @@ use unit_source::PlacedElement;
 // What the class of a `jsp:useBean` comes to.
 #[tactic(auto, using(crate::proofs::CalledLemmas::called_bean))]
 fn meet_bean(alloc: Global, head: &Element, found: &mut Found) -> Result<Called, AllocError>
-    ensures { IfOk result (λ answer. (before : Before) → IsCalled found.old found.new before answer.0 (option_map (λ tag. root_view tag.value) answer.1)
+    ensures { IfOk result (λ answer. (before : Before) →
+        IsCalled found.old found.new before answer.0 (option_map (λ tag. root_view tag.value) answer.1)
         (bean_called (text_in found.old.site) (opened_of head.now).tag (state_in before found.old))) }
 {
     let faults = found.meet_bean(alloc, head.attributes.plain("class"))?;
@@ -52,7 +53,8 @@ fn meet_file(
     head: &Element,
     found: &mut Found,
 ) -> Result<Called, AllocError>
-    ensures { IfOk result (λ answer. (before : Before) → IsCalled found.old found.new before answer.0 (option_map (λ tag. root_view tag.value) answer.1)
+    ensures { IfOk result (λ answer. (before : Before) →
+        IsCalled found.old found.new before answer.0 (option_map (λ tag. root_view tag.value) answer.1)
         (file_met (text_in found.old.site) (kind_made kind.now) (opened_of head.now).tag (state_in before found.old))) }
 {
     match kind {
@@ -70,8 +72,10 @@ fn meet_nested(
     head: &Element,
     found: &mut Found,
 ) -> Result<Called, AllocError>
-    ensures { IfOk result (λ answer. (before : Before) → IsCalled found.old found.new before answer.0 (option_map (λ tag. root_view tag.value) answer.1)
-        (file_met (text_in found.old.site) (kind_made kind.now) (opened_of head.now).tag (nested (here_made here.entry) (state_in before found.old)))) }
+    ensures { IfOk result (λ answer. (before : Before) →
+        IsCalled found.old found.new before answer.0 (option_map (λ tag. root_view tag.value) answer.1)
+        (file_met (text_in found.old.site) (kind_made kind.now) (opened_of head.now).tag
+        (nested (here_made here.entry) (state_in before found.old)))) }
 {
     found.counts.nest(here.deep);
     meet_file(alloc, kind, head, found)
@@ -79,7 +83,9 @@ fn meet_nested(
 
 // The tag file that is called, where it was read.
 fn called_tag(kind: &Kind, found: &Found) -> Result<Option<Arc<Tag>>, AllocError>
-    ensures { IfOk result (λ tag. (before : Before) → declaration_of (option_map (λ tag. root_view tag.value) tag) ≡ declaration_in (kind_made kind.now) (state_in before found.now)) }
+    ensures { IfOk result (λ tag. (before : Before) →
+        declaration_of (option_map (λ tag. root_view tag.value) tag) ≡ declaration_in (kind_made kind.now)
+        (state_in before found.now)) }
 {
     match kind {
         Kind::Call(path) => match tag_in(path.as_str(), &found.tags) {
@@ -92,7 +98,8 @@ fn called_tag(kind: &Kind, found: &Found) -> Result<Option<Arc<Tag>>, AllocError
 
 // What a tag file declares, where its declarations have no fault.
 fn declared(tag: Option<&Tag>) -> Option<&TagDecl>
-    ensures { option_map (λ decl. decl.now) result ≡ declaration_of (option_map (λ tag. root_view tag.now) tag.entry) }
+    ensures { option_map (λ decl. decl.now) result
+        ≡ declaration_of (option_map (λ tag. root_view tag.now) tag.entry) }
 {
     tag?.declared()
 }
@@ -107,7 +114,8 @@ fn meet_value(
     found: &mut Found,
 ) -> Result<(), AllocError>
     ensures { OnOk result (IsMet found.old found.new (faults_at attribute.now.place
-        (value_faults (option_map (λ decl. decl.now) decl.entry) (kind_made kind.now) attribute.now ++ part_faults (is_function_prefix course.now.before.directives) attribute.now.parts))) }
+        (value_faults (option_map (λ decl. decl.now) decl.entry) (kind_made kind.now) attribute.now
+        ++ part_faults (is_function_prefix course.now.before.directives) attribute.now.parts))) }
 {
     let taken = value_faults(alloc, decl, kind, attribute)?;
     let parts = part_faults(alloc, &course.before, attribute.parts.as_slice())?;
@@ -124,7 +132,8 @@ fn meet_values(
     found: &mut Found,
 ) -> Result<(), AllocError>
     ensures { OnOk result (IsMet found.old found.new
-        (values_met (is_function_prefix course.now.before.directives) (option_map (λ decl. decl.now) decl.entry) (kind_made kind.now) attributes.now)) }
+        (values_met (is_function_prefix course.now.before.directives)
+        (option_map (λ decl. decl.now) decl.entry) (kind_made kind.now) attributes.now)) }
 {
     for attribute in attributes {
         meet_value(alloc, course, decl, kind, attribute, found)?;
@@ -143,7 +152,8 @@ fn meet_faults(
     found: &mut Found,
 ) -> Result<(), AllocError>
     ensures { OnOk result ((before : Before) (comes : List TranslationFault) → faults ≡ in_order comes
-        → IsMet found.old found.new (start_events (root_view course.now.root) (kind_made kind.now) (here_made here.entry) (opened_of element.now.head) (flat (in_place element.now.body.items))
+        → IsMet found.old found.new (start_events (root_view course.now.root) (kind_made kind.now)
+        (here_made here.entry) (opened_of element.now.head) (flat (in_place element.now.body.items))
         comes course.now.before (declaration_in (kind_made kind.now) (state_in before found.old)))) }
 {
     let tag = called_tag(kind, found)?;
@@ -171,9 +181,12 @@ pub(crate) fn meet_start(
     element: &PlacedElement,
     found: &mut Found,
 ) -> Result<Option<Arc<Tag>>, AllocError>
-    ensures { IfOk result (λ entered. IsStarted found.old found.new (root_view course.now.root) (kind_made kind.now) (here_made here.entry)
-        (opened_of element.now.head) (flat (in_place element.now.body.items)) course.now.before (option_map (λ tag. root_view tag.value) entered)
-        (file_met (text_in found.old.site) (kind_made kind.now) (opened_of element.now.head).tag (nested (here_made here.entry) (state_in course.now.before found.old)))) }
+    ensures { IfOk result (λ entered. IsStarted found.old found.new (root_view course.now.root)
+        (kind_made kind.now) (here_made here.entry)
+        (opened_of element.now.head) (flat (in_place element.now.body.items)) course.now.before
+        (option_map (λ tag. root_view tag.value) entered)
+        (file_met (text_in found.old.site) (kind_made kind.now) (opened_of element.now.head).tag
+        (nested (here_made here.entry) (state_in course.now.before found.old)))) }
 {
     let (faults, entered) = meet_nested(alloc, here, kind, &element.head, found)?;
     meet_faults(alloc, course, here, kind, element, faults, found)?;

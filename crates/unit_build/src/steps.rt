@@ -46,7 +46,8 @@ pub(crate) fn steps_of<'r>(
     directives: &Registered,
     nodes: &'r [PlacedNode],
 ) -> Result<Vec<Step<'r>>, AllocError>
-    ensures { IfOk result (λ steps. map step_made steps.items ≡ steps_of directives.now outermost (in_place nodes.now)) }
+    ensures { IfOk result (λ steps. map step_made steps.items ≡ steps_of directives.now outermost
+        (in_place nodes.now)) }
 {
     let mut steps = Vec::new(alloc);
     push_steps(alloc, directives, Here::outermost(), nodes, &mut steps)?;
@@ -62,8 +63,10 @@ fn push_steps<'r>(
     nodes: &'r [PlacedNode],
     steps: &mut Vec<Step<'r>>,
 ) -> Result<Here<'r>, AllocError>
-    ensures here { IfOk result (λ behind. here_made behind ≡ behind_all directives.now (in_place nodes.now) (here_made here.entry)) }
-    ensures steps { OnOk result (map step_made steps.new.items ≡ map step_made steps.old.items ++ steps_of directives.now (here_made here.entry) (in_place nodes.now)) }
+    ensures here { IfOk result (λ behind. here_made behind ≡ behind_all directives.now (in_place nodes.now)
+        (here_made here.entry)) }
+    ensures steps { OnOk result (map step_made steps.new.items ≡ map step_made steps.old.items
+        ++ steps_of directives.now (here_made here.entry) (in_place nodes.now)) }
 {
     let mut behind = here;
     for node in nodes {
@@ -80,8 +83,10 @@ fn push_node<'r>(
     node: &'r PlacedNode,
     steps: &mut Vec<Step<'r>>,
 ) -> Result<Here<'r>, AllocError>
-    ensures here { IfOk result (λ behind. here_made behind ≡ behind_all directives.now (node_in_place node.now) (here_made here.entry)) }
-    ensures steps { OnOk result (map step_made steps.new.items ≡ map step_made steps.old.items ++ steps_of directives.now (here_made here.entry) (node_in_place node.now)) }
+    ensures here { IfOk result (λ behind. here_made behind
+        ≡ behind_all directives.now (node_in_place node.now) (here_made here.entry)) }
+    ensures steps { OnOk result (map step_made steps.new.items ≡ map step_made steps.old.items
+        ++ steps_of directives.now (here_made here.entry) (node_in_place node.now)) }
 {
     match node {
         PlacedNode::Leaf(leaf, place) => {
@@ -107,9 +112,11 @@ fn push_element<'r>(
     steps: &mut Vec<Step<'r>>,
 ) -> Result<Here<'r>, AllocError>
     ensures here { IfOk result (λ behind. here_made behind
-        ≡ behind_all directives.now (element_placed (opened_of element.now.head) (in_place element.now.body.items) done) (here_made here.entry)) }
+        ≡ behind_all directives.now (element_placed (opened_of element.now.head)
+        (in_place element.now.body.items) done) (here_made here.entry)) }
     ensures steps { OnOk result (map step_made steps.new.items
-        ≡ map step_made steps.old.items ++ steps_of directives.now (here_made here.entry) (element_placed (opened_of element.now.head) (in_place element.now.body.items) done)) }
+        ≡ map step_made steps.old.items ++ steps_of directives.now (here_made here.entry)
+        (element_placed (opened_of element.now.head) (in_place element.now.body.items) done)) }
 {
     let kind = kind_of(alloc, directives, &element.head)?;
     let within = here.within(&kind, &element.head);
@@ -132,9 +139,11 @@ fn push_include<'r>(
     include: &'r PlacedInclude,
     steps: &mut Vec<Step<'r>>,
 ) -> Result<Here<'r>, AllocError>
-    ensures here { IfOk result (λ behind. here_made behind ≡ behind_all directives.now (in_place include.now.body.items) (here_made here.entry)) }
+    ensures here { IfOk result (λ behind. here_made behind
+        ≡ behind_all directives.now (in_place include.now.body.items) (here_made here.entry)) }
     ensures steps { OnOk result (map step_made steps.new.items
-        ≡ map step_made steps.old.items ++ steps_of directives.now (here_made here.entry) (include_placed include.now.directive include.now.entry (in_place include.now.body.items) done)) }
+        ≡ map step_made steps.old.items ++ steps_of directives.now (here_made here.entry)
+        (include_placed include.now.directive include.now.entry (in_place include.now.body.items) done)) }
 {
     steps.push(Step::Include {
         directive: &include.directive,

@@ -16,7 +16,8 @@ pub(crate) fn expression_faults(
     before: &Before,
     text: &str,
 ) -> Result<Faults, AllocError>
-    ensures { IfOk result (λ faults. faults ≡ in_order (expression_faults (is_function_prefix before.now.directives) text.now)) }
+    ensures { IfOk result (λ faults. faults ≡ in_order
+        (expression_faults (is_function_prefix before.now.directives) text.now)) }
 {
     match read_el(alloc, text) {
         Ok(el) => Ok(Faults::one_if(!are_functions(before, &el), TranslationFault::NoFunction)),
@@ -27,7 +28,8 @@ pub(crate) fn expression_faults(
 
 // The faults of a part of a value.
 fn part_fault(alloc: Global, before: &Before, part: &Part) -> Result<Faults, AllocError>
-    ensures { IfOk result (λ faults. faults ≡ in_order (part_faults (is_function_prefix before.now.directives) (part.now ∷ []))) }
+    ensures { IfOk result (λ faults. faults ≡ in_order
+        (part_faults (is_function_prefix before.now.directives) (part.now ∷ []))) }
 {
     match part {
         Part::Text(_) => Ok(Faults::none()),
@@ -42,7 +44,8 @@ pub(crate) fn part_faults(
     before: &Before,
     parts: &[Part],
 ) -> Result<Faults, AllocError>
-    ensures { IfOk result (λ faults. faults ≡ in_order (part_faults (is_function_prefix before.now.directives) parts.now)) }
+    ensures { IfOk result (λ faults. faults ≡ in_order
+        (part_faults (is_function_prefix before.now.directives) parts.now)) }
 {
     let mut faults = Faults::none();
     for part in parts {

@@ -48,7 +48,8 @@ fn take_start(
 ) -> Result<(), AllocError>
     ensures { OnOk result (IsRead found.old found.new (state_in course.now.before found.new)
         (step_met (text_in found.old.site) (root_view course.now.root) (met_within deep (text_in found.old.site))
-        (start_step (here_made here.entry) (kind_made kind.now) (opened_of element.now.head) (flat (in_place element.now.body.items))) (state_in course.now.before found.old))) }
+        (start_step (here_made here.entry) (kind_made kind.now) (opened_of element.now.head)
+        (flat (in_place element.now.body.items))) (state_in course.now.before found.old))) }
 {
     match meet_start(alloc, course, here, kind, element, found)? {
         Some(tag) => read_root(alloc, tag.root(), deep, found),
@@ -68,9 +69,11 @@ fn take_step<'r>(
     requires { IsOwn course.now }
     ensures root { OnOk result (course.new.root ≡ course.old.root) }
     ensures own { OnOk result (IsOwn course.new) }
-    ensures out { IfOk result (λ count. count ≡ left_out (step_made step.now) (state_in course.old.before found.old)) }
+    ensures out { IfOk result (λ count. count
+        ≡ left_out (step_made step.now) (state_in course.old.before found.old)) }
     ensures met { OnOk result (IsRead found.old found.new (state_in course.new.before found.new)
-        (step_met (text_in found.old.site) (root_view course.old.root) (met_within deep (text_in found.old.site)) (step_made step.now) (state_in course.old.before found.old))) }
+        (step_met (text_in found.old.site) (root_view course.old.root)
+        (met_within deep (text_in found.old.site)) (step_made step.now) (state_in course.old.before found.old))) }
 {
     match step {
         Step::Leaf { here, leaf, place } => {
@@ -108,7 +111,9 @@ fn take_steps<'r>(
 ) -> Result<(), AllocError>
     requires { IsOwn course.now }
     ensures { OnOk result (IsRead found.old found.new (state_in course.new.before found.new)
-        (steps_met (text_in found.old.site) (root_view course.old.root) (met_within deep (text_in found.old.site)) 0 (map step_made steps.now) (state_in course.old.before found.old))) }
+        (steps_met (text_in found.old.site) (root_view course.old.root)
+        (met_within deep (text_in found.old.site)) 0 (map step_made steps.now)
+        (state_in course.old.before found.old))) }
 {
     let mut left_out = 0;
     for step in steps {

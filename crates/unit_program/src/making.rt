@@ -35,7 +35,8 @@ pub fn program(alloc: Global, page: &Page) -> Result<Program, AllocError>
 
 // The codes of the tag files of a page's unit.
 fn tag_programs(alloc: Global, page: &Page) -> Result<Listed<TagProgram>, AllocError>
-    ensures { IfOk result (λ tags. map tag_of tags ≡ map (tag_code_of (page_of (page_view page.now))) (page_of (page_view page.now)).tags) }
+    ensures { IfOk result (λ tags. map tag_of tags ≡ map (tag_code_of (page_of (page_view page.now)))
+        (page_of (page_view page.now)).tags) }
 {
     programs();
     let mut tags = Listed::empty(alloc);
@@ -48,7 +49,8 @@ fn tag_programs(alloc: Global, page: &Page) -> Result<Listed<TagProgram>, AllocE
 
 // A tag file with its code.
 fn tag_program(alloc: Global, tag: &TagFile, code: CheckedCode) -> Result<TagProgram, AllocError>
-    ensures { IfOk result (λ made. tag_of made ≡ record { path = tag.now.path; decl = tag.now.decl; settings = tag.now.settings; code = code }) }
+    ensures { IfOk result (λ made. tag_of made
+        ≡ record { path = tag.now.path; decl = tag.now.decl; settings = tag.now.settings; code = code }) }
 {
     Ok(TagProgram {
         path: tag.path.copy()?,
@@ -65,8 +67,10 @@ fn file_code(
     path: &Path,
     written: &[UnitNode],
 ) -> Result<CheckedCode, AllocError>
-    requires { CodeFits (code_of (page_of (page_view page.now)) (file_place path.now) (shape_of (nodes_of written.now))) }
-    ensures { IfOk result (λ code. code ≡ code_of (page_of (page_view page.now)) (file_place path.now) (shape_of (nodes_of written.now))) }
+    requires { CodeFits (code_of (page_of (page_view page.now)) (file_place path.now)
+        (shape_of (nodes_of written.now))) }
+    ensures { IfOk result (λ code. code ≡ code_of (page_of (page_view page.now)) (file_place path.now)
+        (shape_of (nodes_of written.now))) }
 {
     let acts = acts(alloc, written)?;
     let part = nodes(alloc, page, &Shape::empty(alloc)?, &acts)?;

@@ -46,8 +46,10 @@ pub(crate) fn read_brought(
     own: &[WrittenDirective],
     names: &mut Listed<Path>,
 ) -> Result<Brought, AllocError>
-    ensures brought { IfOk result (λ brought. brought ≡ brought_by (firsts_by (text_in files.old) chain.now (one_file bytes) own.now)) }
-    ensures names { OnOk result (names.new ≡ names.old ++ brought_names (firsts_by (text_in files.old) chain.now (one_file bytes) own.now)) }
+    ensures brought { IfOk result (λ brought. brought
+        ≡ brought_by (firsts_by (text_in files.old) chain.now (one_file bytes) own.now)) }
+    ensures names { OnOk result (names.new ≡ names.old ++ brought_names
+        (firsts_by (text_in files.old) chain.now (one_file bytes) own.now)) }
     ensures files { files.new ≡ files.old }
 {
     let alloc = files.alloc();

@@ -19,8 +19,10 @@ pub(crate) fn fill_nodes(
     nodes: Vec<PlacedNode>,
     found: &mut VecDeque<FoundNodes>,
 ) -> Result<Vec<PlacedNode>, AllocError>
-    ensures nodes { IfOk result (λ all. in_place all.items ≡ (filled (in_place nodes.items) (map found_of found.old.items)).nodes) }
-    ensures left { OnOk result (map found_of found.new.items ≡ (filled (in_place nodes.items) (map found_of found.old.items)).left) }
+    ensures nodes { IfOk result (λ all. in_place all.items
+        ≡ (filled (in_place nodes.items) (map found_of found.old.items)).nodes) }
+    ensures left { OnOk result (map found_of found.new.items
+        ≡ (filled (in_place nodes.items) (map found_of found.old.items)).left) }
 {
     let mut all = Vec::new(alloc);
     for node in nodes {
@@ -37,8 +39,10 @@ fn fill_node(
     node: PlacedNode,
     found: &mut VecDeque<FoundNodes>,
 ) -> Result<PlacedNode, AllocError>
-    ensures node { IfOk result (λ made. node_in_place made ≡ (filled (node_in_place node) (map found_of found.old.items)).nodes) }
-    ensures left { OnOk result (map found_of found.new.items ≡ (filled (node_in_place node) (map found_of found.old.items)).left) }
+    ensures node { IfOk result (λ made. node_in_place made
+        ≡ (filled (node_in_place node) (map found_of found.old.items)).nodes) }
+    ensures left { OnOk result (map found_of found.new.items
+        ≡ (filled (node_in_place node) (map found_of found.old.items)).left) }
 {
     match node {
         PlacedNode::Element(element) => {
@@ -55,8 +59,11 @@ fn fill_node(
 // An include directive with what was found there, where something is left.
 #[tactic(auto, using(crate::proofs::PlacedLemmas::include_placed))]
 fn fill_include(include: PlacedInclude, found: &mut VecDeque<FoundNodes>) -> PlacedNode
-    ensures node { node_in_place result ≡ (filled (included include.directive include.entry (in_place include.body.items) done) (map found_of found.old.items)).nodes }
-    ensures left { map found_of found.new.items ≡ (filled (included include.directive include.entry (in_place include.body.items) done) (map found_of found.old.items)).left }
+    ensures node { node_in_place result ≡ (filled (included include.directive include.entry
+        (in_place include.body.items) done) (map found_of found.old.items)).nodes }
+    ensures left { map found_of found.new.items
+        ≡ (filled (included include.directive include.entry (in_place include.body.items) done)
+        (map found_of found.old.items)).left }
 {
     match found.pop_front() {
         Some(first) => include_node(include.directive, first.entry, first.nodes),

@@ -93,7 +93,8 @@ pub(crate) fn read_first(
     file: &SourceFile,
     found: &mut First,
 ) -> Result<(), AllocError>
-    ensures first { OnOk result (found.new ≡ gathered found.old (first_within deep (text_in files.old) chain.now found.old.volume file.now.path file.now.text)) }
+    ensures first { OnOk result (found.new ≡ gathered found.old
+        (first_within deep (text_in files.old) chain.now found.old.volume file.now.path file.now.text)) }
     ensures files { files.new ≡ files.old }
 {
     if deep == 0 {
@@ -112,7 +113,9 @@ fn read_all(
     own: &[WrittenDirective],
     found: &mut First,
 ) -> Result<(), AllocError>
-    ensures first { OnOk result (found.new ≡ gathered found.old (first_all (first_within deep (text_in files.old) chain.now) (text_in files.old) chain.now found.old.volume own.now)) }
+    ensures first { OnOk result (found.new ≡ gathered found.old
+        (first_all (first_within deep (text_in files.old) chain.now) (text_in files.old)
+        chain.now found.old.volume own.now)) }
     ensures files { files.new ≡ files.old }
 {
     for directive in own {
@@ -131,7 +134,9 @@ pub(crate) fn read_included(
     directive: &WrittenDirective,
     found: &mut First,
 ) -> Result<(), AllocError>
-    ensures first { OnOk result (found.new ≡ gathered found.old (first_file (first_within deep (text_in files.old) chain.now) (text_in files.old) chain.now found.old.volume (included_path directive.now))) }
+    ensures first { OnOk result (found.new ≡ gathered found.old
+        (first_file (first_within deep (text_in files.old) chain.now) (text_in files.old)
+        chain.now found.old.volume (included_path directive.now))) }
     ensures files { files.new ≡ files.old }
 {
     let Some(path) = included_path(files.alloc(), directive)? else {

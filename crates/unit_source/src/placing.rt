@@ -20,7 +20,8 @@ pub(crate) fn file_nodes(
     tree: PageTree,
     trim: bool,
 ) -> Result<Vec<PlacedNode>, AllocError>
-    ensures { IfOk result (λ nodes. in_place nodes.items ≡ with_stop (page_of tree).stop (placed (trimmed trim (page_of tree).nodes))) }
+    ensures { IfOk result (λ nodes. in_place nodes.items
+        ≡ with_stop (page_of tree).stop (placed (trimmed trim (page_of tree).nodes))) }
 {
     let nodes = placed_file(alloc, tree.nodes, trim)?;
     match tree.stop {
@@ -32,7 +33,8 @@ pub(crate) fn file_nodes(
 // The nodes of a file in place, without white space alone where that is trimmed.
 #[tactic(auto, using(crate::proofs::PlacingLemmas::trims))]
 fn placed_file(alloc: Global, nodes: Vec<Node>, trim: bool) -> Result<Vec<PlacedNode>, AllocError>
-    ensures { IfOk result (λ placed_nodes. in_place placed_nodes.items ≡ placed (trimmed trim (trees_of nodes.items))) }
+    ensures { IfOk result (λ placed_nodes. in_place placed_nodes.items
+        ≡ placed (trimmed trim (trees_of nodes.items))) }
 {
     let trims = trim && !is_one_leaf(&nodes);
     placed_nodes(alloc, nodes, trims)
@@ -84,7 +86,8 @@ fn place_node(
     trims: bool,
     all: &mut Vec<PlacedNode>,
 ) -> Result<(), AllocError>
-    ensures { OnOk result (in_place all.new.items ≡ followed (in_place all.old.items) (placed (blanked trims (tree_of node)))) }
+    ensures { OnOk result (in_place all.new.items ≡ followed (in_place all.old.items)
+        (placed (blanked trims (tree_of node)))) }
 {
     match node {
         Node::Text { text, place } => place_text(text, place, trims, all),
@@ -123,7 +126,8 @@ fn place_text(
     trims: bool,
     all: &mut Vec<PlacedNode>,
 ) -> Result<(), AllocError>
-    ensures { OnOk result (in_place all.new.items ≡ followed (in_place all.old.items) (placed (blanked trims (tree_leaf (leaves.Text text) place nothing)))) }
+    ensures { OnOk result (in_place all.new.items ≡ followed (in_place all.old.items)
+        (placed (blanked trims (tree_leaf (leaves.Text text) place nothing)))) }
 {
     if trims && is_blank(text.as_str()) {
         return Ok(());
@@ -198,7 +202,8 @@ fn break_last(
     last: PlacedNode,
     front: Vec<PlacedNode>,
 ) -> Result<Vec<PlacedNode>, AllocError>
-    ensures { IfOk result (λ nodes. in_place nodes.items ≡ followed (in_place front.items) (with_fault fault (node_in_place last))) }
+    ensures { IfOk result (λ nodes. in_place nodes.items
+        ≡ followed (in_place front.items) (with_fault fault (node_in_place last))) }
 {
     match last {
         PlacedNode::Element(element) => break_at(alloc, fault, element, front),
@@ -218,7 +223,8 @@ fn break_behind(
     node: PlacedNode,
     fault: PageFault,
 ) -> Result<Vec<PlacedNode>, AllocError>
-    ensures { IfOk result (λ nodes. in_place nodes.items ≡ followed (followed (in_place front.items) (node_in_place node)) (broken fault done)) }
+    ensures { IfOk result (λ nodes. in_place nodes.items
+        ≡ followed (followed (in_place front.items) (node_in_place node)) (broken fault done)) }
 {
     let mut nodes = front;
     add(&mut nodes, node)?;
@@ -235,7 +241,9 @@ fn break_at(
     last: PlacedElement,
     front: Vec<PlacedNode>,
 ) -> Result<Vec<PlacedNode>, AllocError>
-    ensures { IfOk result (λ broken. in_place broken.items ≡ followed (in_place front.items) (with_fault fault (element (head_of last.head) (in_place last.body.items) done))) }
+    ensures { IfOk result (λ broken. in_place broken.items
+        ≡ followed (in_place front.items) (with_fault fault
+        (element (head_of last.head) (in_place last.body.items) done))) }
 {
     if !is_open(last.head.closing) {
         return break_behind(front, PlacedNode::Element(last), fault);

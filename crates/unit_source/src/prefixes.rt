@@ -15,7 +15,8 @@ pub(crate) fn push_own(
     name: &str,
     attributes: &Attributes,
 ) -> Result<(), AllocError>
-    ensures { OnOk result (prefixes.new ≡ prefixes.old ++ option_to_list (if bytes_eq name.now (codes "taglib") then value_of (codes "prefix") attributes.now else None)) }
+    ensures { OnOk result (prefixes.new ≡ prefixes.old ++ option_to_list
+        (if bytes_eq name.now (codes "taglib") then value_of (codes "prefix") attributes.now else None)) }
 {
     if name == "taglib" {
         if let Some(prefix) = attributes.plain("prefix") {

@@ -76,8 +76,11 @@ impl Progress {
         bytes: usize,
         own: &[WrittenDirective],
     ) -> Result<Brought, AllocError>
-        ensures brought { IfOk result (λ brought. brought ≡ brought_by (firsts_by (text_in files.old) chain.now (one_file bytes) own.now)) }
-        ensures names { OnOk result (self.new ≡ with_more (brought_names (firsts_by (text_in files.old) chain.now (one_file bytes) own.now)) self.old) }
+        ensures brought { IfOk result (λ brought. brought
+            ≡ brought_by (firsts_by (text_in files.old) chain.now (one_file bytes) own.now)) }
+        ensures names { OnOk result (self.new
+            ≡ with_more (brought_names (firsts_by (text_in files.old) chain.now (one_file bytes) own.now))
+            self.old) }
         ensures files { files.new ≡ files.old }
     {
         read_brought(files, chain, bytes, own, &mut self.names)
@@ -96,7 +99,8 @@ impl Progress {
         brought: &[BroughtPrefixes],
         byte: u32,
     ) -> Result<(), AllocError>
-        ensures { OnOk result (self.new ≡ gone self.old.names (with_prefixes (brought_at byte brought.now) self.old.going)) }
+        ensures { OnOk result (self.new ≡ gone self.old.names
+            (with_prefixes (brought_at byte brought.now) self.old.going)) }
     {
         push_brought(&mut self.prefixes, brought, byte)
     }

@@ -51,7 +51,8 @@ fn decided_settings(
 
 // The first reading of a file and of what it includes.
 fn first_reading(files: &mut UnitFiles, source: &SourceFile) -> Result<First, AllocError>
-    ensures first { IfOk result (λ first. first ≡ first_within most_deep (text_in files.old) [] (one_file (length source.now.text)) source.now.path source.now.text) }
+    ensures first { IfOk result (λ first. first ≡ first_within most_deep (text_in files.old) []
+        (one_file (length source.now.text)) source.now.path source.now.text) }
     ensures files { files.new ≡ files.old }
 {
     let mut first = First::new(files.alloc(), Volume::one(source.text().len()));
@@ -67,7 +68,8 @@ pub(crate) fn read_twice(
     source: &SourceFile,
     in_tag: bool,
 ) -> Result<Root, AllocError>
-    ensures root { IfOk result (λ root. root_view root ≡ rooted (text_in files.old) in_tag source.now.path source.now.text) }
+    ensures root { IfOk result (λ root. root_view root
+        ≡ rooted (text_in files.old) in_tag source.now.path source.now.text) }
     ensures files { files.new ≡ files.old }
 {
     let alloc = files.alloc();

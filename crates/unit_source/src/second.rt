@@ -49,10 +49,16 @@ pub(crate) fn read_alone(
     source: &SourceFile,
     progress: &mut Progress,
 ) -> Result<Alone, AllocError>
-    ensures brought { IfOk result (λ alone. alone.brought ≡ brought_by (firsts_by (text_in files.old) chain.now (one_file (length source.now.text)) (own_directives source.now.path source.now.text))) }
+    ensures brought { IfOk result (λ alone. alone.brought
+        ≡ brought_by (firsts_by (text_in files.old) chain.now (one_file (length source.now.text))
+        (own_directives source.now.path source.now.text))) }
     ensures nodes { IfOk result (λ alone. in_place alone.nodes.items
-        ≡ file_nodes settings.now progress.old.going.prefixes (brought_by (firsts_by (text_in files.old) chain.now (one_file (length source.now.text)) (own_directives source.now.path source.now.text))) source.now.path source.now.text) }
-    ensures progress { OnOk result (progress.new ≡ with_more (brought_names (firsts_by (text_in files.old) chain.now (one_file (length source.now.text)) (own_directives source.now.path source.now.text))) progress.old) }
+        ≡ file_nodes settings.now progress.old.going.prefixes
+        (brought_by (firsts_by (text_in files.old) chain.now (one_file (length source.now.text))
+        (own_directives source.now.path source.now.text))) source.now.path source.now.text) }
+    ensures progress { OnOk result (progress.new
+        ≡ with_more (brought_names (firsts_by (text_in files.old) chain.now
+        (one_file (length source.now.text)) (own_directives source.now.path source.now.text))) progress.old) }
     ensures files { files.new ≡ files.old }
 {
     let alloc = files.alloc();

@@ -42,8 +42,12 @@ pub(crate) fn read_file(
     source: &SourceFile,
     progress: &mut Progress,
 ) -> Result<Vec<PlacedNode>, AllocError>
-    ensures nodes { IfOk result (λ nodes. in_place nodes.items ≡ (spliced_within deep (text_in files.old) settings.now chain.now around source.now.path source.now.text progress.old.going).nodes) }
-    ensures progress { OnOk result (progress.new ≡ behind_file progress.old (spliced_within deep (text_in files.old) settings.now chain.now around source.now.path source.now.text progress.old.going)) }
+    ensures nodes { IfOk result (λ nodes. in_place nodes.items
+        ≡ (spliced_within deep (text_in files.old) settings.now chain.now around source.now.path
+        source.now.text progress.old.going).nodes) }
+    ensures progress { OnOk result (progress.new
+        ≡ behind_file progress.old (spliced_within deep (text_in files.old) settings.now chain.now around
+        source.now.path source.now.text progress.old.going)) }
     ensures files { files.new ≡ files.old }
 {
     let alloc = files.alloc();
@@ -70,8 +74,12 @@ fn read_nodes(
     nodes: Vec<PlacedNode>,
     progress: &mut Progress,
 ) -> Result<Vec<PlacedNode>, AllocError>
-    ensures nodes { IfOk result (λ all. in_place all.items ≡ (nodes_read (reads (text_in files.old) file.now) file.now.brought around (in_place nodes.items) progress.old.going).nodes) }
-    ensures progress { OnOk result (progress.new ≡ behind_file progress.old (nodes_read (reads (text_in files.old) file.now) file.now.brought around (in_place nodes.items) progress.old.going)) }
+    ensures nodes { IfOk result (λ all. in_place all.items
+        ≡ (nodes_read (reads (text_in files.old) file.now) file.now.brought around (in_place nodes.items)
+        progress.old.going).nodes) }
+    ensures progress { OnOk result (progress.new
+        ≡ behind_file progress.old (nodes_read (reads (text_in files.old) file.now) file.now.brought around
+        (in_place nodes.items) progress.old.going)) }
     ensures files { files.new ≡ files.old }
 {
     let alloc = files.alloc();
@@ -92,7 +100,9 @@ fn take_steps(
     found: &mut VecDeque<FoundNodes>,
 ) -> Result<(), AllocError>
     ensures taken { OnOk result (taken_of found.new.items progress.new
-        ≡ both_taken (taken_of found.old.items progress.old) (taken (reads (text_in files.old) file.now) file.now.brought (map step_of steps.now) progress.old.going)) }
+        ≡ both_taken (taken_of found.old.items progress.old)
+        (taken (reads (text_in files.old) file.now) file.now.brought (map step_of steps.now)
+        progress.old.going)) }
     ensures files { files.new ≡ files.old }
 {
     for step in steps {
@@ -111,7 +121,9 @@ fn take_step(
     found: &mut VecDeque<FoundNodes>,
 ) -> Result<(), AllocError>
     ensures taken { OnOk result (taken_of found.new.items progress.new
-        ≡ both_taken (taken_of found.old.items progress.old) (taken (reads (text_in files.old) file.now) file.now.brought (step_of step.now ∷ []) progress.old.going)) }
+        ≡ both_taken (taken_of found.old.items progress.old)
+        (taken (reads (text_in files.old) file.now) file.now.brought (step_of step.now ∷ [])
+        progress.old.going)) }
     ensures files { files.new ≡ files.old }
 {
     match step {
@@ -133,8 +145,10 @@ fn enter(
     directive: &WrittenDirective,
     progress: &mut Progress,
 ) -> Result<FoundNodes, AllocError>
-    ensures found { IfOk result (λ found. found_of found ≡ found_in (reads (text_in files.old) file.now around directive.now progress.old.going)) }
-    ensures progress { OnOk result (progress.new ≡ behind_inner progress.old (reads (text_in files.old) file.now around directive.now progress.old.going)) }
+    ensures found { IfOk result (λ found. found_of found
+        ≡ found_in (reads (text_in files.old) file.now around directive.now progress.old.going)) }
+    ensures progress { OnOk result (progress.new
+        ≡ behind_inner progress.old (reads (text_in files.old) file.now around directive.now progress.old.going)) }
     ensures files { files.new ≡ files.old }
 {
     let alloc = files.alloc();
@@ -157,9 +171,12 @@ fn enter_path(
     progress: &mut Progress,
 ) -> Result<FoundNodes, AllocError>
     ensures found { IfOk result (λ found. found_of found
-        ≡ found_in (target_read (spliced_within file.now.deep (text_in files.old) file.now.settings.now file.now.chain) (text_in files.old) file.now.chain around true (Some path.now) progress.old.going)) }
+        ≡ found_in (target_read (spliced_within file.now.deep (text_in files.old) file.now.settings.now
+        file.now.chain) (text_in files.old) file.now.chain around true (Some path.now) progress.old.going)) }
     ensures progress { OnOk result (progress.new
-        ≡ behind_inner progress.old (target_read (spliced_within file.now.deep (text_in files.old) file.now.settings.now file.now.chain) (text_in files.old) file.now.chain around true (Some path.now) progress.old.going)) }
+        ≡ behind_inner progress.old (target_read (spliced_within file.now.deep (text_in files.old)
+        file.now.settings.now file.now.chain) (text_in files.old) file.now.chain around true (Some path.now)
+        progress.old.going)) }
     ensures files { files.new ≡ files.old }
 {
     let alloc = files.alloc();
@@ -186,9 +203,11 @@ fn enter_source(
     progress: &mut Progress,
 ) -> Result<FoundNodes, AllocError>
     ensures found { IfOk result (λ found. found_of found
-        ≡ found_in (text_read (spliced_within file.now.deep (text_in files.old) file.now.settings.now file.now.chain) around source.now.path (Some source.now.text) progress.old.going)) }
+        ≡ found_in (text_read (spliced_within file.now.deep (text_in files.old) file.now.settings.now
+        file.now.chain) around source.now.path (Some source.now.text) progress.old.going)) }
     ensures progress { OnOk result (progress.new
-        ≡ behind_inner progress.old (text_read (spliced_within file.now.deep (text_in files.old) file.now.settings.now file.now.chain) around source.now.path (Some source.now.text) progress.old.going)) }
+        ≡ behind_inner progress.old (text_read (spliced_within file.now.deep (text_in files.old)
+        file.now.settings.now file.now.chain) around source.now.path (Some source.now.text) progress.old.going)) }
     ensures files { files.new ≡ files.old }
 {
     if around > MAX_NESTING {
@@ -208,9 +227,11 @@ fn enter_within(
     progress: &mut Progress,
 ) -> Result<FoundNodes, AllocError>
     ensures found { IfOk result (λ found. found_of found
-        ≡ found_in (room_read (spliced_within file.now.deep (text_in files.old) file.now.settings.now file.now.chain) around source.now.path source.now.text progress.old.going)) }
+        ≡ found_in (room_read (spliced_within file.now.deep (text_in files.old) file.now.settings.now
+        file.now.chain) around source.now.path source.now.text progress.old.going)) }
     ensures progress { OnOk result (progress.new
-        ≡ behind_inner progress.old (room_read (spliced_within file.now.deep (text_in files.old) file.now.settings.now file.now.chain) around source.now.path source.now.text progress.old.going)) }
+        ≡ behind_inner progress.old (room_read (spliced_within file.now.deep (text_in files.old)
+        file.now.settings.now file.now.chain) around source.now.path source.now.text progress.old.going)) }
     ensures files { files.new ≡ files.old }
 {
     let bytes = source.text().len();

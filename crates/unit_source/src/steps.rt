@@ -51,7 +51,8 @@ pub(crate) fn add_steps(
     around: usize,
     steps: &mut Vec<Step>,
 ) -> Result<(), AllocError>
-    ensures { OnOk result (map step_of steps.new.items ≡ map step_of steps.old.items ++ steps_of around (in_place nodes.now)) }
+    ensures { OnOk result (map step_of steps.new.items ≡ map step_of steps.old.items ++ steps_of around
+        (in_place nodes.now)) }
 {
     for node in nodes {
         add_node_steps(alloc, node, around, steps)?;
@@ -67,7 +68,8 @@ fn add_node_steps(
     around: usize,
     steps: &mut Vec<Step>,
 ) -> Result<(), AllocError>
-    ensures { OnOk result (map step_of steps.new.items ≡ map step_of steps.old.items ++ steps_of around (node_in_place node.now)) }
+    ensures { OnOk result (map step_of steps.new.items ≡ map step_of steps.old.items ++ steps_of around
+        (node_in_place node.now)) }
 {
     match node {
         PlacedNode::Leaf(kind, _) => {

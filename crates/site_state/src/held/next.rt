@@ -14,7 +14,8 @@ impl<P: Compiled> Held<P> {
         opening: &Opening,
         history: &BlockList<Entry>,
     ) -> Result<Opening, AllocError>
-        ensures { IfOk result (λ next. next ≡ next_opening opening.now (state_of opening.now history.now.items (parts_of self.now))) }
+        ensures { IfOk result (λ next. next ≡ next_opening opening.now
+            (state_of opening.now history.now.items (parts_of self.now))) }
     {
         let opened = opening.sessions.as_slice();
         let sessions = self.sessions.kept(self.alloc, opened, history)?;
