@@ -9,7 +9,7 @@ use Rattle.act_reader.proofs.BeforeLemmas.{acts_alone, attributes_alone, branche
 use Rattle.page_acts.specs.Views.{attributes_of}
 use Rattle.page_acts.specs.declared.acts.ActAttribute.{ActAttribute, Written, Given'}
 use Rattle.page_meaning.specs.Page as page
-use Rattle.page_shape.specs.Shape.{Children, Content, Held, has_attributes, no_children, no_content}
+use Rattle.unit_meaning.specs.Shape.{Children, Content, Held, has_attributes, no_children, no_content}
 
 -- what stands in an action, by its parts
 abbrev content : page.Nodes → page.Params → page.Branches → Content

@@ -3,7 +3,7 @@ use Rattle.std.proofs.Common.{◌≡◌, ◌∙◌, ap, map, sym, Result, OnOk}
 use Rattle.std.proofs.lemmas.Result.{on_ok_weaker}
 use Rattle.act_reader.specs.Contents.{Adds, before}
 use Rattle.act_reader.specs.declared.contents.Children.{Children as ChildrenMade}
-use Rattle.page_shape.specs.Shape.{Children, children_of, with_action}
+use Rattle.unit_meaning.specs.Shape.{Children, children_of, with_action}
 use Rattle.unit_nodes.proofs.NodeLemmas.{action_is}
 use Rattle.unit_nodes.specs.Nodes.{Nodes, joined}
 use Rattle.unit_nodes.specs.Views.{given_of, kind_of, node_of, nodes_of}

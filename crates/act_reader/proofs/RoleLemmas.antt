@@ -8,7 +8,7 @@ use Rattle.act_reader.specs.Roles.{role_of, with_nothing, with_role}
 use Rattle.jstl_tags.specs.declared.core_name.CoreName.{CoreName}
 use Rattle.jstl_tags.specs.declared.core_name.CoreName.TheVariants as core
 use Rattle.page_meaning.specs.Page as page
-use Rattle.page_shape.specs.Shape.{Children, action_node, attributes_of, content_in, core_node, jsp_node, with_action, with_node}
+use Rattle.unit_meaning.specs.Shape.{Children, action_node, attributes_of, content_in, core_node, jsp_node, with_action, with_node}
 use Rattle.pg_text.specs.declared.place.Place.{Place}
 use Rattle.unit_nodes.specs.Nodes as unit
 use Rattle.unit_nodes.specs.Nodes.{ActionKind, Given}

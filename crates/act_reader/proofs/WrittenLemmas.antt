@@ -4,7 +4,7 @@ use Rattle.std.proofs.lemmas.List.{drop_more}
 use Rattle.act_reader.specs.Before.{attributes_before}
 use Rattle.page_acts.specs.declared.acts.ActAttribute.{ActAttribute}
 use Rattle.page_meaning.specs.Page.{Attributes}
-use Rattle.page_shape.specs.Named.{written_before}
+use Rattle.unit_meaning.specs.Named.{written_before}
 use Rattle.unit_nodes.specs.Nodes.{Given}
 use Rattle.unit_nodes.specs.Views.{given_of}
 use Rattle.unit_nodes.specs.declared.unit.UnitAttribute.{UnitAttribute}

@@ -6,7 +6,7 @@ use Rattle.act_reader.specs.declared.contents.Content.{Content as ContentMade}
 use Rattle.act_reader.specs.declared.contents.Held.{Held as HeldMade}
 use Rattle.page_acts.specs.Views.{acts_of, attributes_of, branches_of, params_of}
 use Rattle.page_meaning.specs.Page as page
-use Rattle.page_shape.specs.Shape.{Children, Content, Held}
+use Rattle.unit_meaning.specs.Shape.{Children, Content, Held}
 
 abbrev pub content_view : ContentMade → Content
 content_view made = record { nodes = acts_of made.acts.items; params = params_of made.params.items; branches = branches_of made.branches.items }

@@ -3,7 +3,7 @@ use Rattle.std.specs.Prelude.{List}
 use Rattle.act_reader.specs.declared.parts.Parts.{Parts as PartsMade}
 use Rattle.page_acts.specs.Views.{acts_of, attributes_of as attributes_made, branches_of, params_of}
 use Rattle.page_meaning.specs.Page as page
-use Rattle.page_shape.specs.Shape.{Children, Content, attributes_of, content_in}
+use Rattle.unit_meaning.specs.Shape.{Children, Content, attributes_of, content_in}
 use Rattle.unit_nodes.specs.Nodes.{ActionKind, Given}
 
 -- all attributes of an action, and what stands in it

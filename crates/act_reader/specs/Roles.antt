@@ -6,7 +6,7 @@ use Rattle.act_reader.specs.declared.roles.Role.{Role}
 use Rattle.act_reader.specs.declared.roles.Role.TheVariants as role
 use Rattle.jstl_tags.specs.declared.core_name.CoreName.TheVariants as core
 use Rattle.page_meaning.specs.Page as page
-use Rattle.page_shape.specs.Shape.{Children, branch_if, given_if, param_if, with_node}
+use Rattle.unit_meaning.specs.Shape.{Children, branch_if, given_if, param_if, with_node}
 use Rattle.pg_text.specs.declared.place.Place.{Place}
 use Rattle.unit_nodes.specs.Nodes as unit
 use Rattle.unit_nodes.specs.Nodes.{ActionKind, Given}

@@ -6,8 +6,8 @@ ghost use Rattle.act_reader.specs.Parts.{parts_view};
 ghost use Rattle.page_acts.specs.Views.{act_of};
 ghost use Rattle.jstl_tags.specs.declared.core_name.CoreName.TheVariants as core;
 ghost use Rattle.page_meaning.specs.Page as page;
-ghost use Rattle.page_shape.specs.Named.{some_variable, static_text, variable_in};
-ghost use Rattle.page_shape.specs.Shape.{core_node};
+ghost use Rattle.unit_meaning.specs.Named.{some_variable, static_text, variable_in};
+ghost use Rattle.unit_meaning.specs.Shape.{core_node};
 ghost use Rattle.unit_nodes.specs.Views.{given_of};
 
 use crate::named::{some_variable, static_text, target_in, variable_in};

@@ -6,8 +6,8 @@ ghost use Rattle.std.specs.Str.{bytes_eq};
 ghost use Rattle.act_reader.specs.Parts.{parts_view};
 ghost use Rattle.page_acts.specs.Views.{act_of};
 ghost use Rattle.page_meaning.specs.Page as page;
-ghost use Rattle.page_shape.specs.Named.{property_in, scope_named, some_variable, text_of_attribute};
-ghost use Rattle.page_shape.specs.Shape.{jsp_node};
+ghost use Rattle.unit_meaning.specs.Named.{property_in, scope_named, some_variable, text_of_attribute};
+ghost use Rattle.unit_meaning.specs.Shape.{jsp_node};
 ghost use Rattle.unit_nodes.specs.Views.{given_of};
 
 use crate::named::{property_in, scope_named, some_variable, text_of_attribute};

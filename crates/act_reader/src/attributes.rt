@@ -5,8 +5,8 @@ ghost use Rattle.std.specs.Str.{bytes_eq};
 ghost use Rattle.act_reader.specs.Before.{attributes_before};
 ghost use Rattle.page_acts.specs.Views.{attributes_of};
 ghost use Rattle.page_meaning.specs.Page.{Attributes};
-ghost use Rattle.page_shape.specs.Kinds.{statics_of};
-ghost use Rattle.page_shape.specs.Named.{core_statics, jsp_statics, written_before};
+ghost use Rattle.unit_meaning.specs.Kinds.{statics_of};
+ghost use Rattle.unit_meaning.specs.Named.{core_statics, jsp_statics, written_before};
 ghost use Rattle.unit_nodes.specs.Views.{given_of, kind_of};
 
 use page_acts::ActAttribute;

@@ -5,7 +5,7 @@ ghost use Rattle.std.specs.Prelude.{◌≡◌, map, option_map, if◌then◌else
 ghost use Rattle.act_reader.specs.Contents.{children_view, held_view};
 ghost use Rattle.page_acts.specs.Views.{act_of, acts_of, body_of};
 ghost use Rattle.page_meaning.specs.Page.{call, no_body};
-ghost use Rattle.page_shape.specs.Shape.{attributes_of, body_if, call_body, held_body_or};
+ghost use Rattle.unit_meaning.specs.Shape.{attributes_of, body_if, call_body, held_body_or};
 ghost use Rattle.unit_nodes.specs.Views.{given_of, kind_of};
 
 use crate::attributes::attributes_of;

@@ -2,7 +2,7 @@
 ghost use Rattle.std.specs.Prelude.{◌≡◌, true, OnOk};
 ghost use Rattle.act_reader.specs.Contents.{Adds, before, content_before, content_view, with_branch, with_given, with_held, with_param};
 ghost use Rattle.page_acts.specs.Views.{act_of, attribute_before, attributes_of, branch_before, param_before};
-ghost use Rattle.page_shape.specs.Shape.{Children as Standing, Content as Inside, has_attributes, no_content, with_node};
+ghost use Rattle.unit_meaning.specs.Shape.{Children as Standing, Content as Inside, has_attributes, no_content, with_node};
 
 use page_acts::{Act, ActAttribute, ActBranch, ActParam};
 use pg_text::Text;

@@ -2,7 +2,7 @@
 ghost use Rattle.std.specs.Prelude.{◌≡◌, map, option_map, if◌then◌else◌, IfOk};
 ghost use Rattle.act_reader.specs.Contents.{children_view, content_view, held_view};
 ghost use Rattle.act_reader.specs.Parts.{parts_in, parts_view};
-ghost use Rattle.page_shape.specs.Shape.{held_or, no_content};
+ghost use Rattle.unit_meaning.specs.Shape.{held_or, no_content};
 ghost use Rattle.unit_nodes.specs.Views.{given_of, kind_of};
 
 use crate::attributes::attributes_of;

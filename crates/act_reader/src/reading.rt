@@ -2,7 +2,7 @@
 ghost use Rattle.std.specs.Prelude.{◌≡◌, IfOk, OnOk};
 ghost use Rattle.act_reader.specs.Contents.{before, children_view};
 ghost use Rattle.page_acts.specs.Views.{acts_of};
-ghost use Rattle.page_shape.specs.Shape.{children_of, nodes_of as shape_of};
+ghost use Rattle.unit_meaning.specs.Shape.{children_of, nodes_of as shape_of};
 ghost use Rattle.unit_nodes.specs.Nodes.{Nodes, joined};
 ghost use Rattle.unit_nodes.specs.Views.{node_of, nodes_of};
 

@@ -5,7 +5,7 @@ ghost use Rattle.act_reader.specs.Parts.{parts_view};
 ghost use Rattle.act_reader.specs.Roles.{role_of, with_nothing};
 ghost use Rattle.page_acts.specs.Views.{act_of, acts_of, attribute_before};
 ghost use Rattle.page_meaning.specs.Page.{Attributes, group, no_nodes};
-ghost use Rattle.page_shape.specs.Shape.{action_node, branch_if, given_if, param_if, with_action};
+ghost use Rattle.unit_meaning.specs.Shape.{action_node, branch_if, given_if, param_if, with_action};
 ghost use Rattle.unit_nodes.specs.Views.{given_of, kind_of};
 
 use crate::acts_of_core::core_act;

@@ -9,7 +9,7 @@ use Rattle.context_talk.specs.Among.{TalkedAmong, connections_of, first_parts}
 use Rattle.context_words.specs.Parts.{Lent, Part, part_of}
 use Rattle.conversation.specs.declared.ended.Ended.TheVariants.{NoMemory}
 use Rattle.edges.proofs.ToldBytes.{appends_none, consumes_none}
-use Rattle.page_made.specs.Pages.{needs_at}
+use Rattle.compiled_pages.specs.Pages.{needs_at}
 use Rattle.site_words.specs.declared.words.Entry.{Entry}
 use Rattle.site_words.specs.declared.words.Opening.{Opening}
 use Rattle.source_tree.specs.declared.edit.Edit.{Edit}

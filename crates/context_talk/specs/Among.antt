@@ -5,7 +5,7 @@ use Rattle.context_words.specs.Parts.{Lent, Part, part_of}
 use Rattle.context_words.specs.Said.{IsLeftAmong, IsSaidAmong}
 use Rattle.conversation.specs.Conversation.{Tells}
 use Rattle.conversation.specs.declared.ended.Ended.{Ended}
-use Rattle.page_made.specs.Pages.{needs_at}
+use Rattle.compiled_pages.specs.Pages.{needs_at}
 use Rattle.site_words.specs.declared.words.Entry.{Entry}
 use Rattle.site_words.specs.declared.words.Opening.{Opening}
 use Rattle.talk_words.specs.Connection.{Connection, connection_of}

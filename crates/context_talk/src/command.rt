@@ -6,11 +6,11 @@ ghost use Rattle.pages_talk.specs.Play.{exit_status};
 
 use crate::connection::talk_contexts;
 use crate::words::words_told;
+use compiled_pages::Made;
 use context_names::{ContextNames, PortList, read_names};
 use contexts::start;
 use conversation::Ended;
 use edges::{Clock, Ledger, Sink, Source, Steps};
-use page_made::Made;
 use site_core::SoloPort;
 use std::alloc::{AllocError, Global};
 use talk_words::Role;

@@ -5,15 +5,15 @@ ghost use Rattle.context_words.specs.Parts.{lent_of};
 ghost use Rattle.conversation.specs.Refusal.{IsShown};
 ghost use Rattle.edges.specs.Faults.{Rose};
 ghost use Rattle.http_in.specs.declared.fault.HttpFault.{HttpFault};
-ghost use Rattle.page_made.specs.Pages.{needs_at};
+ghost use Rattle.compiled_pages.specs.Pages.{needs_at};
 ghost use Rattle.pass_course.specs.Course.{IsIdle};
 
 use crate::desk::SiteDesk;
+use compiled_pages::Made;
 use context_desk::ContextDesk;
 use context_names::{ContextNames, PortList};
 use conversation::{Ended, walk};
 use edges::{Clock, Ledger, Sink, Source, Steps};
-use page_made::Made;
 use pages_talk::PortDesk;
 use site_words::Port;
 use std::alloc::{AllocError, Global};

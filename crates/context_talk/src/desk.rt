@@ -1,10 +1,10 @@
 ghost use Rattle.std.specs.Prelude.{◌≡◌};
 
+use compiled_pages::Made;
 use context_desk::Tenant;
 use conversation::{Desk, Outcome};
 use edges::{Clock, Ledger, Sink, Steps};
 use http_in::Request;
-use page_made::Made;
 use pages_talk::PortDesk;
 use site_words::Port;
 use std::alloc::Global;
@@ -18,7 +18,7 @@ pub(crate) struct SiteDesk<P, C, L> {
 impl<P: Port<Made>, C: Clock, L: Ledger> Tenant for SiteDesk<P, C, L> {
     ghost use Rattle.context_words.specs.Parts.{Lent as LentToAll, Part, lent_of, part_of};
     ghost use Rattle.context_words.specs.Said.{IsLeftIn, IsSaidIn};
-    ghost use Rattle.page_made.specs.Pages.{needs_at};
+    ghost use Rattle.compiled_pages.specs.Pages.{needs_at};
     ghost use Rattle.pass_course.specs.Course.{IsIdle};
     ghost use Rattle.talk_words.specs.Connection.{Connection, connection_of};
 

@@ -15,7 +15,7 @@ use Rattle.page_answers.specs.Answers.{Answers, attrs_left}
 use Rattle.page_answers.specs.Dropped.{Drops, HeadsSo, dropped_text}
 use Rattle.page_answers.specs.Standing.{Standing, session_found, standing_of, tree_at}
 use Rattle.page_answers.specs.Turns.{Turn, all_bytes, all_calls, answers_of, are_whole_but_last, is_whole, steps_of}
-use Rattle.page_made.specs.Pages.{needs_at, paged_at}
+use Rattle.compiled_pages.specs.Pages.{needs_at, paged_at}
 use Rattle.page_meaning.proofs.Growing.{quiet}
 use Rattle.page_meaning.specs.Growth.{Grows, IsOrdered}
 use Rattle.page_meaning.specs.Respond.{respond}

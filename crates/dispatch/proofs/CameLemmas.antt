@@ -19,7 +19,7 @@ use Rattle.out_buffer.specs.Writer.{has_committed, Writer, has_pieces}
 use Rattle.page_answers.specs.Answers.{Answers}
 use Rattle.page_answers.specs.Dropped.{closing_head, dropped_text}
 use Rattle.page_answers.specs.Standing.{Standing, standing_of}
-use Rattle.page_made.specs.Pages.{needs_at}
+use Rattle.compiled_pages.specs.Pages.{needs_at}
 use Rattle.page_meaning.specs.Response.{closing, head_of}
 use Rattle.page_meaning.specs.State.{State}
 use Rattle.pass_course.specs.Course.{HasDone}

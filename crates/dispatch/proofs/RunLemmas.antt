@@ -17,7 +17,7 @@ use Rattle.out_buffer.specs.Writer.{empty_writer}
 use Rattle.page_answers.specs.Standing.{found}
 use Rattle.page_answers.specs.Turns.{Turn, all_bytes, all_calls, answers_of, are_whole_but_last, is_whole, steps_of}
 use Rattle.page_machine.specs.Run.{IsInOrder, StandsFor}
-use Rattle.page_made.specs.Pages.{needs_at}
+use Rattle.compiled_pages.specs.Pages.{needs_at}
 use Rattle.page_meaning.specs.Respond.{beginning}
 use Rattle.page_meaning.specs.Response.{Answered}
 use Rattle.page_meaning.specs.State.{State}

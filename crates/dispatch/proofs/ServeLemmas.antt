@@ -8,7 +8,7 @@ use Rattle.http_out.proofs.SentLemmas.{sent_none}
 use Rattle.http_out.specs.declared.head.Head.{Head}
 use Rattle.out_buffer.specs.Streamed.{HasTaken}
 use Rattle.page_answers.specs.Standing.{Standing}
-use Rattle.page_made.specs.Pages.{needs_at}
+use Rattle.compiled_pages.specs.Pages.{needs_at}
 use Rattle.page_meaning.specs.Respond.{FoundSession, beginning}
 use Rattle.pass_course.proofs.CourseLemmas.{done_none}
 use Rattle.site_words.specs.Law.{Legal}

@@ -12,7 +12,7 @@ use Rattle.http_out.specs.Methods.{shows_body, takes_method}
 use Rattle.page_answers.specs.Dropped.{Drops}
 use Rattle.page_answers.specs.Standing.{Begins, Standing, session_found, standing_of, tree_at}
 use Rattle.page_answers.specs.Turns.{Turn, all_bytes, all_calls, answers_of, are_whole_but_last, is_whole, steps_of}
-use Rattle.page_made.specs.Pages.{needs_at, paged_at}
+use Rattle.compiled_pages.specs.Pages.{needs_at, paged_at}
 use Rattle.page_meaning.specs.Respond.{FoundSession, respond}
 use Rattle.page_meaning.specs.Response.{Answered}
 use Rattle.page_meaning.specs.State.{State}

@@ -6,16 +6,16 @@ ghost use Rattle.page_answers.specs.Answers.{Answers};
 ghost use Rattle.http_out.specs.Methods.{takes_method};
 ghost use Rattle.page_answers.specs.Dropped.{Drops};
 ghost use Rattle.page_answers.specs.Standing.{standing_of};
-ghost use Rattle.page_made.specs.Pages.{needs_at};
+ghost use Rattle.compiled_pages.specs.Pages.{needs_at};
 ghost use Rattle.pass_course.specs.Course.{IsIdle};
 ghost use Rattle.site_words.specs.Answers.{IsSamePort};
 
 use crate::refusing::{full, not_taken};
 use crate::serving::serve;
+use compiled_pages::Made;
 use conversation::Outcome;
 use edges::{Clock, Ledger, Sink, Steps};
 use http_in::Request;
-use page_made::Made;
 use site_words::{Acted, Port};
 use std::alloc::Global;
 

@@ -3,10 +3,10 @@ ghost use Rattle.pass_course.specs.Course.{IsIdle};
 
 use crate::opening::opened;
 use crate::request::request;
+use compiled_pages::Made;
 use conversation::Outcome;
 use dispatch::respond;
 use edges::{Clock, Counting, MemClock, MemSink, Steps};
-use page_made::Made;
 use site_core::{SoloPort, into_site};
 use site_words::Op;
 use std::alloc::{AllocError, Global};

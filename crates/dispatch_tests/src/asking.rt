@@ -1,10 +1,10 @@
 ghost use Rattle.pass_course.specs.Course.{IsIdle};
 
 use crate::request::request;
+use compiled_pages::Made;
 use conversation::Outcome;
 use dispatch::respond;
 use edges::{Ledger, MemClock, MemSink, Steps};
-use page_made::Made;
 use site_words::Port;
 use std::alloc::Global;
 use std::test::Fail;

@@ -1,7 +1,7 @@
 ghost use Rattle.std.specs.Prelude.{◌≡◌, [], IfOk};
 ghost use Rattle.pass_course.specs.Course.{IsIdle};
 
-use page_made::Made;
+use compiled_pages::Made;
 use pg_text::resolve;
 use pg_value::Attrs;
 use site_core::{Site, SoloPort, solo, sound};

@@ -1,14 +1,14 @@
 // A port during whose first request another pass publishes.
 ghost use Rattle.std.specs.Prelude.{◌<◌};
 ghost use Rattle.std.specs.Arc.{arc_value};
-ghost use Rattle.page_made.specs.Made.{IsMade};
-ghost use Rattle.page_made.specs.Pages.{needs_at};
+ghost use Rattle.compiled_pages.specs.Made.{IsMade};
+ghost use Rattle.compiled_pages.specs.Pages.{needs_at};
 ghost use Rattle.site_words.specs.Answers.{ForRun, IsSamePort, of_offered};
 ghost use Rattle.site_words.specs.Calls.{Calls};
 ghost use Rattle.site_words.specs.Law.{May, own, run_of};
 ghost use Rattle.site_words.specs.declared.words.Op.TheVariants as op;
 
-use page_made::Made;
+use compiled_pages::Made;
 use pg_text::{Path, Text};
 use pg_value::Attrs;
 use site_words::{Acted, AppReply, AppStep, Begun, Fresh, Port, Published, Refusal, Snapped};

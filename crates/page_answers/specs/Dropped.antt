@@ -18,7 +18,7 @@ use Rattle.site_words.specs.declared.words.Opening.{Opening}
 use Rattle.site_words.specs.declared.words.Reply.TheVariants as reply
 use Rattle.http_out.specs.Methods.{shows_body, takes_method}
 use Rattle.pass_course.specs.Course.{HasDone}
-use Rattle.page_made.specs.Pages.{paged_at}
+use Rattle.compiled_pages.specs.Pages.{paged_at}
 use Rattle.page_answers.specs.Standing.{Standing, AtMoment, Begins, session_found, tree_at}
 use Rattle.page_answers.specs.Turns.{Turn, all_bytes, all_calls, answers_of, are_whole_but_last, steps_of}
 

@@ -12,7 +12,7 @@ use Rattle.site_words.specs.declared.words.Reply.TheVariants as reply
 use Rattle.source_tree.specs.declared.file.File.{File}
 use Rattle.unit_build.specs.Needs.{bytes_of}
 use Rattle.unit_source.specs.Files.{text_in}
-use Rattle.page_made.specs.Pages.{unit_in}
+use Rattle.compiled_pages.specs.Pages.{unit_in}
 use Rattle.unit_build.specs.Unit.{Unit}
 
 -- a step that was done: one on the application's attributes with what it was told; a session that was made; a page of which what is kept was

@@ -2,9 +2,9 @@ ghost use Rattle.std.specs.Prelude.{◌≡◌, ◌≤◌, IfOk, OnErr, OnOk};
 ghost use Rattle.pages_load.specs.Load.{HasReport, IsSpoken, IsUntold, IsWhole};
 
 use crate::report::report;
+use compiled_pages::Made;
 use edges::{Ledger, MemClock, MemSink, MemSource, Steps};
 use load_gen::{MAX_PAGES, make};
-use page_made::Made;
 use pages_talk::{Ended, Role, start_alone, talk};
 use site_core::{Site, into_site};
 use std::alloc::{AllocError, Global};

@@ -5,7 +5,7 @@ use Rattle.edges.proofs.ToldBytes.{appends_both, appends_none}
 use Rattle.edges.specs.Clock.{Moments}
 use Rattle.edges.specs.Faults.{Rose}
 use Rattle.page_answers.specs.Standing.{standing_of}
-use Rattle.page_made.specs.Pages.{needs_at}
+use Rattle.compiled_pages.specs.Pages.{needs_at}
 use Rattle.conversation.specs.Conversation.{Tells}
 use Rattle.conversation.specs.declared.ended.Ended.{Ended}
 use Rattle.connection_list.proofs.Lists.{begins_next, last_behind}

@@ -9,7 +9,7 @@ use Rattle.edges.specs.Clock.{Moments}
 use Rattle.http_in.specs.FaultNumber.{fault_number}
 use Rattle.http_out.specs.Sent.{BreaksOff}
 use Rattle.page_answers.specs.Standing.{standing_of}
-use Rattle.page_made.specs.Pages.{needs_at}
+use Rattle.compiled_pages.specs.Pages.{needs_at}
 use Rattle.pages_record.specs.declared.recorded.Recorded.{Recorded}
 use Rattle.pages_record.specs.declared.recorded.Recorded.TheVariants.{Done, NotListed, ReadFault, WriteFault, NoMemory}
 use Rattle.pages_talk.specs.Play.{only_connection}

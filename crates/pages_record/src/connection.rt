@@ -3,9 +3,9 @@ ghost use Rattle.pages_record.specs.Recorded.{IsTalked, end_number};
 ghost use Rattle.site_words.specs.Invariants.{AllRest};
 
 use crate::noting::LentClock;
+use compiled_pages::Made;
 use conversation::Ended;
 use edges::{Clock, Ledger, MemSink, MemSource, NotedClock, Steps};
-use page_made::Made;
 use pages_talk::{Role, talk};
 use pg_text::{Bytes, Listed};
 use site_core::{Site, into_site, solo};

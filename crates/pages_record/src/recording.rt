@@ -8,9 +8,9 @@ ghost use Rattle.pages_talk.specs.Play.{opening_of};
 
 use crate::connection::talk_in_memory;
 use crate::recorded::Recorded;
+use compiled_pages::Made;
 use connection_list::{first_connection, is_list};
 use edges::{Clock, Failed, Ledger, Sink, Source, Steps};
-use page_made::Made;
 use pages_talk::start_alone;
 use pg_text::Failure;
 use rollover::{Rolled, roll};

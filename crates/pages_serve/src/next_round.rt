@@ -1,9 +1,9 @@
-ghost use Rattle.page_made.specs.Pages.{needs_at};
+ghost use Rattle.compiled_pages.specs.Pages.{needs_at};
 ghost use Rattle.pages_serve.specs.Onward.{IsOnward};
 ghost use Rattle.site_words.specs.Invariants.{AllRest};
 
+use compiled_pages::Made;
 use edges::Sink;
-use page_made::Made;
 use rollover::{Rolled, roll};
 use site_core::Site;
 use std::alloc::Global;

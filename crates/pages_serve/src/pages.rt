@@ -2,8 +2,8 @@ ghost use Rattle.std.specs.Prelude.{◌≡◌, ◌<◌};
 ghost use Rattle.pass_course.specs.Course.{IsIdle};
 ghost use Rattle.site_words.specs.Answers.{IsSamePort};
 
+use compiled_pages::Made;
 use edges::{Clock, Sink, Source, Steps, Unseen};
-use page_made::Made;
 use pages_talk::{Role, talk};
 use site_rounds::Talk;
 use site_words::Port;

@@ -3,8 +3,8 @@ ghost use Rattle.std.specs.Prelude.{◌≡◌, IfOk};
 ghost use Rattle.site_words.specs.Invariants.{AllRest};
 
 use crate::wires::{HeldGate, Wire, WireAccept};
+use compiled_pages::Made;
 use edges::StillClock;
-use page_made::Made;
 use pages_serve::Pages;
 use pages_talk::Role;
 use site_core::Site;

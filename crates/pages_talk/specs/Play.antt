@@ -8,7 +8,7 @@ use Rattle.conversation.specs.Conversation.{Tells}
 use Rattle.conversation.specs.declared.ended.Ended.{Ended}
 use Rattle.conversation.specs.declared.ended.Ended.TheVariants.{Done, Refused, ReadFault, WriteFault, NoMemory}
 use Rattle.page_answers.specs.Standing.{standing_of}
-use Rattle.page_made.specs.Pages.{needs_at}
+use Rattle.compiled_pages.specs.Pages.{needs_at}
 use Rattle.site_core.specs.Lived.{first_opening}
 use Rattle.site_words.specs.declared.words.Entry.{Entry}
 use Rattle.site_words.specs.declared.words.Opening.{Opening}

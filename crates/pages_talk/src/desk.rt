@@ -1,12 +1,12 @@
 ghost use Rattle.std.specs.Prelude.{◌≡◌, ◌≤◌, ◌<◌, ◌+◌, ℕ, []};
 
 use crate::editing::{edit, find_nothing};
+use compiled_pages::Made;
 use conversation::{Desk, Outcome};
 use dispatch::respond;
 use edges::{Clock, Ledger, Sink, Steps};
 use editor::Draft;
 use http_in::Request;
-use page_made::Made;
 use site_words::Port;
 use std::alloc::Global;
 use std::marker::PhantomData;
@@ -41,7 +41,7 @@ impl<P, C, L> PortDesk<P, C, L> {
 
 impl<P: Port<Made>, C: Clock, L: Ledger> Desk for PortDesk<P, C, L> {
     ghost use Rattle.page_answers.specs.Standing.{standing_of};
-    ghost use Rattle.page_made.specs.Pages.{needs_at};
+    ghost use Rattle.compiled_pages.specs.Pages.{needs_at};
     ghost use Rattle.pass_course.specs.Course.{IsIdle};
     ghost use Rattle.talk_words.specs.Connection.{Connection, Stand, connection_of, stand_of};
     ghost use Rattle.talk_words.specs.Said.{IsLeft, IsSaid};

@@ -10,11 +10,11 @@ use Rattle.std.specs.Str.Parse.{digits_value, digits_value_after}
 use Rattle.page_directives.specs.Checks.{buffer_size, kilobytes}
 use Rattle.page_directives.specs.Directive.{Directive}
 use Rattle.page_directives.specs.Settings.{settings_of}
-use Rattle.page_made.specs.Made.{IsPageAt}
-use Rattle.page_made.specs.Pages.{page_read, unit_in}
+use Rattle.compiled_pages.specs.Made.{IsPageAt}
+use Rattle.compiled_pages.specs.Pages.{page_read, unit_in}
 use Rattle.page_meaning.specs.Page.{Page}
 use Rattle.page_pieces.specs.Texts.{begins}
-use Rattle.page_shape.specs.Shape.{page_of}
+use Rattle.unit_meaning.specs.Shape.{page_of}
 use Rattle.pg_text.specs.declared.place.PageFault.{PageFault}
 use Rattle.pg_value.specs.declared.settings.PageSettings.{PageSettings}
 use Rattle.source_tree.specs.declared.file.File.{File}

@@ -6,7 +6,7 @@ use Rattle.http_in.specs.declared.params.Param.{Param}
 use Rattle.http_in.specs.declared.request.Request.{Request}
 use Rattle.http_out.specs.declared.status.Status.{Status}
 use Rattle.out_buffer.specs.Held.{Held}
-use Rattle.page_made.specs.Pages.{paged_at}
+use Rattle.compiled_pages.specs.Pages.{paged_at}
 use Rattle.page_meaning.proofs.Growing.{both}
 use Rattle.page_meaning.specs.Context.{Served, good}
 use Rattle.page_meaning.specs.Growth.{Grows, state_of}

@@ -7,9 +7,9 @@ use Rattle.http_out.specs.declared.status.Status.{Status}
 use Rattle.http_out.specs.declared.status.Status.TheVariants as status_is
 use Rattle.out_buffer.specs.Held.{Held}
 use Rattle.page_machine.specs.Run.{StandsFor}
-use Rattle.page_made.proofs.PageLemmas.{page_there}
-use Rattle.page_made.specs.Made.{IsPageAt, IsProgramOf}
-use Rattle.page_made.specs.Pages.{found_as, paged_at}
+use Rattle.compiled_pages.proofs.PageLemmas.{page_there}
+use Rattle.compiled_pages.specs.Made.{IsPageAt, IsProgramOf}
+use Rattle.compiled_pages.specs.Pages.{found_as, paged_at}
 use Rattle.page_meaning.proofs.Growing.{quiet}
 use Rattle.page_meaning.specs.Context.{Paged, Served, bad, good}
 use Rattle.page_meaning.specs.Faults.{Raise, run_fault_line}

@@ -16,7 +16,7 @@ use Rattle.page_meaning.specs.Respond.{run_answer}
 use Rattle.page_meaning.specs.Response.{head_of, page_response, responds, rest_of}
 use Rattle.page_meaning.specs.State.{State}
 use Rattle.page_meaning.specs.Went.{Did, Raised}
-use Rattle.page_serving.specs.Meant.{EndsAsMeant, PageMeant, page_mean}
+use Rattle.run_pages.specs.Meant.{EndsAsMeant, PageMeant, page_mean}
 use Rattle.pg_text.specs.declared.place.Place.{Place}
 use Rattle.pg_value.specs.declared.fault.RunFault.{RunFault}
 use Rattle.request_pages.specs.Gone.{GoneBy, GoneSo, PageGone, reply_answer}

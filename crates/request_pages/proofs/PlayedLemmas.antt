@@ -8,7 +8,7 @@ use Rattle.out_buffer.specs.Streamed.{HasTaken, so_far}
 use Rattle.out_buffer.specs.Writer.{Writer, empty_writer}
 use Rattle.out_buffer.specs.Held.{Held, Stands, fresh}
 use Rattle.page_machine.specs.Run.{StandsFor}
-use Rattle.page_made.specs.Made.{IsPageAt, IsProgramOf}
+use Rattle.compiled_pages.specs.Made.{IsPageAt, IsProgramOf}
 use Rattle.page_answers.proofs.HeadLemmas.{no_head}
 use Rattle.page_answers.specs.Dropped.{HeadsSo}
 use Rattle.page_meaning.proofs.Growing.{uncommitted, ordered_on}
@@ -19,7 +19,7 @@ use Rattle.page_meaning.specs.Page.{Page}
 use Rattle.page_meaning.specs.Respond.{at_start, first_run, run_answer}
 use Rattle.page_meaning.specs.Response.{head_of}
 use Rattle.page_meaning.specs.State.{State}
-use Rattle.page_serving.specs.Meant.{page_mean}
+use Rattle.run_pages.specs.Meant.{page_mean}
 use Rattle.request_pages.specs.Gone.{GoneSo, PageGone}
 use Rattle.request_pages.specs.Played.{Played, PlayedSo}
 use Rattle.request_pages.specs.declared.reply.Gone.{Gone}

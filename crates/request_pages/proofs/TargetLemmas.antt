@@ -3,8 +3,8 @@ use Rattle.std.proofs.Common.{◌≡◌, ℕ, List, ◌++◌, Some, None, sym, a
 use Rattle.std.specs.Prelude.{IfOk, Result, Ok, Err}
 use Rattle.http_out.specs.declared.status.Status.{Status}
 use Rattle.http_out.specs.declared.status.Status.TheVariants as status_is
-use Rattle.page_made.proofs.PageLemmas.{paged_absent, paged_bad, paged_plain}
-use Rattle.page_made.specs.Made.{IsFaultOf, IsProgramOf}
+use Rattle.compiled_pages.proofs.PageLemmas.{paged_absent, paged_bad, paged_plain}
+use Rattle.compiled_pages.specs.Made.{IsFaultOf, IsProgramOf}
 use Rattle.page_meaning.specs.Faults.{page_fault_line}
 use Rattle.page_meaning.specs.Respond.{target_answer}
 use Rattle.page_meaning.specs.Response.{file_type}

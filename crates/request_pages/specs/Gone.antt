@@ -14,7 +14,7 @@ use Rattle.page_meaning.specs.Respond.{OnFault, run_answer}
 use Rattle.page_meaning.specs.Response.{Answered, head_of, responds, rest_of}
 use Rattle.page_meaning.specs.State.{State}
 use Rattle.page_meaning.specs.Went.{Did}
-use Rattle.page_serving.specs.Meant.{page_mean}
+use Rattle.run_pages.specs.Meant.{page_mean}
 use Rattle.request_pages.specs.declared.reply.Gone.{Gone}
 use Rattle.request_pages.specs.declared.reply.Gone.TheVariants as gone
 use Rattle.request_pages.specs.declared.reply.Reply.{Reply}

@@ -2,7 +2,7 @@
 use Rattle.std.specs.Prelude.{◌≡◌, ℕ, List, ⊤}
 use Rattle.http_out.specs.declared.status.Status.{Status}
 use Rattle.out_buffer.specs.Held.{Held}
-use Rattle.page_made.specs.Pages.{paged_at}
+use Rattle.compiled_pages.specs.Pages.{paged_at}
 use Rattle.page_meaning.specs.Page.{Page}
 use Rattle.page_meaning.specs.Respond.{target_answer}
 use Rattle.page_meaning.specs.Response.{Answered}

@@ -1,10 +1,10 @@
 // The run of one page from its beginning.
 ghost use Rattle.std.specs.Prelude.{◌≡◌, ◌≤◌, ◌-◌, ℕ, List, false};
 ghost use Rattle.page_machine.specs.Run.{IsInOrder, StandsFor, level_limit};
-ghost use Rattle.page_made.specs.Made.{IsPageAt, IsProgramOf, TellsPages};
+ghost use Rattle.compiled_pages.specs.Made.{IsPageAt, IsProgramOf, TellsPages};
 ghost use Rattle.page_meaning.specs.Page.{Page};
 ghost use Rattle.page_meaning.specs.State.{State};
-ghost use Rattle.page_serving.specs.Meant.{served_at};
+ghost use Rattle.run_pages.specs.Meant.{served_at};
 ghost use Rattle.request_pages.specs.Course.{IsHeaded};
 ghost use Rattle.request_pages.specs.Played.{IsFunded, Played};
 ghost use Rattle.run_stage.specs.Standing.{HasCharged, KeepsSession};

@@ -4,7 +4,7 @@ use Rattle.std.specs.Prelude.{◌==◌, IsSome, IsSomeAnd, nat_le, slice_get, sl
 use Rattle.std.proofs.lemmas.Bool.Decides.{Decides-eqb}
 use Rattle.std.proofs.lemmas.Option.{get_or_from_slice_get}
 use Rattle.page_answers.specs.Turns.{hit, missed, names_of, page_bytes, unoffered}
-use Rattle.page_made.specs.Made.{IsUnitOf}
+use Rattle.compiled_pages.specs.Made.{IsUnitOf}
 use Rattle.pass_course.proofs.CourseLemmas.{courses_join, done_acts, done_stays}
 use Rattle.pass_course.proofs.UnderLemmas.{under_on}
 use Rattle.pass_course.specs.Course.{HasDone}

@@ -5,8 +5,8 @@ use Rattle.std.specs.List.{list_all}
 use Rattle.std.specs.declared.sync.Arc.{Arc}
 use Rattle.page_answers.proofs.TurnLemmas.{whole_but_last}
 use Rattle.page_answers.specs.Turns.{Turn, all_bytes, all_calls, is_whole, made, stepped}
-use Rattle.page_made.specs.Pages.{needs_at}
-use Rattle.page_made.specs.declared.made.Made.{Made}
+use Rattle.compiled_pages.specs.Pages.{needs_at}
+use Rattle.compiled_pages.specs.declared.made.Made.{Made}
 use Rattle.pass_course.proofs.CourseLemmas.{done_acts, done_stays}
 use Rattle.pass_course.specs.Course.{HasDone}
 use Rattle.request_port.specs.Finding.{Finds, IsFound}

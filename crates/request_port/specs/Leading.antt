@@ -2,8 +2,8 @@
 use Rattle.std.specs.Prelude.{◌≡◌, ◌≤◌, ◌+◌, ℕ, true, false, List, [], Option, Some, None, ⊤}
 use Rattle.std.specs.Arc.{arc_value}
 use Rattle.std.specs.declared.sync.Arc.{Arc}
-use Rattle.page_made.specs.Made.{IsMade}
-use Rattle.page_made.specs.declared.made.Made.{Made}
+use Rattle.compiled_pages.specs.Made.{IsMade}
+use Rattle.compiled_pages.specs.declared.made.Made.{Made}
 use Rattle.source_tree.specs.declared.file.File.{File}
 use Rattle.std.specs.List.{list_all}
 use Rattle.page_answers.specs.Turns.{Turn, all_bytes, all_calls, are_whole_but_last, is_whole}

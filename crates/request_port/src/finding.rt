@@ -2,8 +2,8 @@
 ghost use Rattle.std.specs.Prelude.{◌≡◌, ◌+◌, ◌≤◌, ℕ, IfOk};
 ghost use Rattle.std.specs.Arc.{arc_value};
 ghost use Rattle.page_answers.specs.Turns.{page_bytes};
-ghost use Rattle.page_made.specs.Made.{IsMade};
-ghost use Rattle.page_made.specs.Pages.{needs_at};
+ghost use Rattle.compiled_pages.specs.Made.{IsMade};
+ghost use Rattle.compiled_pages.specs.Pages.{needs_at};
 ghost use Rattle.pass_course.specs.Under.{Under};
 ghost use Rattle.request_port.specs.Finding.{IsFound, Offers};
 ghost use Rattle.site_words.specs.Answers.{IsSamePort};
@@ -14,8 +14,8 @@ ghost use Rattle.site_words.specs.declared.words.Run.{Run};
 ghost use Rattle.source_tree.specs.Edits.{file_at};
 ghost use Rattle.source_tree.specs.Limits.{IsWithinLimits};
 
+use compiled_pages::Made;
 use edges::{Ledger, Steps};
-use page_made::Made;
 use pg_text::Path;
 use site_words::Port;
 use source_tree::Tree;

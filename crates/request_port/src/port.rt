@@ -1,7 +1,7 @@
 use crate::finding::find;
 use crate::telling::{paged, tell};
+use compiled_pages::Made;
 use edges::{Ledger, Steps};
-use page_made::Made;
 use pg_text::Path;
 use run_world::Program;
 use site_words::{AppPort, AppReply, AppStep, Fresh, Paged, Port, is_page};
@@ -30,7 +30,7 @@ pub struct RequestPort<'a, Q, L: Ledger> {
 
 impl<'a, Q, L: Ledger> RequestPort<'a, Q, L> {
     ghost use Rattle.std.specs.Prelude.{IfOk};
-    ghost use Rattle.page_made.specs.Made.{IsFaultOf, IsProgramOf};
+    ghost use Rattle.compiled_pages.specs.Made.{IsFaultOf, IsProgramOf};
     ghost use Rattle.request_port.specs.Leading.{IsLast};
     ghost use Rattle.site_words.specs.Running.{IsPaged};
 
@@ -57,8 +57,8 @@ impl<'a, Q, L: Ledger> RequestPort<'a, Q, L> {
 }
 
 impl<'a, Q: Port<Made>, L: Ledger> AppPort<Program> for RequestPort<'a, Q, L> {
-    ghost use Rattle.page_made.specs.Made.{IsFaultOf, IsProgramOf};
-    ghost use Rattle.page_made.specs.Pages.{needs_at};
+    ghost use Rattle.compiled_pages.specs.Made.{IsFaultOf, IsProgramOf};
+    ghost use Rattle.compiled_pages.specs.Pages.{needs_at};
     ghost use Rattle.request_port.specs.Asked.{asking_of};
     ghost use Rattle.request_port.specs.Leading.{Leads};
 

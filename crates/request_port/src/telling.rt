@@ -1,13 +1,13 @@
 // What is told of a page that was found.
 ghost use Rattle.std.specs.Prelude.{ℕ, List, IfOk};
 ghost use Rattle.std.specs.Arc.{arc_value};
-ghost use Rattle.page_made.specs.Made.{IsBodyOf, IsFaultOf, IsMade, IsProgramOf};
+ghost use Rattle.compiled_pages.specs.Made.{IsBodyOf, IsFaultOf, IsMade, IsProgramOf};
 ghost use Rattle.request_port.specs.Leading.{IsLast};
 ghost use Rattle.site_words.specs.Running.{IsPageFile, IsPaged};
 ghost use Rattle.source_tree.specs.Edits.{file_at};
 ghost use Rattle.source_tree.specs.declared.file.File.{File};
 
-use page_made::{Made, MadeBody};
+use compiled_pages::{Made, MadeBody};
 use pg_text::Path;
 use run_world::Program;
 use site_words::Paged;

@@ -1,15 +1,15 @@
 ghost use Rattle.std.specs.Prelude.{◌≡◌, ℕ, List, IfOk};
-ghost use Rattle.page_made.specs.Made.{IsBodyBy, IsMade, IsMadeBy, IsUnitOf};
+ghost use Rattle.compiled_pages.specs.Made.{IsBodyBy, IsMade, IsMadeBy, IsUnitOf};
 ghost use Rattle.source_tree.specs.declared.file.File.{File};
 ghost use Rattle.unit_nodes.specs.Views.{body_view};
 
-use page_made::{Made, MadeBody};
+use crate::making::program;
+use compiled_pages::{Made, MadeBody};
 use pg_text::Listed;
 use source_tree::{Need, Stamps};
 use std::alloc::{AllocError, Global};
 use std::sync::Arc;
 use unit_nodes::{Unit, UnitBody};
-use unit_program::program;
 
 /// What is kept of a unit: its page as the program, or its fault, with the stamps of its dependencies.
 pub fn translate(alloc: Global, unit: &Unit) -> Result<Made, AllocError>

@@ -2,7 +2,7 @@
 use Rattle.std.proofs.Common.{◌≡◌, ◌+◌, ℕ, List, Some, sym, ap}
 use Rattle.std.specs.Prelude.{Result, Ok, Err}
 use Rattle.std.proofs.Common.{inr}
-use Rattle.page_made.specs.Pages.{unit_in}
+use Rattle.compiled_pages.specs.Pages.{unit_in}
 use Rattle.source_tree.specs.declared.file.File.{File}
 use Rattle.tree_pages.specs.Came.{HasCounted, bytes_at, unit_bytes}
 use Rattle.unit_build.specs.Needs.{bytes_of}

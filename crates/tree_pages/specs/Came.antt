@@ -2,8 +2,8 @@
 use Rattle.std.specs.Prelude.{◌≡◌, ◌⊎◌, ◌+◌, ℕ, List, Option, Some, None, Result, Ok, Err, ⊤}
 use Rattle.page_machine.specs.Run.{DepthSo}
 use Rattle.page_machine.specs.declared.running.RunEnd.{RunEnd}
-use Rattle.page_made.specs.Made.{IsFaultOf, IsPageAt}
-use Rattle.page_made.specs.Pages.{unit_in}
+use Rattle.compiled_pages.specs.Made.{IsFaultOf, IsPageAt}
+use Rattle.compiled_pages.specs.Pages.{unit_in}
 use Rattle.page_meaning.specs.Page.{Page}
 use Rattle.source_tree.specs.declared.file.File.{File}
 use Rattle.tree_pages.specs.declared.running.PageEnd.{PageEnd}

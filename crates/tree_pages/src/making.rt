@@ -1,12 +1,12 @@
 // What is made of a page.
 ghost use Rattle.std.specs.Prelude.{IfOk, IsSome};
-ghost use Rattle.page_made.specs.Made.{IsMade};
+ghost use Rattle.compiled_pages.specs.Made.{IsMade};
 ghost use Rattle.source_tree.specs.Limits.{IsWithinLimits};
 ghost use Rattle.tree_pages.specs.Came.{HasCounted};
 ghost use Rattle.unit_source.specs.Files.{text_in};
 
+use compiled_pages::Made;
 use edges::{Ledger, Steps};
-use page_made::Made;
 use pg_text::Path;
 use source_tree::Tree;
 use std::alloc::{AllocError, Global};

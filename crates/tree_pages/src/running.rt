@@ -3,9 +3,9 @@ ghost use Rattle.std.specs.Prelude.{◌≡◌, ◌+◌, ◌-◌, ◌≤◌, ℕ,
 ghost use Rattle.out_buffer.specs.Held.{Stands};
 ghost use Rattle.out_buffer.specs.Writer.{Writer as Written};
 ghost use Rattle.page_machine.specs.Run.{IsInOrder, StandsFor, level_limit};
-ghost use Rattle.page_made.specs.Made.{TellsPages};
+ghost use Rattle.compiled_pages.specs.Made.{TellsPages};
 ghost use Rattle.page_meaning.specs.State.{State};
-ghost use Rattle.page_serving.specs.Meant.{PageMeant, served_at};
+ghost use Rattle.run_pages.specs.Meant.{PageMeant, served_at};
 ghost use Rattle.run_stage.specs.Standing.{HasCharged, KeepsResponse, KeepsSession};
 ghost use Rattle.run_world.specs.Origin.{Origin};
 ghost use Rattle.source_tree.specs.Limits.{IsWithinLimits};
@@ -13,13 +13,13 @@ ghost use Rattle.tree_pages.specs.Came.{ComesSo, IsUntouched, KeepsDepth, StepsS
 ghost use Rattle.unit_source.specs.Files.{text_in};
 
 use crate::making::make;
+use compiled_pages::{Made, MadeBody};
 use edges::{Ledger, Sink, Steps};
 use http_in::{Param, Request};
 use out_buffer::Writer;
 use page_machine::RunEnd;
-use page_made::{Made, MadeBody};
-use page_serving::play;
 use pg_text::{PageFault, Path};
+use run_pages::play;
 use run_stage::RUN_PROMISE;
 use run_world::{Around, Program};
 use scopes::Scopes;

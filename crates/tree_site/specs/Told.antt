@@ -1,6 +1,6 @@
 -- What is made of a page, as a port tells it.
-use Rattle.page_made.specs.declared.made.MadeBody.{MadeBody}
-use Rattle.page_made.specs.declared.made.MadeBody.TheVariants as kept
+use Rattle.compiled_pages.specs.declared.made.MadeBody.{MadeBody}
+use Rattle.compiled_pages.specs.declared.made.MadeBody.TheVariants as kept
 use Rattle.run_world.specs.declared.program.Program.{Program}
 use Rattle.site_words.specs.declared.app_port.Paged.{Paged}
 use Rattle.site_words.specs.declared.app_port.Paged.TheVariants as found

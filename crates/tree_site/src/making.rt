@@ -1,13 +1,13 @@
 // What stands at the paths of a tree.
 ghost use Rattle.std.specs.Prelude.{◌≡◌, ◌<◌, IfOk, IsSome};
-ghost use Rattle.page_made.specs.Made.{IsFaultOf, IsMade, IsProgramOf};
+ghost use Rattle.compiled_pages.specs.Made.{IsFaultOf, IsMade, IsProgramOf};
 ghost use Rattle.site_words.specs.Running.{IsPaged};
 ghost use Rattle.source_tree.specs.Limits.{IsWithinLimits};
 ghost use Rattle.tree_site.specs.Told.{body_told};
 ghost use Rattle.unit_source.specs.Files.{text_in};
 
+use compiled_pages::{Made, MadeBody};
 use edges::{Steps, Unseen};
-use page_made::{Made, MadeBody};
 use pg_text::Path;
 use run_world::Program;
 use site_words::{Paged, is_page};

@@ -51,7 +51,7 @@ impl<'a> TreeSite<'a> {
 
 impl<'a> AppPort<Program> for TreeSite<'a> {
     ghost use Rattle.std.specs.Prelude.{⊤};
-    ghost use Rattle.page_made.specs.Made.{IsFaultOf, IsProgramOf};
+    ghost use Rattle.compiled_pages.specs.Made.{IsFaultOf, IsProgramOf};
     ghost use Rattle.tree_site.specs.Site.{asking_of, tree_of};
 
     ghost made = { λ program tree path. IsProgramOf program tree path };

@@ -1,5 +1,5 @@
 use Rattle.std.proofs.Common.{arith}
-use Rattle.page_shape.specs.Kinds.{statics_of}
+use Rattle.unit_meaning.specs.Kinds.{statics_of}
 use Rattle.unit_nodes.specs.Views.{kind_of}
 use Rattle.act_reader.proofs.WrittenLemmas.{next_written}
 use Rattle.act_reader.proofs.attributes.written.Goals as goal

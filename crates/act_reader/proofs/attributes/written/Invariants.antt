@@ -1,8 +1,8 @@
 use Rattle.std.proofs.Common.{◌≡◌, drop, map}
 use Rattle.act_reader.specs.Before.{attributes_before}
 use Rattle.page_meaning.specs.Page.{Attributes}
-use Rattle.page_shape.specs.Kinds.{statics_of}
-use Rattle.page_shape.specs.Named.{written_before}
+use Rattle.unit_meaning.specs.Kinds.{statics_of}
+use Rattle.unit_meaning.specs.Named.{written_before}
 use Rattle.unit_nodes.specs.Views.{given_of, kind_of}
 use Rattle.act_reader.proofs.attributes.written.Given as goal
 

@@ -1,5 +1,5 @@
 use Rattle.std.proofs.Common.{◌≡◌, ◌++◌, drop, map, string_bytes}
-use Rattle.page_shape.specs.Named.{plain_text}
+use Rattle.unit_meaning.specs.Named.{plain_text}
 use Rattle.unit_nodes.specs.Views.{part_of}
 use Rattle.act_reader.proofs.named.joined_text.Given as goal
 

@@ -1,7 +1,7 @@
 use Rattle.std.proofs.Common.{◌∙◌, ap, arith, sym}
 use Rattle.std.proofs.lemmas.List.{at_drop_all}
 use Rattle.act_reader.specs.Contents.{before}
-use Rattle.page_shape.specs.Shape.{children_of}
+use Rattle.unit_meaning.specs.Shape.{children_of}
 use Rattle.unit_nodes.specs.Views.{nodes_of}
 use Rattle.act_reader.proofs.ContentLemmas.{before_nothing}
 use Rattle.act_reader.proofs.ReadingLemmas.{action_added}

@@ -1,6 +1,6 @@
 use Rattle.std.proofs.Common.{◌≡◌, drop}
 use Rattle.act_reader.specs.Contents.{before}
-use Rattle.page_shape.specs.Shape.{children_of}
+use Rattle.unit_meaning.specs.Shape.{children_of}
 use Rattle.unit_nodes.specs.Views.{nodes_of}
 use Rattle.act_reader.proofs.reading.+reading.Given as goal
 

@@ -9,7 +9,7 @@ use Rattle.dispatch.specs.Started.{Came, HasBegun, Start, started}
 use Rattle.http_out.specs.Methods.{shows_body}
 use Rattle.page_answers.specs.Dropped.{Drops}
 use Rattle.page_answers.specs.Standing.{found, standing_of}
-use Rattle.page_made.specs.Pages.{needs_at}
+use Rattle.compiled_pages.specs.Pages.{needs_at}
 use Rattle.site_words.specs.declared.words.Opening.{Opening}
 use Rattle.source_tree.specs.declared.file.File.{File}
 

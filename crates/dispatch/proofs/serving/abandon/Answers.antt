@@ -1,7 +1,7 @@
 use Rattle.std.proofs.Common.{◌≡◌, [], false, true}
 use Rattle.dispatch.proofs.CameLemmas.{came_abandoned}
 use Rattle.dispatch.proofs.serving.abandon.Goals as goal
-use Rattle.page_made.specs.Pages.{needs_at}
+use Rattle.compiled_pages.specs.Pages.{needs_at}
 use Rattle.pass_course.proofs.CourseLemmas.{done_acts}
 use Rattle.site_words.specs.declared.words.Op.TheVariants as op
 use Rattle.site_words.specs.declared.words.Reply.TheVariants as reply

@@ -4,7 +4,7 @@ use Rattle.dispatch.proofs.serving.finish.Goals as goal
 use Rattle.dispatch.specs.Started.{origin_of}
 use Rattle.dispatch.specs.Replied.{response_in}
 use Rattle.http_out.specs.Response.{wire}
-use Rattle.page_made.specs.Pages.{needs_at}
+use Rattle.compiled_pages.specs.Pages.{needs_at}
 use Rattle.page_meaning.specs.Response.{closing}
 use Rattle.pass_course.proofs.CourseLemmas.{done_acts}
 use Rattle.site_words.specs.declared.words.Op.TheVariants as op

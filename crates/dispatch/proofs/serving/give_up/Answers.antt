@@ -2,7 +2,7 @@ use Rattle.std.proofs.Common.{refl, sym, ◌∙◌}
 use Rattle.dispatch.proofs.CameLemmas.{came_cut_off, none_committed, unsent}
 use Rattle.dispatch.proofs.serving.give_up.Goals as goal
 use Rattle.out_buffer.specs.Streamed.{HasTaken, so_far}
-use Rattle.page_made.specs.Pages.{needs_at}
+use Rattle.compiled_pages.specs.Pages.{needs_at}
 use Rattle.pass_course.proofs.CourseLemmas.{done_acts}
 use Rattle.site_words.specs.declared.words.Op.TheVariants as op
 use Rattle.site_words.specs.declared.words.Reply.TheVariants as reply

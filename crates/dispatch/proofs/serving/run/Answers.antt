@@ -4,9 +4,9 @@ use Rattle.dispatch.proofs.RunLemmas.{begun_funded, begun_headed, begun_in_order
 use Rattle.dispatch.proofs.serving.run.Goals as goal
 use Rattle.dispatch.specs.Started.{Start, started}
 use Rattle.page_answers.specs.Standing.{found}
-use Rattle.page_made.specs.Pages.{needs_at}
+use Rattle.compiled_pages.specs.Pages.{needs_at}
 use Rattle.page_meaning.specs.Respond.{beginning}
-use Rattle.page_serving.specs.Meant.{served_at}
+use Rattle.run_pages.specs.Meant.{served_at}
 use Rattle.request_pages.specs.Closed.{request_answers}
 use Rattle.run_world.specs.Origin.{Origin}
 use Rattle.run_world.specs.declared.around.Around.{Around}

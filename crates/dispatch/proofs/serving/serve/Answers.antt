@@ -8,7 +8,7 @@ use Rattle.dispatch.specs.Opened.{IsOpened}
 use Rattle.dispatch.specs.Started.{Came, HasBegun, Ran, Replies, Start, Starves, started}
 use Rattle.http_out.specs.Methods.{shows_body}
 use Rattle.page_answers.specs.Standing.{found}
-use Rattle.page_made.specs.Pages.{needs_at}
+use Rattle.compiled_pages.specs.Pages.{needs_at}
 use Rattle.page_meaning.specs.Respond.{beginning}
 use Rattle.pg_value.specs.Datum.{Datum}
 use Rattle.site_words.specs.Weights.{attrs_limit, attrs_weight}

@@ -1,6 +1,6 @@
 use denote.Exit.{yes}
 use denote.Param.Send.{arg_send, param_send}
-use Rattle.page_made.proofs.MadeCross.{made_send, made_sync}
+use Rattle.compiled_pages.proofs.MadeCross.{made_send, made_sync}
 use Rattle.pages_serve.proofs.command.rounds.Goals as goal
 
 pub round-requires-send-P : goal.round-requires-send-P

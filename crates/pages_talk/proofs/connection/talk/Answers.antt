@@ -1,6 +1,6 @@
 use Rattle.std.proofs.Common.{[]}
 use Rattle.page_answers.specs.Standing.{standing_of}
-use Rattle.page_made.specs.Pages.{needs_at}
+use Rattle.compiled_pages.specs.Pages.{needs_at}
 use Rattle.talk_words.proofs.GrownLemmas.{one_history}
 use Rattle.talk_words.specs.Connection.{Connection, Stand, connection_of, stand_of}
 use Rattle.pages_talk.proofs.connection.talk.Goals as goal

@@ -1,10 +1,10 @@
 use Rattle.std.proofs.Common.{ap, refl, sym, subst, ◌∙◌}
 use Rattle.std.specs.Arc.{arc_value}
-use Rattle.page_made.proofs.PageLemmas.{paged_absent, paged_bad, paged_good, paged_plain}
-use Rattle.page_made.specs.Made.{IsPageAt, IsProgramOf}
+use Rattle.compiled_pages.proofs.PageLemmas.{paged_absent, paged_bad, paged_good, paged_plain}
+use Rattle.compiled_pages.specs.Made.{IsPageAt, IsProgramOf}
 use Rattle.page_meaning.specs.Context.{absent, bad, plain}
 use Rattle.page_meaning.specs.Work.{fetched}
-use Rattle.page_serving.specs.Meant.{served_at}
+use Rattle.run_pages.specs.Meant.{served_at}
 use Rattle.request_pages.proofs.CloseLemmas.{closed_as, closed_whole, reached, reached_looked}
 use Rattle.request_pages.proofs.FirstLemmas.{same_first}
 use Rattle.request_pages.proofs.RequestLemmas.{request_first, request_looked, says_at, says_hidden, says_nowhere}

@@ -1,9 +1,9 @@
 use Rattle.std.proofs.Common.{ap, sym, subst, ◌∙◌}
 use Rattle.std.specs.Arc.{arc_value}
 use Rattle.std.specs.Option.{option_map}
-use Rattle.page_made.specs.Made.{IsPageAt, IsProgramOf}
-use Rattle.page_made.specs.Pages.{paged_at}
-use Rattle.page_serving.specs.Meant.{served_at}
+use Rattle.compiled_pages.specs.Made.{IsPageAt, IsProgramOf}
+use Rattle.compiled_pages.specs.Pages.{paged_at}
+use Rattle.run_pages.specs.Meant.{served_at}
 use Rattle.request_pages.proofs.ChainLemmas.{none_held}
 use Rattle.request_pages.proofs.CloseLemmas.{reached}
 use Rattle.request_pages.proofs.FirstLemmas.{failed_known, first_done, first_failed, first_lost}

@@ -1,8 +1,8 @@
 use Rattle.std.proofs.Common.{ap, refl, rules, sym, subst, ◌∙◌, ◌≤◌, ◌-◌, ◌<◌, arith}
-use Rattle.page_made.proofs.PageLemmas.{paged_good}
-use Rattle.page_made.specs.Made.{IsProgramOf}
-use Rattle.page_made.specs.Pages.{paged_at}
-use Rattle.page_serving.specs.Meant.{served_at}
+use Rattle.compiled_pages.proofs.PageLemmas.{paged_good}
+use Rattle.compiled_pages.specs.Made.{IsProgramOf}
+use Rattle.compiled_pages.specs.Pages.{paged_at}
+use Rattle.run_pages.specs.Meant.{served_at}
 use Rattle.request_pages.proofs.ChainLemmas.{chained_done, chained_failed, chained_lost, chained_on, chained_short, chained_told, forward_known, levels_left, none_held, same_chained}
 use Rattle.request_pages.proofs.chain.+run_chain.Goals as goal
 use Rattle.request_pages.specs.Target.{IsTargetReply}

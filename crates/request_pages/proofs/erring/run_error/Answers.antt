@@ -1,12 +1,12 @@
 use Rattle.std.proofs.Common.{ap, refl, sym, subst, ◌∙◌, Some}
 use Rattle.http_out.specs.declared.status.Status.TheVariants as status_is
 use Rattle.std.specs.Arc.{arc_value}
-use Rattle.page_made.proofs.PageLemmas.{paged_absent, paged_bad, paged_good, paged_plain}
-use Rattle.page_made.specs.Made.{IsPageAt, IsProgramOf}
+use Rattle.compiled_pages.proofs.PageLemmas.{paged_absent, paged_bad, paged_good, paged_plain}
+use Rattle.compiled_pages.specs.Made.{IsPageAt, IsProgramOf}
 use Rattle.page_meaning.specs.Context.{absent, bad, plain}
 use Rattle.page_meaning.specs.Respond.{with_exception, with_no_visits}
 use Rattle.page_meaning.specs.Work.{fetched}
-use Rattle.page_serving.specs.Meant.{served_at}
+use Rattle.run_pages.specs.Meant.{served_at}
 use Rattle.request_pages.proofs.ChainLemmas.{same_chained}
 use Rattle.request_pages.proofs.CloseLemmas.{begun_again, closed_as, closed_done, closed_failed, closed_fetched, closed_looked, closed_short, closed_vain, closed_whole, path_same, reached, reached_looked, says_found, says_none}
 use Rattle.request_pages.proofs.HeadLemmas.{headed_looked}

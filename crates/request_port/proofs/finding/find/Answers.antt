@@ -1,7 +1,7 @@
 use Rattle.std.proofs.Common.{◌+◌, ◌≤◌, arith}
 use Rattle.std.specs.Arc.{arc_value}
-use Rattle.page_made.specs.Made.{IsMade}
-use Rattle.page_made.specs.Pages.{needs_at}
+use Rattle.compiled_pages.specs.Made.{IsMade}
+use Rattle.compiled_pages.specs.Pages.{needs_at}
 use Rattle.pass_course.proofs.CourseLemmas.{done_acts}
 use Rattle.request_port.proofs.FindLemmas.{fetched_on, found_hit, found_missed, found_none, of_run, same_offers, same_under}
 use Rattle.request_port.proofs.finding.find.Goals as goal

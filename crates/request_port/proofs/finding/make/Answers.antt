@@ -1,4 +1,4 @@
-use Rattle.page_made.specs.Pages.{needs_at}
+use Rattle.compiled_pages.specs.Pages.{needs_at}
 use Rattle.pass_course.proofs.CourseLemmas.{done_acts}
 use Rattle.request_port.proofs.finding.make.Goals as goal
 use Rattle.site_words.specs.declared.words.Op.TheVariants as op

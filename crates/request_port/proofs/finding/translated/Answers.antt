@@ -1,6 +1,6 @@
 use Rattle.std.proofs.Common.{subst, sym}
-use Rattle.page_made.specs.Made.{IsMade}
-use Rattle.page_made.specs.MadeLaws.{unit_built}
+use Rattle.compiled_pages.specs.Made.{IsMade}
+use Rattle.compiled_pages.specs.MadeLaws.{unit_built}
 use Rattle.request_port.proofs.FindLemmas.{read_bound, read_is, text_there}
 use Rattle.request_port.proofs.finding.translated.Goals as goal
 

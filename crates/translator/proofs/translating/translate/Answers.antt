@@ -1,6 +1,6 @@
 use Rattle.std.proofs.Common.{◌∙◌}
-use Rattle.page_made.specs.MadeLaws.{made_by}
-use Rattle.page_made.specs.Made.{IsMadeBy}
+use Rattle.compiled_pages.specs.MadeLaws.{made_by}
+use Rattle.compiled_pages.specs.Made.{IsMadeBy}
 use Rattle.translator.proofs.translating.translate.Goals as goal
 
 pub returns-clause-made : goal.returns-clause-made

@@ -1,6 +1,6 @@
 use Rattle.std.proofs.Common.{◌+◌, ap, ◌∙◌}
-use Rattle.page_made.specs.Made.{IsUnitOf}
-use Rattle.page_made.specs.MadeLaws.{unit_built}
+use Rattle.compiled_pages.specs.Made.{IsUnitOf}
+use Rattle.compiled_pages.specs.MadeLaws.{unit_built}
 use Rattle.tree_pages.proofs.Counting.{bytes_of_unit, counted_all}
 use Rattle.tree_pages.proofs.making.make.Goals as goal
 use Rattle.unit_build.specs.Views.{unit_view}

@@ -3,7 +3,7 @@ use Rattle.context_words.specs.Parts.{Lent, Part, lent_of, part_of, stand_at}
 use Rattle.conversation.specs.Exchange.{Exchange}
 use Rattle.http_in.specs.declared.request.Request.{Request}
 use Rattle.page_answers.specs.Standing.{standing_of}
-use Rattle.page_made.specs.Pages.{needs_at}
+use Rattle.compiled_pages.specs.Pages.{needs_at}
 use Rattle.talk_words.specs.Connection.{Connection, connection_of, stand_of}
 use Rattle.talk_words.specs.Said.{IsLeft, IsSaid}
 use Rattle.context_talk.proofs.desk.SiteDeskTenant.serve.Goals as goal

@@ -1,4 +1,4 @@
-use Rattle.page_made.specs.Pages.{needs_at}
+use Rattle.compiled_pages.specs.Pages.{needs_at}
 use Rattle.request_port.proofs.AskedLemmas.{app_told, may_app}
 use Rattle.request_port.proofs.LeadLemmas.{leads_app}
 use Rattle.request_port.proofs.port.RequestPortAppPortProgram.app.Goals as goal

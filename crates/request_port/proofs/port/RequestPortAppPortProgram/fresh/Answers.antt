@@ -1,4 +1,4 @@
-use Rattle.page_made.specs.Pages.{needs_at}
+use Rattle.compiled_pages.specs.Pages.{needs_at}
 use Rattle.request_port.proofs.AskedLemmas.{fresh_given, may_fresh}
 use Rattle.request_port.proofs.LeadLemmas.{leads_fresh}
 use Rattle.request_port.proofs.port.RequestPortAppPortProgram.fresh.Goals as goal

@@ -1,5 +1,5 @@
 use Rattle.std.proofs.Common.{refl}
-use Rattle.page_made.specs.Pages.{needs_at}
+use Rattle.compiled_pages.specs.Pages.{needs_at}
 use Rattle.request_port.proofs.AskedLemmas.{found_looked, looks_still, page_file, under_page}
 use Rattle.request_port.proofs.LeadLemmas.{leads_found}
 use Rattle.request_port.proofs.port.RequestPortAppPortProgram.page.Goals as goal

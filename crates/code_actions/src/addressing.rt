@@ -1,0 +1,187 @@
+// Actions on an address with params.
+ghost use Rattle.std.specs.Prelude.{◌≡◌, IfOk, option_map};
+ghost use Rattle.code_actions.specs.Addressing.{addressing_code, address_code, address_done, addressing_evaluations, page_address_code, url_code};
+ghost use Rattle.page_acts.specs.Views.{variable_of};
+ghost use Rattle.page_code.specs.Ops.{address_with};
+ghost use Rattle.page_code.specs.Shapes.{up};
+ghost use Rattle.code_forms.specs.Codes.{form_code};
+ghost use Rattle.code_forms.specs.Forms.{calls, forwards_to, included_page};
+ghost use Rattle.code_lowering.specs.Lowering.{url_put};
+
+use crate::calls::import;
+use crate::evaluations::Evaluations;
+use crate::variables::sets;
+use code_forms::{arranged, call, leave, operation};
+use page_acts::Variable;
+use page_code::{CallOut, Code, Leave, Op, Shape, values_of_address};
+use pg_text::{Listed, Place, Text};
+use std::alloc::{AllocError, Global};
+
+/// An action with attributes and params, apart from these.
+#[derive(Clone, Copy)]
+pub enum Addressing<'a> {
+    /// `c:import`, with the variable for the text, where one is given.
+    Import(&'a Option<Variable>),
+    /// `c:url`, with the variable for the address, where one is given.
+    Url(&'a Option<Variable>),
+    /// `c:redirect`.
+    Redirect,
+    /// `jsp:include`, with whether it flushes before.
+    Include(bool),
+    /// `jsp:forward`.
+    Forward,
+}
+
+impl<'a> Addressing<'a> {
+    /// What becomes of the attributes.
+    pub fn evaluations(&self) -> Evaluations<'static>
+        ensures { result ≡ addressing_evaluations self.now }
+    {
+        match self {
+            Addressing::Import(_) => Evaluations::Url,
+            Addressing::Url(_) => Evaluations::Url,
+            Addressing::Redirect => Evaluations::Url,
+            Addressing::Include(_) => Evaluations::Page,
+            Addressing::Forward => Evaluations::Page,
+        }
+    }
+
+    /// The code of the action behind the values of its attributes, which have these names, from the code of its params: there are so many, and
+    /// their code has one value more below it.
+    pub fn code(
+        &self,
+        alloc: Global,
+        ground: &Shape,
+        place: &Place,
+        names: &Listed<Text>,
+        count: usize,
+        params: Code,
+    ) -> Result<Code, AllocError>
+        ensures { IfOk result (λ code. code ≡ addressing_code self.now ground.now place.now names.now count params) }
+    {
+        let mut code = self.address(alloc, ground, place, names, count, params)?;
+        code.join(self.behind(alloc, ground, place, count)?)?;
+        Ok(code)
+    }
+
+    // The code of the address.
+    fn address(
+        &self,
+        alloc: Global,
+        ground: &Shape,
+        place: &Place,
+        names: &Listed<Text>,
+        count: usize,
+        params: Code,
+    ) -> Result<Code, AllocError>
+        ensures { IfOk result (λ code. code ≡ address_code self.now ground.now place.now names.now count params) }
+    {
+        match self {
+            Addressing::Import(_) => url(alloc, ground, place, "url", names, count, params),
+            Addressing::Url(_) => url(alloc, ground, place, "value", names, count, params),
+            Addressing::Redirect => url(alloc, ground, place, "url", names, count, params),
+            Addressing::Include(_) => page(alloc, ground, place, names, params),
+            Addressing::Forward => page(alloc, ground, place, names, params),
+        }
+    }
+
+    // The code of what is done with the address.
+    fn behind(
+        &self,
+        alloc: Global,
+        ground: &Shape,
+        place: &Place,
+        count: usize,
+    ) -> Result<Code, AllocError>
+        ensures { IfOk result (λ code. code ≡ address_done self.now ground.now place.now count) }
+    {
+        match self {
+            Addressing::Import(variable) => import(alloc, ground, place, variable),
+            Addressing::Url(variable) => url_put(alloc, ground, place, variable),
+            Addressing::Redirect => leave(alloc, &ground.up(1)?, place, Leave::Redirect),
+            Addressing::Include(flush) => include(alloc, ground, place, *flush, count),
+            Addressing::Forward => forward(alloc, ground, place, count),
+        }
+    }
+}
+
+// The code of the url of a tag, behind the values of its attributes: its address with so many params, whose code has one value more below it.
+fn url(
+    alloc: Global,
+    ground: &Shape,
+    place: &Place,
+    address: &str,
+    names: &Listed<Text>,
+    count: usize,
+    params: Code,
+) -> Result<Code, AllocError>
+    ensures { IfOk result (λ code. code ≡ url_code ground.now place.now address.now names.now count params) }
+{
+    let mut code = arranged(alloc, ground, place, &[address], names)?;
+    code.join(params)?;
+    code.join(operation(alloc, ground, place, Op::Url(count))?)?;
+    Ok(code)
+}
+
+// The code of a page's address, behind the values of the attributes, with params, whose code has one value more below it.
+fn page(
+    alloc: Global,
+    ground: &Shape,
+    place: &Place,
+    names: &Listed<Text>,
+    params: Code,
+) -> Result<Code, AllocError>
+    ensures { IfOk result (λ code. code ≡ page_address_code ground.now place.now names.now params) }
+{
+    let mut code = arranged(alloc, ground, place, &["page"], names)?;
+    code.join(params)?;
+    Ok(code)
+}
+
+// The code of `c:url` behind its url: it is written, or set as a variable where one is given.
+fn url_put(
+    alloc: Global,
+    ground: &Shape,
+    place: &Place,
+    variable: &Option<Variable>,
+) -> Result<Code, AllocError>
+    ensures { IfOk result (λ code. code ≡ form_code ground.now
+        (url_put place.now (option_map variable_of variable.now))) }
+{
+    match variable {
+        Some(variable) => sets(alloc, ground, place, variable),
+        None => operation(alloc, ground, place, Op::Put),
+    }
+}
+
+// The code of `jsp:include` behind the address of a page with so many params.
+fn include(
+    alloc: Global,
+    ground: &Shape,
+    place: &Place,
+    flush: bool,
+    params: usize,
+) -> Result<Code, AllocError>
+    ensures { IfOk result (λ code. code ≡ form_code ground.now (calls (included_page flush params) place.now)) }
+{
+    let before = with_address(ground, params)?;
+    call(alloc, &before, place, CallOut::Include { flush, params })
+}
+
+// The code of `jsp:forward` behind the address of a page with so many params.
+fn forward(alloc: Global, ground: &Shape, place: &Place, params: usize) -> Result<Code, AllocError>
+    ensures { IfOk result (λ code. code ≡ form_code ground.now (forwards_to params place.now)) }
+{
+    let before = with_address(ground, params)?;
+    leave(alloc, &before, place, Leave::Forward(params))
+}
+
+// The shape with an address with so many params.
+fn with_address(ground: &Shape, params: usize) -> Result<Shape, AllocError>
+    ensures { IfOk result (λ made. made ≡ up (address_with params) ground.now) }
+{
+    let Ok(count) = usize::try_from(values_of_address(params)) else {
+        return Err(AllocError);
+    };
+    ground.up(count)
+}

@@ -1,0 +1,89 @@
+// The branches of a choice.
+ghost use Rattle.std.specs.Prelude.{◌≡◌, ◌+◌, ◌++◌, IfOk};
+ghost use Rattle.code_actions.specs.Choosing.{before, size_before, when_code};
+
+use code_forms::arranged;
+use page_code::{Code, Instr, Shape};
+use pg_text::{Listed, Place, Text};
+use std::alloc::{AllocError, Global};
+
+/// A branch with a test: its code as far as its body goes, and its place.
+#[derive(Drop)]
+pub struct TestedBranch {
+    pub code: Code,
+    pub place: Place,
+}
+
+/// A branch, from the code of its visit and of the values of its attributes, which have these names, and from the code of its body.
+pub fn when(
+    alloc: Global,
+    ground: &Shape,
+    place: &Place,
+    names: &Listed<Text>,
+    values: Code,
+    body: Code,
+) -> Result<TestedBranch, AllocError>
+    ensures { IfOk result (λ made. made ≡ record {
+      code = values ++ when_code ground.now place.now names.now
+          body;
+      place = place.now;
+    }) }
+{
+    let Some(size) = body.len().checked_add(1) else {
+        return Err(AllocError);
+    };
+    let mut code = values;
+    code.join(arranged(alloc, ground, place, &["test"], names)?)?;
+    code.put(&ground.up(1)?, place, Instr::JumpIf(false, size))?;
+    code.join(body)?;
+    Ok(TestedBranch {
+        code,
+        place: place.copy()?,
+    })
+}
+
+/// The code of a choice: of branches in order the first whose test is true, and where none is, the last part.
+pub fn choice(
+    alloc: Global,
+    ground: &Shape,
+    whens: Vec<TestedBranch>,
+    last: Code,
+) -> Result<Code, AllocError>
+    ensures { IfOk result (λ code. code ≡ before ground.now whens.items last) }
+{
+    let after = ground.up(0)?;
+    let mut left = size(&whens, last.len())?;
+    let mut code = Code::new(alloc);
+    for when in whens {
+        left -= when.code.len();
+        left -= 1;
+        code.join(when.code)?;
+        code.put(&after, &when.place, Instr::Jump(left))?;
+    }
+    code.join(last)?;
+    Ok(code)
+}
+
+// How many cells these branches have before so many others.
+fn size(whens: &[TestedBranch], last: usize) -> Result<usize, AllocError>
+    ensures { IfOk result (λ size. size ≡ size_before whens.now last) }
+{
+    let mut size = last;
+    for when in whens {
+        size = longer(size, when.code.len())?;
+    }
+    Ok(size)
+}
+
+// So many cells with others and one more.
+fn longer(size: usize, more: usize) -> Result<usize, AllocError>
+    ensures { IfOk result (λ sum. sum ≡ size + more + 1) }
+{
+    let Some(sum) = size.checked_add(more) else {
+        return Err(AllocError);
+    };
+    match sum.checked_add(1) {
+        Some(sum) => Ok(sum),
+        None => Err(AllocError),
+    }
+}

@@ -1,0 +1,91 @@
+// Actions with attributes, around a body or on an address.
+ghost use Rattle.std.specs.Prelude.{◌≡◌, IfOk};
+ghost use Rattle.code_actions.specs.Addressing.{addressing_node};
+ghost use Rattle.code_actions.specs.Enclosing.{enclosing_node};
+ghost use Rattle.page_acts.specs.Views.{acts_of, attributes_of, params_of, property_of};
+ghost use Rattle.code_forms.specs.Codes.{form_code};
+ghost use Rattle.code_lowering.specs.Lowering.{node_form};
+ghost use Rattle.page_meaning.specs.Page.{set_property};
+ghost use Rattle.unit_meaning.specs.Shape.{page_of};
+ghost use Rattle.unit_nodes.specs.Views.{page_view};
+
+use crate::attributes::values;
+use crate::names::{evaluated_names, value_place};
+use crate::params::params;
+use crate::tree::nodes;
+use code_actions::{Addressing, Enclosing, Evaluations, set_property};
+use page_acts::{Act, ActAttribute, ActParam, Property};
+use page_code::{Code, Shape};
+use pg_text::{Place, Text};
+use std::alloc::{AllocError, Global};
+use unit_nodes::Page;
+
+/// The code of an action around a body.
+#[cycle(nodes)]
+pub(crate) fn enclosed(
+    alloc: Global,
+    page: &Page,
+    ground: &Shape,
+    place: &Place,
+    action: &Enclosing,
+    attributes: &[ActAttribute],
+    body: &[Act],
+) -> Result<Code, AllocError>
+    ensures { IfOk result (λ code. code
+        ≡ form_code ground.now (node_form (page_of (page_view page.now))
+        (enclosing_node action.now (attributes_of attributes.now) (acts_of body.now) place.now))) }
+{
+    let evaluations = action.evaluations();
+    let names = evaluated_names(alloc, &evaluations, attributes)?;
+    let mut code = values(alloc, page, ground, &evaluations, attributes)?;
+    let within = action.body_ground(ground, &names)?;
+    let body = nodes(alloc, page, &within, body)?;
+    code.join(action.code(alloc, ground, place, names, body)?)?;
+    Ok(code)
+}
+
+/// The code of an action on an address with params.
+#[cycle(nodes)]
+pub(crate) fn addressed(
+    alloc: Global,
+    page: &Page,
+    ground: &Shape,
+    place: &Place,
+    action: &Addressing,
+    attributes: &[ActAttribute],
+    list: &[ActParam],
+) -> Result<Code, AllocError>
+    ensures { IfOk result (λ code. code
+        ≡ form_code ground.now (node_form (page_of (page_view page.now))
+        (addressing_node action.now (attributes_of attributes.now) (params_of list.now) place.now))) }
+{
+    let evaluations = action.evaluations();
+    let names = evaluated_names(alloc, &evaluations, attributes)?;
+    let mut code = values(alloc, page, ground, &evaluations, attributes)?;
+    let given = params(alloc, page, &ground.up(1)?, list)?;
+    code.join(action.code(alloc, ground, place, &names, list.len(), given)?)?;
+    Ok(code)
+}
+
+/// The code of `jsp:setProperty`.
+#[cycle(nodes)]
+pub(crate) fn properties(
+    alloc: Global,
+    page: &Page,
+    ground: &Shape,
+    place: &Place,
+    name: &Text,
+    property: &Property,
+    attributes: &[ActAttribute],
+) -> Result<Code, AllocError>
+    ensures { IfOk result (λ code. code
+        ≡ form_code ground.now (node_form (page_of (page_view page.now))
+        (set_property name.now (property_of property.now) (attributes_of attributes.now) place.now))) }
+{
+    let evaluations = Evaluations::AsTheyAre;
+    let names = evaluated_names(alloc, &evaluations, attributes)?;
+    let mut code = values(alloc, page, ground, &evaluations, attributes)?;
+    let at = value_place(attributes, place);
+    code.join(set_property(alloc, ground, place, name, property, at, &names)?)?;
+    Ok(code)
+}

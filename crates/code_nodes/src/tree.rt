@@ -1,0 +1,209 @@
+// Nodes.
+ghost use Rattle.std.specs.Prelude.{◌≡◌, IfOk};
+ghost use Rattle.page_acts.specs.Views.{act_of, acts_of};
+ghost use Rattle.code_forms.specs.Codes.{form_code};
+ghost use Rattle.code_lowering.specs.Lowering.{node_form, nodes_form};
+ghost use Rattle.unit_meaning.specs.Shape.{page_of};
+ghost use Rattle.unit_nodes.specs.Views.{page_view};
+
+use crate::actions::{addressed, enclosed, properties};
+use crate::calls::call;
+use crate::choices::branches as branches_code;
+use code_actions::{
+    Addressing, Enclosing, catch, do_body, get_property, invoke, remove, shown, template, use_bean,
+};
+use code_expressions::visits;
+use page_acts::Act;
+use page_code::{Code, Shape};
+use std::alloc::{AllocError, Global};
+use unit_nodes::Page;
+
+/// The code of nodes in the unit of a page, one after the other, each behind its visit.
+#[cycle(nodes)]
+pub fn nodes(alloc: Global, page: &Page, ground: &Shape, acts: &[Act]) -> Result<Code, AllocError>
+    ensures { IfOk result (λ code. code ≡ form_code ground.now (nodes_form (page_of (page_view page.now))
+        (acts_of acts.now))) }
+{
+    let mut code = Code::new(alloc);
+    for act in acts {
+        code.join(visits(alloc, ground, act.place(), 1)?)?;
+        code.join(node(alloc, page, ground, act)?)?;
+    }
+    Ok(code)
+}
+
+// The code of a node behind its visit.
+#[cycle(nodes)]
+#[tactic(auto, using(page_acts::proofs::Rows::rows))]
+fn node(alloc: Global, page: &Page, ground: &Shape, act: &Act) -> Result<Code, AllocError>
+    ensures { IfOk result (λ code. code ≡ form_code ground.now (node_form (page_of (page_view page.now))
+        (act_of act.now))) }
+{
+    match act {
+        Act::Template { text, place } => template(alloc, ground, place, text),
+        Act::Shown { el, place } => shown(alloc, ground, place, el),
+        Act::Out {
+            attributes,
+            body,
+            place,
+        } => {
+            enclosed(
+                alloc,
+                page,
+                ground,
+                place,
+                &Enclosing::Out,
+                attributes,
+                body,
+            )
+        }
+        Act::Set {
+            variable,
+            attributes,
+            body,
+            place,
+        } => {
+            let action = Enclosing::Set(variable);
+            enclosed(alloc, page, ground, place, &action, attributes, body)
+        }
+        Act::SetEntry {
+            target,
+            attributes,
+            body,
+            place,
+        } => {
+            let action = Enclosing::SetEntry(target);
+            enclosed(alloc, page, ground, place, &action, attributes, body)
+        }
+        Act::Remove { variable, place } => remove(alloc, ground, place, variable),
+        Act::Catch {
+            variable,
+            body,
+            place,
+        } => {
+            let body = nodes(alloc, page, &ground.trying()?, body)?;
+            catch(alloc, ground, place, variable, body)
+        }
+        Act::If {
+            variable,
+            attributes,
+            body,
+            place,
+        } => {
+            let action = Enclosing::If(variable);
+            enclosed(alloc, page, ground, place, &action, attributes, body)
+        }
+        Act::Choose { branches, place: _ } => branches_code(alloc, page, ground, branches),
+        Act::ForEach {
+            variable,
+            status,
+            attributes,
+            body,
+            place,
+        } => {
+            let action = Enclosing::ForEach { variable, status };
+            enclosed(alloc, page, ground, place, &action, attributes, body)
+        }
+        Act::ForTokens {
+            variable,
+            status,
+            attributes,
+            body,
+            place,
+        } => {
+            let action = Enclosing::ForTokens { variable, status };
+            enclosed(alloc, page, ground, place, &action, attributes, body)
+        }
+        Act::Import {
+            variable,
+            attributes,
+            params,
+            place,
+        } => {
+            let action = Addressing::Import(variable);
+            addressed(alloc, page, ground, place, &action, attributes, params)
+        }
+        Act::Url {
+            variable,
+            attributes,
+            params,
+            place,
+        } => {
+            let action = Addressing::Url(variable);
+            addressed(alloc, page, ground, place, &action, attributes, params)
+        }
+        Act::Redirect {
+            attributes,
+            params,
+            place,
+        } => {
+            addressed(
+                alloc,
+                page,
+                ground,
+                place,
+                &Addressing::Redirect,
+                attributes,
+                params,
+            )
+        }
+        Act::Include {
+            flush,
+            attributes,
+            params,
+            place,
+        } => {
+            let action = Addressing::Include(*flush);
+            addressed(alloc, page, ground, place, &action, attributes, params)
+        }
+        Act::Forward {
+            attributes,
+            params,
+            place,
+        } => {
+            addressed(
+                alloc,
+                page,
+                ground,
+                place,
+                &Addressing::Forward,
+                attributes,
+                params,
+            )
+        }
+        Act::UseBean {
+            name,
+            scope,
+            class,
+            body,
+            place,
+        } => {
+            let part = nodes(alloc, page, ground, body)?;
+            use_bean(alloc, ground, place, &page.beans, name, *scope, class, part)
+        }
+        Act::GetProperty {
+            name,
+            property,
+            place,
+        } => { get_property(alloc, ground, place, name, property) }
+        Act::SetProperty {
+            name,
+            property,
+            attributes,
+            place,
+        } => { properties(alloc, page, ground, place, name, property, attributes) }
+        Act::Group { body, place: _ } => nodes(alloc, page, ground, body),
+        Act::DoBody { variable, place } => do_body(alloc, ground, place, variable),
+        Act::Invoke {
+            fragment,
+            variable,
+            place,
+        } => { invoke(alloc, ground, place, fragment, variable) }
+        Act::Call {
+            path,
+            attributes,
+            body,
+            place,
+        } => { call(alloc, page, ground, place, path, attributes, body) }
+    }
+}

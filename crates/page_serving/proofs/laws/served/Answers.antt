@@ -1,5 +1,0 @@
-use Rattle.page_serving.proofs.Serving.{pages_served, tells_itself}
-use Rattle.page_serving.proofs.laws.served.Goals as goal
-
-pub returns : goal.returns
-returns c = λ tree request around. pages_served c.programs.ensures.fit tells_itself tree request around
