@@ -32,37 +32,34 @@ HTTP/1.1 200 OK\r\nContent-Type: text/plain;charset=UTF-8\r\nContent-Length: 10\
 HTTP/1.1 200 OK\r\nContent-Type: text/html;charset=UTF-8\r\nContent-Length: 1\r\n\r\nA\
 HTTP/1.1 200 OK\r\nContent-Type: text/html;charset=UTF-8\r\nContent-Length: 1\r\n\r\nB";
 
-// The status of the command over this input, and what it wrote.
-fn played<N: Ledger>(
+// The status of the command for these names, and what it wrote.
+fn played(alloc: Global, names: &str) -> Result<(u8, Vec<u8>), AllocError> {
+    let word = String::from_str(alloc, "contexts")?;
+    let words = vec![in alloc; word, String::from_str(alloc, names)?]?;
+    worded::<Brand>(alloc, Blank::new(1), &words)
+}
+
+// The status of these words, and what was written.
+fn worded<N: Ledger>(
     alloc: Global,
     blank: Blank,
-    names: &str,
-    input: &str,
+    words: &[String],
 ) -> Result<(u8, Vec<u8>), AllocError>
     requires name { blank.name ≡ N.name }
     requires parts { blank.parts ≡ N.parts }
     requires some { 0 < N.parts }
 {
-    let word = String::from_str(alloc, "contexts")?;
-    let words = vec![in alloc; word, String::from_str(alloc, names)?]?;
-    let mut source = MemSource::new(input.as_bytes().to_vec(alloc)?, 4_096, Vec::new(alloc));
+    let mut source = MemSource::new(ASKED.as_bytes().to_vec(alloc)?, 4_096, Vec::new(alloc));
     let mut sink = MemSink::new(alloc, Vec::new(alloc));
     let mut clock = MemClock::new(vec![in alloc; 0]?);
     let mut steps = Steps::<Unseen<N>>::unseen(blank);
-    let status = play_contexts(
-        alloc,
-        &words,
-        &mut source,
-        &mut sink,
-        &mut clock,
-        &mut steps,
-    );
+    let status = play_contexts(alloc, words, &mut source, &mut sink, &mut clock, &mut steps);
     Ok((status, sink.taken().to_vec(alloc)?))
 }
 
 #[test]
 fn each_context_has_its_own_files(rt: HostRuntime) -> Result<(), Fail> {
-    let (status, text) = played::<Brand>(rt.alloc(), Blank::new(1), "a,b", ASKED)?;
+    let (status, text) = played(rt.alloc(), "a,b")?;
     assert_eq!(rt; status, 0);
     assert_eq!(rt; text.as_slice(), ANSWERED.as_bytes());
     Ok(())
@@ -71,7 +68,7 @@ fn each_context_has_its_own_files(rt: HostRuntime) -> Result<(), Fail> {
 #[test]
 fn other_words_are_refused(rt: HostRuntime) -> Result<(), Fail> {
     for &names in &["a,a", "A", "a,"] {
-        let (status, text) = played::<Brand>(rt.alloc(), Blank::new(1), names, ASKED)?;
+        let (status, text) = played(rt.alloc(), names)?;
         assert_eq!(rt; status, 1);
         assert!(rt; text.is_empty());
     }
