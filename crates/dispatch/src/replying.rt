@@ -50,12 +50,10 @@ pub(crate) fn write_reply<K: Sink>(
             body,
         } => {
             let head = Head {
-                status,
                 content_type,
                 set_cookie: new_id(around)?,
                 location,
-                allow: false,
-                close,
+                ..Head::of(status, close)
             };
             let mut failed = false;
             write_whole(alloc, sink, &mut failed, &head, body.as_slice(), shown)?;

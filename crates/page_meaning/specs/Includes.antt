@@ -1,6 +1,5 @@
 -- Other pages: what an include or a forward names, the run of a page, and how its end is taken.
-use Rattle.std.specs.Prelude.{ℕ, ◌&&◌, ◌||◌, not, Bool, true, List, [], ◌∷◌, ◌++◌, codes, length, nat_eq, is_none, unwrap_or, Some, Result, Ok, Err}
-use Rattle.std.specs.List.{ends_with}
+use Rattle.std.specs.Prelude.{ℕ, ◌&&◌, not, Bool, true, List, [], ◌∷◌, ◌++◌, length, is_none, unwrap_or, Some, Result, Ok, Err}
 use Rattle.http_in.specs.Params.{params_in}
 use Rattle.http_in.specs.Target.{before_query, query_of}
 use Rattle.http_in.specs.declared.params.Param.{Param}
@@ -14,6 +13,7 @@ use Rattle.page_meaning.specs.Bodies.{put_text}
 use Rattle.page_meaning.specs.Context.{Served, Run, Here, in_page, Paged, absent, plain, bad, good, Deeper, no_deeper, deeper}
 use Rattle.page_meaning.specs.Page.{Page, Nodes}
 use Rattle.page_meaning.specs.State.{State, in_scopes, in_writer, with_asked}
+use Rattle.site_words.specs.Running.{is_page}
 use Rattle.site_words.specs.PageSteps.{fresh, told_id}
 use Rattle.page_meaning.specs.Variables.{back_to}
 use Rattle.page_meaning.specs.Went.{Did, Went, Well, Raised, Ended, Awaits, forwards, redirects, then_do, either}
@@ -30,7 +30,7 @@ target_params run target params = params_in (unwrap_or (query_of target) []) ++ 
 
 -- whether the file at a path is a page
 abbrev pub is_page_path : List ℕ → Bool
-is_page_path path = ends_with nat_eq path (codes ".jsp") || ends_with nat_eq path (codes ".jspx")
+is_page_path path = is_page path
 
 -- what stands at a path, a page being fetched: X11 where nothing does, X12 of a page with a fault
 abbrev pub fetched_or_fault : Place → List ℕ → Paged → State → Went Paged

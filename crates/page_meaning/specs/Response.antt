@@ -1,6 +1,7 @@
 -- What a page run answers with, as responses.
 use Rattle.std.specs.Prelude.{ℕ, Bool, true, false, List, [], ◌++◌, codes, nat_eq, Option, Some, None, if◌then◌else◌}
 use Rattle.std.specs.List.{ends_with}
+use Rattle.http_out.specs.Head as heads
 use Rattle.http_out.specs.Response.{Response}
 use Rattle.http_out.specs.declared.head.Head.{Head}
 use Rattle.http_out.specs.declared.status.Status.{Status}
@@ -27,7 +28,7 @@ new_id false id = None
 -- a head with the id of a new session; whether the connection closes is not the page's to say
 abbrev pub head_of : Status → (content_type location : Option (List ℕ)) → State → Head
 head_of status content_type location s =
-    record { status = status; content_type = content_type; set_cookie = new_id s.is_fresh s.id; location = location; allow = false; close = false }
+    record (heads.head_of status false) { content_type = content_type; set_cookie = new_id s.is_fresh s.id; location = location }
 
 -- a response with these bytes, none of them committed
 abbrev pub whole : Status → (content_type : List ℕ) → List ℕ → State → Answered
@@ -35,7 +36,7 @@ whole status content_type bytes s = responds (record { head = head_of status (So
 
 -- a plain answer: one line
 abbrev pub plain_line : Status → List ℕ → State → Answered
-plain_line status line s = whole status (codes "text/plain;charset=UTF-8") (line ++ codes "\n") s
+plain_line status line s = whole status heads.plain_type (line ++ codes "\n") s
 
 -- the plain answer where no file is found
 abbrev pub not_found : State → Answered

@@ -6,7 +6,8 @@ ghost use Rattle.pg_text.specs.Failure.{AnswersAs};
 ghost use Rattle.serde_json.specs.View.{view, items_view, members_view};
 
 use crate::attrs::Attrs;
-use crate::measures::{self, MAX_DEPTH, MAX_WEIGHT};
+use crate::limits::{MAX_DEPTH, MAX_WEIGHT};
+use crate::measures;
 use crate::record::Record;
 use crate::value::Value;
 use crate::values::Values;

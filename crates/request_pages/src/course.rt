@@ -59,12 +59,9 @@ pub(crate) fn begin_page(
     ensures err { OnErr result (course.new ≡ course.old) }
 {
     let head = Head {
-        status: way.status,
         content_type: Some(program.settings.content_type.copy()?),
         set_cookie: new_id(&course.around)?,
-        location: None,
-        allow: false,
-        close: way.close,
+        ..Head::of(way.status, way.close)
     };
     course.scopes.restart();
     course.writer = Writer::new(

@@ -66,7 +66,7 @@ impl Scopes {
     }
 
     /// Puts the value under the name, in the place of what stood there. X13 in session scope without a session, and X21
-    /// where the session's attributes would weigh over [`MAX_SESSION_WEIGHT`](crate::MAX_SESSION_WEIGHT).
+    /// where the session's attributes would weigh over [`MAX_SESSION_WEIGHT`](pg_value::MAX_SESSION_WEIGHT).
     pub fn set(
         &mut self,
         scope: HeldScope,

@@ -5,12 +5,9 @@ ghost use Rattle.site_words.specs.Runs.{run_at, run_in, under_at};
 ghost use Rattle.site_words.specs.Weights.{capped};
 ghost use Rattle.site_state.specs.Parts.{parts_of, state_of, under_in};
 
-use pg_value::{MAX_WEIGHT, Value, is_too_large};
+use pg_value::{MAX_SESSION_WEIGHT, MAX_WEIGHT, Value, is_too_large};
 use site_state::{Held, Request};
-use site_words::{
-    AppStep, Compiled, END_WEIGHT, MAX_ATTRIBUTES_WEIGHT, MAX_COOKIE_BYTES, Op, Opening, Run,
-    op_weight,
-};
+use site_words::{AppStep, Compiled, END_WEIGHT, MAX_COOKIE_BYTES, Op, Opening, Run, op_weight};
 
 /// Whether no request is under way.
 pub(crate) fn at_rest(runs: &[Option<Request>]) -> bool
@@ -62,7 +59,7 @@ fn asks(run: Option<Run>, op: &Op) -> bool
         Op::Offer { request, path: _ } => has_run(run, *request, op_weight(op), END_WEIGHT),
         Op::End { request, attrs } => {
             is_run(run, *request)
-                && attrs.weight() <= MAX_ATTRIBUTES_WEIGHT
+                && attrs.weight() <= MAX_SESSION_WEIGHT
                 && (has_session(run) || attrs.is_empty())
         }
         Op::Abandon { request } => is_run(run, *request),

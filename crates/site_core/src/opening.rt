@@ -7,10 +7,8 @@ ghost use Rattle.site_words.specs.Opening.{are_distinct, is_sound, is_sound_sess
 ghost use Rattle.site_words.specs.Trees.{every};
 
 use pg_text::Text;
-use pg_value::{Value, is_too_large};
-use site_words::{
-    COUNT_END, KeptSession, MAX_ATTRIBUTES_WEIGHT, MAX_PASSES, MAX_SESSIONS, Opening,
-};
+use pg_value::{MAX_SESSION_WEIGHT, Value, is_too_large};
+use site_words::{COUNT_END, KeptSession, MAX_PASSES, MAX_SESSIONS, Opening};
 use source_tree::Tree;
 
 /// Whether a site may have the opening. It takes no memory.
@@ -113,5 +111,5 @@ fn is_sound_session(opening: &Opening, session: &KeptSession) -> bool
 {
     session.number < opening.freshes
         && session.used <= opening.moment
-        && session.attrs.weight() <= MAX_ATTRIBUTES_WEIGHT
+        && session.attrs.weight() <= MAX_SESSION_WEIGHT
 }

@@ -4,7 +4,7 @@ ghost use Rattle.pass_course.specs.Course.{IsIdle};
 ghost use Rattle.site_shared_tests.specs.Visits.{HasBegun, IsServing};
 
 use pg_text::{Path, Text};
-use pg_value::{Attrs, Value};
+use pg_value::{Attrs, MAX_SESSION_WEIGHT, Value};
 use site_words::{Acted, AppReply, AppStep, Begun, Compiled, Port};
 use source_tree::Edits;
 use std::alloc::{AllocError, Global};
@@ -15,9 +15,6 @@ const MAX_COOKIE: usize = 48;
 
 /// The most bytes of a name or a path here.
 const MAX_NAME: usize = 1_024;
-
-/// The greatest weight of a session's attributes.
-const MAX_ATTRIBUTES_WEIGHT: u64 = 65_536;
 
 /// What a pass asks for at each visit.
 #[derive(Drop)]
@@ -124,7 +121,7 @@ pub fn finish<P: Compiled, Q: Port<P>>(alloc: Global, port: &mut Q, begun: Begun
     ensures idle { IsIdle (Q.opening port.new) (Q.pass port.new) (Q.seen port.new) }
 {
     match (begun.session, counted(alloc, &begun.attrs)) {
-        (Some(_), Ok(attrs)) if attrs.weight() <= MAX_ATTRIBUTES_WEIGHT => {
+        (Some(_), Ok(attrs)) if attrs.weight() <= MAX_SESSION_WEIGHT => {
             port.end(begun.request, attrs);
             true
         }

@@ -3,10 +3,10 @@ use Rattle.std.specs.Prelude.{ℕ, ◌+◌, ◌-◌, ◌^◌, min, nat_lt, lengt
 use Rattle.source_tree.specs.declared.edit.Edit.{Edit}
 use Rattle.source_tree.specs.declared.edit.Edit.TheVariants.{Put, Delete}
 use Rattle.pg_value.specs.Weight.{weight_of}
-use Rattle.pg_value.specs.declared.measures.TheConstants.{MAX_WEIGHT}
+use Rattle.pg_value.specs.declared.limits.TheConstants.{MAX_SESSION_WEIGHT, MAX_WEIGHT}
 use Rattle.pg_value.specs.Datum.{Datum, rec, entries_of}
 use Rattle.pg_value.specs.Value.{datum_of}
-use Rattle.site_words.specs.declared.limits.TheConstants.{END_WEIGHT, MAX_ATTRIBUTES_WEIGHT, MAX_COOKIE_BYTES, PROMISE}
+use Rattle.site_words.specs.declared.limits.TheConstants.{END_WEIGHT, MAX_COOKIE_BYTES, OP_WEIGHT, PROMISE}
 use Rattle.site_words.specs.declared.words.AppStep.{AppStep}
 use Rattle.site_words.specs.declared.words.AppStep.TheVariants as step
 use Rattle.site_words.specs.declared.words.AppReply.{AppReply}
@@ -38,7 +38,7 @@ end_weight = END_WEIGHT
 
 -- what a session's attributes weigh at most
 abbrev pub attrs_limit : ℕ
-attrs_limit = MAX_ATTRIBUTES_WEIGHT
+attrs_limit = MAX_SESSION_WEIGHT
 
 -- what a value that a step is told weighs at most
 abbrev pub value_limit : ℕ
@@ -75,17 +75,17 @@ step_weight (step.Remove name) = text_weight name
 step_weight (step.Ensure name value) = text_weight name + weight_of (datum_of value)
 step_weight step.All = 0
 
--- an operation weighs 64, its texts and its values, and a Roll nothing; numbers weigh nothing
+-- an operation weighs `OP_WEIGHT`, its texts and its values, and a Roll nothing; numbers weigh nothing
 abbrev pub op_weight : Op → ℕ
-op_weight (op.Publish base edits) = 64 + edits_weight edits
-op_weight (op.Begin cookie moment) = 64 + text_weight cookie
-op_weight (op.App request step) = 64 + step_weight step
-op_weight (op.Fresh request) = 64
-op_weight (op.Fetch request path) = 64 + text_weight path
-op_weight (op.Offer request path) = 64 + text_weight path
-op_weight (op.End request attrs) = 64 + attrs_weight attrs
-op_weight (op.Abandon request) = 64
-op_weight (op.Snapshot cookie) = 64 + text_weight cookie
+op_weight (op.Publish base edits) = OP_WEIGHT + edits_weight edits
+op_weight (op.Begin cookie moment) = OP_WEIGHT + text_weight cookie
+op_weight (op.App request step) = OP_WEIGHT + step_weight step
+op_weight (op.Fresh request) = OP_WEIGHT
+op_weight (op.Fetch request path) = OP_WEIGHT + text_weight path
+op_weight (op.Offer request path) = OP_WEIGHT + text_weight path
+op_weight (op.End request attrs) = OP_WEIGHT + attrs_weight attrs
+op_weight (op.Abandon request) = OP_WEIGHT
+op_weight (op.Snapshot cookie) = OP_WEIGHT + text_weight cookie
 op_weight op.Roll = 0
 
 -- what a step is told weighs its value

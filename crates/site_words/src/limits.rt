@@ -12,8 +12,8 @@ pub const COUNT_END: u64 = 1 << 63;
 /// The most bytes of a cookie.
 pub const MAX_COOKIE_BYTES: usize = 48;
 
-/// The greatest weight of a session's attributes.
-pub const MAX_ATTRIBUTES_WEIGHT: u64 = 65_536;
+/// What an operation weighs beside its texts and its values. A Roll alone weighs nothing.
+pub const OP_WEIGHT: u64 = 64;
 
 /// The weight that a request is promised when it begins.
 pub const PROMISE: u64 = 4_325_376;

@@ -1,6 +1,8 @@
 ghost use Rattle.std.specs.Prelude.{◌≡◌, ◌+◌, ◌-◌, ◌^◌, ◌≤◌, nat_lt, min, length, ℕ};
+ghost use Rattle.site_words.specs.declared.limits.TheConstants.{OP_WEIGHT};
 ghost use Rattle.site_words.specs.Weights.{answer_weight, capped, edit_weight, edits_weight, names_weight, op_weight, reply_weight, step_weight, text_weight, weight_held, weight_with};
 
+use crate::OP_WEIGHT;
 use crate::words::{AppReply, AppStep, Entry, Op, Reply};
 use pg_text::Names;
 use source_tree::{Edit, Edits};
@@ -48,10 +50,10 @@ fn names_weight(names: &Names) -> Option<u64>
 /// What the entry of a publishing weighs, with the reply that names what it made old. None where 64 bits don't hold the weight,
 /// which is then over every limit.
 pub fn publishing_weight(edits: &Edits, dirty: &Names) -> Option<u64>
-    ensures { result ≡ weight_held (64 + edits_weight edits.now + names_weight dirty.now) }
+    ensures { result ≡ weight_held (OP_WEIGHT + edits_weight edits.now + names_weight dirty.now) }
 {
     edits_weight(edits)?
-        .checked_add(64)?
+        .checked_add(OP_WEIGHT)?
         .checked_add(names_weight(dirty)?)
 }
 
@@ -84,15 +86,19 @@ pub fn op_weight(op: &Op) -> u64
     ensures { result ≡ capped (op_weight op.now) }
 {
     match op {
-        Op::Publish { base: _, edits } => stopped(edits_weight(edits)).saturating_add(64),
-        Op::Begin { cookie, moment: _ } => text_weight(cookie.len()).saturating_add(64),
-        Op::App { request: _, step } => step_weight(step).saturating_add(64),
-        Op::Fresh { .. } => 64,
-        Op::Fetch { request: _, path } => text_weight(path.as_bytes().len()).saturating_add(64),
-        Op::Offer { request: _, path } => text_weight(path.as_bytes().len()).saturating_add(64),
-        Op::End { request: _, attrs } => attrs.weight().saturating_add(64),
-        Op::Abandon { .. } => 64,
-        Op::Snapshot { cookie } => text_weight(cookie.len()).saturating_add(64),
+        Op::Publish { base: _, edits } => stopped(edits_weight(edits)).saturating_add(OP_WEIGHT),
+        Op::Begin { cookie, moment: _ } => text_weight(cookie.len()).saturating_add(OP_WEIGHT),
+        Op::App { request: _, step } => step_weight(step).saturating_add(OP_WEIGHT),
+        Op::Fresh { .. } => OP_WEIGHT,
+        Op::Fetch { request: _, path } => text_weight(path.as_bytes().len()).saturating_add(
+            OP_WEIGHT,
+        ),
+        Op::Offer { request: _, path } => text_weight(path.as_bytes().len()).saturating_add(
+            OP_WEIGHT,
+        ),
+        Op::End { request: _, attrs } => attrs.weight().saturating_add(OP_WEIGHT),
+        Op::Abandon { .. } => OP_WEIGHT,
+        Op::Snapshot { cookie } => text_weight(cookie.len()).saturating_add(OP_WEIGHT),
         Op::Roll => 0,
     }
 }

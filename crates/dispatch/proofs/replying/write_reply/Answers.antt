@@ -6,7 +6,7 @@ pub returns-then-failed-clause-wrote : goal.returns-then-failed-clause-wrote
 returns-then-failed-clause-wrote g c = λ origin scopes asking s reached headed is_open.
     let none : s.writer.pieces ≡ [] = rw c.in-Whole.is at is_open in
     let before = unwritten reached headed none in
-    let sent = rw c.if-failed.true at (c.in_ok-write_whole-in-Whole.ensures.sent origin.start [] before.sent) in (
+    let sent = rw (c.if-failed.true, c.of.ensures) at (c.in_ok-write_whole-in-Whole.ensures.sent origin.start [] before.sent) in (
       whole_sent reached headed c.args.reply _ _ _ c.in-Whole.body _ _ c.in-Whole.is c.as_slice.ensures c.in_ok-new_id-in-Whole.ensures true _ sent,
       c.in_ok-write_whole-in-Whole.ensures.rose origin.before before.later (λ no. absurd (cc)) c.if-failed.true,
     )
@@ -15,7 +15,7 @@ pub returns-else-failed-clause-wrote : goal.returns-else-failed-clause-wrote
 returns-else-failed-clause-wrote g c = λ origin scopes asking s reached headed is_open.
     let none : s.writer.pieces ≡ [] = rw c.in-Whole.is at is_open in
     let before = unwritten reached headed none in
-    let sent = rw c.if-failed.false at (c.in_ok-write_whole-in-Whole.ensures.sent origin.start [] before.sent) in (
+    let sent = rw (c.if-failed.false, c.of.ensures) at (c.in_ok-write_whole-in-Whole.ensures.sent origin.start [] before.sent) in (
       whole_sent reached headed c.args.reply _ _ _ c.in-Whole.body _ _ c.in-Whole.is c.as_slice.ensures c.in_ok-new_id-in-Whole.ensures false _ sent,
       rw c.in-Whole.is refl,
     )
