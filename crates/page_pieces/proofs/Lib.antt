@@ -3,10 +3,12 @@ pub mod AttributeValues
 pub mod EndCuts
 pub mod Expressions
 pub mod Failures
+pub mod FirstLemmas
 pub mod Heads
 pub mod NameLemmas
 pub mod PieceCuts
 pub mod PieceLemmas
 pub mod PieceMeaning
 pub mod PieceRows
+pub mod PrefixLemmas
 pub mod RepeatLemmas

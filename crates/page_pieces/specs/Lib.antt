@@ -5,8 +5,10 @@ pub mod Names
 pub mod Pieces
 pub mod ReadEnd
 pub mod ReadExpression
+pub mod ReadFirsts
 pub mod ReadHead
 pub mod ReadPiece
+pub mod ReadPrefixes
 pub mod ReadSigns
 pub mod ReadSpelled
 pub mod ReadValue

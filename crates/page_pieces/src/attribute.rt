@@ -3,6 +3,7 @@ ghost use Rattle.std.specs.Option.{option_map};
 ghost use Rattle.page_pieces.specs.Settings.{plain_text, value_of};
 ghost use Rattle.page_pieces.specs.Repeats.{has_name, has_repeat};
 
+use crate::firsts::{Firsts, first_value, firsts_of_many, is_first};
 use pg_text::{Listed, Place, Text};
 use std::alloc::{AllocError, Global};
 use std::collections::BTreeSet;
@@ -36,18 +37,23 @@ pub struct Attribute {
 pub struct Attributes {
     items: Listed<Attribute>,
     repeats: bool,
+    // Where the first of each name stands, to be looked up; it isn't there where they are few.
+    firsts: Option<Firsts>,
 }
 
 impl Model for Attributes {
     ghost use Rattle.std.specs.Prelude.{◌≡◌, List};
+    ghost use Rattle.std.specs.Option.{IfSome};
     ghost use Rattle.page_pieces.specs.declared.attribute.Attribute.{Attribute};
+    ghost use Rattle.page_pieces.specs.ReadFirsts.{HasFirsts};
     ghost use Rattle.page_pieces.specs.Repeats.{has_repeat};
 
     ghost Value = { List Attribute };
 
     ghost view = { λ a. a.items };
 
-    ghost invariant = { λ a. a.repeats ≡ has_repeat a.items };
+    ghost invariant = { λ a. (a.repeats ≡ has_repeat a.items)
+        × IfSome a.firsts (λ firsts. HasFirsts firsts a.items) };
 }
 
 impl Attributes {
@@ -55,7 +61,12 @@ impl Attributes {
         ensures { IfOk result (λ attributes. attributes ≡ items) }
     {
         let repeats = has_repeat(alloc, items.as_slice())?;
-        Ok(Attributes { items, repeats })
+        let firsts = firsts_of_many(alloc, items.as_slice())?;
+        Ok(Attributes {
+            items,
+            repeats,
+            firsts,
+        })
     }
 
     pub fn as_slice(&self) -> &[Attribute]
@@ -68,7 +79,20 @@ impl Attributes {
     pub fn plain(&self, name: &str) -> Option<&str>
         ensures { option_map (λ text. text.now) result ≡ value_of name.now self.now }
     {
-        value_of(self.items.as_slice(), name)
+        match &self.firsts {
+            Some(firsts) => first_value(firsts, self.items.as_slice(), name),
+            None => value_of(self.items.as_slice(), name),
+        }
+    }
+
+    /// Whether one of them has that name.
+    pub fn has_name(&self, name: &str) -> bool
+        ensures { result ≡ has_name name.now self.now }
+    {
+        match &self.firsts {
+            Some(firsts) => is_first(firsts, name),
+            None => has_name(self.items.as_slice(), name),
+        }
     }
 
     /// Whether a name stands twice.

@@ -7,6 +7,7 @@ mod attribute_reader;
 mod end_reader;
 mod escape;
 mod expression;
+mod firsts;
 mod head;
 mod head_reader;
 mod mark;

@@ -1,32 +1,44 @@
-ghost use Rattle.std.specs.Prelude.{◌≡◌, [], ◌∷◌, ◌++◌, IfOk, OnErr, OnOk};
+ghost use Rattle.std.specs.Prelude.{◌≡◌, [], ◌∷◌, ◌++◌, List, ℕ, IfOk, OnErr, OnOk};
+ghost use Rattle.std.specs.Option.{IfSome};
+ghost use Rattle.page_pieces.specs.ReadPrefixes.{HasPrefixes};
 ghost use Rattle.page_pieces.specs.Settings.{contains_text, first_setting, brought_at, registered_by, setting_after};
 
 use crate::attribute::Attributes;
 use crate::piece::{Leaf, Piece};
 use pg_text::{Duplicate, Listed, Text};
 use std::alloc::{AllocError, Global};
+use std::collections::BTreeSet;
 use std::marker::Model;
+use std::string::String;
 
 /// Prefixes of elements. Contracts see the list of them.
 #[derive(Drop)]
 pub struct Prefixes {
     items: Vec<Text>,
+    // The same to be looked up; after an error it isn't there, and they are looked through one after the other.
+    known: Option<BTreeSet<String>>,
 }
 
 impl Model for Prefixes {
+    ghost use Rattle.std.specs.Option.{IfSome};
     ghost use Rattle.std.specs.Prelude.{List, ℕ};
+    ghost use Rattle.page_pieces.specs.ReadPrefixes.{HasPrefixes};
 
     ghost Value = { List (List ℕ) };
 
     ghost view = { λ p. p.items.items };
+
+    ghost invariant = { λ p. IfSome p.known (λ known. HasPrefixes known p.items.items) };
 }
 
 impl Prefixes {
+    #[tactic(auto, using(crate::proofs::PrefixLemmas::prefixes_none))]
     pub fn new(alloc: Global) -> Self
         ensures { result ≡ [] }
     {
         Prefixes {
             items: Vec::new(alloc),
+            known: Some(BTreeSet::new(alloc)),
         }
     }
 
@@ -34,7 +46,10 @@ impl Prefixes {
         ensures ok { OnOk result (self.new ≡ self.old ++ prefix ∷ []) }
         ensures err { OnErr result (self.new ≡ self.old) }
     {
+        let alloc = *self.items.allocator();
+        let known = known_with(alloc, self.known.take(), prefix.as_str())?;
         self.items.push(prefix)?;
+        self.known = known;
         Ok(())
     }
 
@@ -47,7 +62,10 @@ impl Prefixes {
     pub fn contains(&self, prefix: &str) -> bool
         ensures { result ≡ contains_text prefix.now self.now }
     {
-        contains(&self.items, prefix)
+        match &self.known {
+            Some(known) => knows(known, prefix),
+            None => contains(&self.items, prefix),
+        }
     }
 
     /// Equal prefixes.
@@ -89,6 +107,43 @@ impl Prefixes {
         }
         Ok(())
     }
+}
+
+// Whether the set has a prefix.
+fn knows(known: &BTreeSet<String>, prefix: &str) -> bool
+    ensures { (prefixes : List (List ℕ)) → HasPrefixes known.now prefixes →
+        result ≡ contains_text prefix.now prefixes }
+{
+    known.contains(prefix)
+}
+
+// What is known with one more prefix, where what was known is there.
+fn known_with(
+    alloc: Global,
+    known: Option<BTreeSet<String>>,
+    prefix: &str,
+) -> Result<Option<BTreeSet<String>>, AllocError>
+    ensures { IfOk result (λ more. (prefixes : List (List ℕ)) →
+        IfSome known (λ known. HasPrefixes known prefixes) →
+        IfSome more (λ known. HasPrefixes known (prefixes ++ prefix.now ∷ []))) }
+{
+    match known {
+        Some(known) => Ok(Some(with_prefix(alloc, known, prefix)?)),
+        None => Ok(None),
+    }
+}
+
+// The set with one more prefix.
+fn with_prefix(
+    alloc: Global,
+    mut known: BTreeSet<String>,
+    prefix: &str,
+) -> Result<BTreeSet<String>, AllocError>
+    ensures { IfOk result (λ more. (prefixes : List (List ℕ)) → HasPrefixes known prefixes →
+        HasPrefixes more (prefixes ++ prefix.now ∷ [])) }
+{
+    known.insert(String::from_str(alloc, prefix)?)?;
+    Ok(known)
 }
 
 fn contains(texts: &[Text], text: &str) -> bool
