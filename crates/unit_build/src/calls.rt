@@ -14,7 +14,7 @@ use crate::body::is_whole;
 use crate::here::takes_parts;
 use jstl_tags::{Body, Given, Standing, is_bodiless, split_faults};
 use page_directives::Faults;
-use page_pieces::{Attribute, has_name, plain_text};
+use page_pieces::{Attribute, Attributes, plain_text};
 use page_reader::Element;
 use pg_text::TranslationFault;
 use tag_decl::{AttrDecl, BodyKind, TagDecl, declared};
@@ -31,30 +31,30 @@ fn name_faults(dynamic: bool, is_written: bool, decl: Option<&AttrDecl>) -> Faul
 
 // The faults of a name that is given beside these attributes, by the declaration.
 #[tactic(auto, using(crate::proofs::CallLemmas::written))]
-fn given_faults(decl: &TagDecl, attributes: &[Attribute], name: &str) -> Faults
+fn given_faults(decl: &TagDecl, attributes: &Attributes, name: &str) -> Faults
     ensures { result ≡ in_order (names_faults decl.now (attribute_names attributes.now) (name.now ∷ [])) }
 {
     name_faults(
         decl.dynamic.is_some(),
-        has_name(attributes, name),
+        attributes.has_name(name),
         declared(&decl.attributes, name),
     )
 }
 
-// The faults of the names that are written.
-fn written_faults(decl: &TagDecl, attributes: &[Attribute]) -> Faults
-    ensures { result ≡ in_order (names_faults decl.now (attribute_names attributes.now)
+// The faults of the names of some of the attributes that are written.
+fn written_faults(decl: &TagDecl, written: &Attributes, attributes: &[Attribute]) -> Faults
+    ensures { result ≡ in_order (names_faults decl.now (attribute_names written.now)
         (attribute_names attributes.now)) }
 {
     let mut faults = Faults::none();
     for attribute in attributes {
-        faults = faults.and(given_faults(decl, attributes, attribute.name.as_str()));
+        faults = faults.and(given_faults(decl, written, attribute.name.as_str()));
     }
     faults
 }
 
 // The faults of a name that is given beside these attributes, where there is one.
-fn named_faults(decl: &TagDecl, attributes: &[Attribute], name: Option<&str>) -> Faults
+fn named_faults(decl: &TagDecl, attributes: &Attributes, name: Option<&str>) -> Faults
     ensures { result ≡ in_order (names_faults decl.now (attribute_names attributes.now)
         (option_to_list (option_map (λ name. name.now) name.entry))) }
 {
@@ -65,7 +65,7 @@ fn named_faults(decl: &TagDecl, attributes: &[Attribute], name: Option<&str>) ->
 }
 
 // The faults of the name that `jsp:attribute` gives.
-fn part_faults(decl: &TagDecl, attributes: &[Attribute], part: Standing) -> Faults
+fn part_faults(decl: &TagDecl, attributes: &Attributes, part: Standing) -> Faults
     ensures { result ≡ in_order (names_faults decl.now (attribute_names attributes.now)
         (part_names_in (standing_made part.entry ∷ []))) }
 {
@@ -80,7 +80,7 @@ fn part_faults(decl: &TagDecl, attributes: &[Attribute], part: Standing) -> Faul
 }
 
 // The faults of the names that `jsp:attribute` gives.
-fn parts_faults(decl: &TagDecl, attributes: &[Attribute], parts: &[Standing]) -> Faults
+fn parts_faults(decl: &TagDecl, attributes: &Attributes, parts: &[Standing]) -> Faults
     ensures { result ≡ in_order (names_faults decl.now (attribute_names attributes.now)
         (part_names_in (map standing_made parts.now))) }
 {
@@ -97,8 +97,8 @@ fn names_faults(decl: &TagDecl, given: Given) -> Faults
     ensures { result ≡ in_order (names_faults decl.now (attribute_names given.entry.attributes.now)
         (names_made given.entry)) }
 {
-    let attributes = given.attributes.as_slice();
-    written_faults(decl, attributes).and(parts_faults(decl, attributes, given.parts))
+    let written = given.attributes;
+    written_faults(decl, written, written.as_slice()).and(parts_faults(decl, written, given.parts))
 }
 
 // Whether a declared attribute is required and not given.

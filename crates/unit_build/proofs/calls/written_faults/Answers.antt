@@ -12,7 +12,8 @@ loop-attribute-preserved c =
     let a = c.attribute-item.result in
     let i = c.loop-attribute.attribute-index in
     let decl = c.args.decl.now in
+    let all = attribute_names c.args.written.now in
     let within : i < length attributes = grind arith in
-    let one : c.given_faults.result ≡ in_order (names_faults decl (attribute_names attributes) (a.name ∷ [])) = c.given_faults.ensures ∙ ap (λ name. in_order (names_faults decl (attribute_names attributes) (name ∷ []))) c.as_str.ensures in
-    c.and-faults.ensures.of (names_faults decl (attribute_names attributes) (attribute_names (take i attributes))) (names_faults decl (attribute_names attributes) (a.name ∷ [])) c.loop-attribute.invariant one
-    ∙ ap in_order (one_more (λ xs. names_faults decl (attribute_names attributes) (attribute_names xs)) (written_joined decl (attribute_names attributes)) attributes i a within c.attribute-item.is)
+    let one : c.given_faults.result ≡ in_order (names_faults decl all (a.name ∷ [])) = c.given_faults.ensures ∙ ap (λ name. in_order (names_faults decl all (name ∷ []))) c.as_str.ensures in
+    c.and-faults.ensures.of (names_faults decl all (attribute_names (take i attributes))) (names_faults decl all (a.name ∷ [])) c.loop-attribute.invariant one
+    ∙ ap in_order (one_more (λ xs. names_faults decl all (attribute_names xs)) (written_joined decl all) attributes i a within c.attribute-item.is)

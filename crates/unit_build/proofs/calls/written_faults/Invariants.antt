@@ -5,4 +5,4 @@ use Rattle.unit_build.specs.Calls.{names_faults}
 use Rattle.unit_build.proofs.calls.written_faults.Given as goal
 
 abbrev pub invariant-loop-attribute : goal.invariant-loop-attribute
-invariant-loop-attribute l = l.faults ≡ in_order (names_faults l.decl (attribute_names l.attributes) (attribute_names (take l.attribute-index l.attributes)))
+invariant-loop-attribute l = l.faults ≡ in_order (names_faults l.decl (attribute_names l.written) (attribute_names (take l.attribute-index l.attributes)))
