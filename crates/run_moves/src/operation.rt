@@ -51,7 +51,9 @@ pub(crate) fn operation<W: World>(
             land_value(alloc, pc, place, found, open, world)
         }
         Op::Put => put_top(alloc, pc, place, open, world),
-        Op::Const(_) | Op::Index | Op::Coerce(_) => value_at_top(alloc, pc, place, op, open, world),
+        Op::Const(_) | Op::Index | Op::Coerce(_) | Op::Unary(_) | Op::Binary(_) => {
+            value_at_top(alloc, pc, place, op, open, world)
+        }
         Op::SetProperty(name, mode) => match mode {
             PropertyMode::Value {
                 property,
