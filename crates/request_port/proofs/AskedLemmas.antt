@@ -1,6 +1,8 @@
 -- What a call of the port does to what was asked of the request.
 use Rattle.std.proofs.Common.{◌≡◌, ◌⊎◌, inl, inr, ℕ, ◌+◌, ◌-◌, ◌<◌, ◌≤◌, Bool, true, false, List, [], ◌∷◌, ◌++◌, Option, Some, None, refl, sym, ap, subst, ◌∙◌, arith}
 use Rattle.std.specs.Prelude.{◌&&◌, ◌*◌, not, if◌then◌else◌, Result, Ok, Err}
+use Rattle.std.specs.Cmp.Lexicographic.{same_text}
+use Rattle.std.specs.Str.{bytes_eq}
 use Rattle.edges.specs.declared.acted.Acted.TheVariants.{Did}
 use Rattle.page_answers.specs.Turns.{all_calls, hit, missed, unoffered}
 use Rattle.pass_course.proofs.CourseLemmas.{done_acts, done_counts, done_stays}
@@ -305,3 +307,12 @@ pub under_page : (x : Opening) (pass : ℕ) (seen : List Entry) (request : ℕ) 
 under_page x pass seen request tree path is room =
     let u = under_room x pass seen request tree (page_claim path + end_weight) (omega arith) room in
     (u.0, u.1, room_there path (file_at path tree) request u.0.left is u.2)
+
+-- a file that stands at a path has it
+pub file_path : (tree : List File) (path : List ℕ) (file : File) → Some file ≡ file_at path tree → file.path ≡ path
+file_path [] path file is = absurd (cc)
+file_path (x ∷ rest) path file is = by (bytes_eq x.path path) refl is (file_path rest path file)
+  where
+    by : (b : Bool) → bytes_eq x.path path ≡ b → Some file ≡ (if b then Some x else file_at path rest) → (Some file ≡ file_at path rest → file.path ≡ path) → file.path ≡ path
+    by true same is rest = let here : x ≡ file = cc in subst (λ (f : File). f.path ≡ path) here (same_text x.path path (sym same))
+    by false same is rest = rest is

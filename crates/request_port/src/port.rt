@@ -99,13 +99,15 @@ impl<'a, Q: Port<Made>, L: Ledger> AppPort<Program> for RequestPort<'a, Q, L> {
         if self.starved {
             return Err(AllocError);
         }
+        // As the tree has it, so that the entries of the site share its text.
+        let shared = &file.path;
         match find(
             self.alloc,
             self.port,
             self.steps,
             self.tree,
             self.request,
-            path,
+            shared,
         ) {
             Ok(made) => tell(&mut self.last, path, made),
             Err(AllocError) => {
