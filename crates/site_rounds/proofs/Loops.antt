@@ -1,6 +1,6 @@
 -- What a loop over the items of a list has done, and what is left for it.
-use Rattle.std.proofs.Common.{◌≡◌, ◌++◌, List, [], ◌∷◌, length, map, All, sym, ap, subst, ◌∙◌, append_assoc, append-nil, arith, rules}
-use Rattle.std.proofs.lemmas.List.{map-append}
+use Rattle.std.proofs.Common.{◌≡◌, ◌+◌, ◌<◌, ◌++◌, List, [], ◌∷◌, length, map, All, sym, ap, subst, ◌∙◌, append_assoc, append-nil, length-append, arith, rules}
+use Rattle.std.proofs.lemmas.List.{length-map, map-append}
 use Rattle.std.proofs.lemmas.List.Elements.{All-append, All-head, All-tail}
 
 -- the next item is behind those that are done
@@ -20,6 +20,26 @@ all_made P old new x added holds more = subst (All P) (sym added) (All-append P 
 -- what was made of the items that are done
 pub made_of : {X Y : Type 0} (f : X → Y) (done : List X) (old new : List Y) (x : X) (y : Y) → new ≡ old ++ y ∷ [] → old ≡ map f done → y ≡ f x → new ≡ map f (done ++ x ∷ [])
 made_of f done old new x y added same is = added ∙ ap (λ l. l ++ y ∷ []) same ∙ ap (λ z. map f done ++ z ∷ []) is ∙ sym (map-append f done (x ∷ []))
+
+-- lists of which one thing is the same are as long
+pub as_many : {X Y : Type 0} (f : X → Y) (a b : List X) → map f a ≡ map f b → length a ≡ length b
+as_many f a b same = sym (length-map a f) ∙ ap length same ∙ length-map b f
+
+-- fewer were made than there are items, while one is left
+pub fewer : {X Y : Type 0} (f : Y → X) (made : List Y) (done left rest all : List X) (x : X) → map f made ≡ done → left ≡ x ∷ rest → done ++ left ≡ all → length made < length all
+fewer f made done left rest all x same next split =
+    let as_many : length made ≡ length done = sym (length-map made f) ∙ ap length same in
+    let some : length left ≡ length (x ∷ rest) = ap length next in
+    let whole : length done + length left ≡ length all = sym (length-append done left) ∙ ap length split in
+    omega (arith, as_many, some, whole)
+
+-- the same where they are known by what they were made of
+pub fewer_made : {X Y : Type 0} (f : X → Y) (done left rest all : List X) (x : X) (made : List Y) → made ≡ map f done → left ≡ x ∷ rest → done ++ left ≡ all → length made < length all
+fewer_made f done left rest all x made same next split =
+    let as_many : length made ≡ length done = ap length same ∙ length-map done f in
+    let some : length left ≡ length (x ∷ rest) = ap length next in
+    let whole : length done + length left ≡ length all = sym (length-append done left) ∙ ap length split in
+    omega (arith, as_many, some, whole)
 
 -- nothing is left of a list that has no length
 pub nothing_left : {X : Type 0} (done left all : List X) → 0 ≡ length left → done ++ left ≡ all → done ≡ all

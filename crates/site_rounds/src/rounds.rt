@@ -1,4 +1,4 @@
-ghost use Rattle.std.specs.Prelude.{◌≡◌, ◌<◌, All, IfOk, None, length, map};
+ghost use Rattle.std.specs.Prelude.{◌≡◌, ◌≤◌, ◌<◌, [], All, IfOk, None, length, map, vec_capacity};
 ghost use Rattle.site_words.specs.Invariants.{AllRest};
 ghost use Rattle.pass_course.specs.Course.{IsIdle};
 ghost use Rattle.site_rounds.specs.Ready.{IsReady, numbers_of};
@@ -59,7 +59,8 @@ pub fn round<
     Ok(shared.close(passes))
 }
 
-// The passes once the round is over for each, in their order.
+// The passes once the round is over for each, in their order. All memory is taken first, so that none is wanted once a worker is
+// made.
 fn served<
     P: Compiled + Send + Sync,
     R: Threads + Wait + Sync,
@@ -83,8 +84,12 @@ fn served<
 {
     let last = passes.len() - 1;
     let editor = passes.split_off(last)?;
-    let readers = workers_of(rt, alloc, site, passes)?;
-    let editors = workers_of(rt, alloc, site, editor)?;
+    let mut readers = Vec::with_capacity(alloc, passes.len())?;
+    let mut editors = Vec::with_capacity(alloc, editor.len())?;
+    let mut all = Vec::with_capacity(alloc, passes.len() + editor.len())?;
+    let mut rest = Vec::with_capacity(alloc, editor.len())?;
+    seat(rt, site, passes, &mut readers);
+    seat(rt, site, editor, &mut editors);
     let for_readers = PortHandler {
         site,
         talk: &talks.readers,
@@ -102,50 +107,52 @@ fn served<
         (&listeners.readers, &for_readers, readers),
         (&listeners.editors, &for_editors, editors),
     );
-    let mut all = passes_of(alloc, site, readers)?;
-    let mut rest = passes_of(alloc, site, editors)?;
-    all.append(&mut rest)?;
+    collect(site, readers, &mut all);
+    collect(site, editors, &mut rest);
+    let Ok(()) = all.append(&mut rest) else {
+        unreachable!()
+    };
     Ok(all)
 }
 
-// A worker for each pass, whose round isn't over.
-fn workers_of<'a, P: Compiled, R: Wait, G: Gate + Drop, E: Drop>(
+// A worker for each pass, whose round isn't over. There is room for them.
+fn seat<'a, P: Compiled, R: Wait, G: Gate + Drop, E: Drop>(
     rt: &'a R,
-    alloc: Global,
     site: &'a SharedSite<P, G>,
     passes: SitePasses<P>,
-) -> Result<Vec<Worker<'a, P, G, R, E>>, AllocError>
-    requires { All (IsReady site.now) passes.items }
-    ensures ready { IfOk result (λ all. All (λ worker. (worker.token.actor.site.now ≡ site.now)
-        × IsReady site.now worker.token.actor.pass) all.items) }
-    ensures passes { IfOk result (λ all. map (λ worker. worker.token.actor.pass) all.items ≡ passes.items) }
-    ensures apart { IfOk result (λ all. All (λ worker. worker.closing ≡ None) all.items) }
+    workers: &mut Vec<Worker<'a, P, G, R, E>>,
+)
+    requires ready { All (IsReady site.now) passes.items }
+    requires empty { workers.old.items ≡ [] }
+    requires room { length passes.items ≤ vec_capacity workers.old }
+    ensures ready { All (λ worker. (worker.token.actor.site.now ≡ site.now)
+        × IsReady site.now worker.token.actor.pass) workers.new.items }
+    ensures passes { map (λ worker. worker.token.actor.pass) workers.new.items ≡ passes.items }
+    ensures apart { All (λ worker. worker.closing ≡ None) workers.new.items }
 {
-    let mut all = Vec::with_capacity(alloc, passes.len())?;
     for pass in passes {
-        all.push(Served {
+        workers.push_reserved(Served {
             token: site.port(rt, pass),
             closing: None,
-        })?;
+        });
     }
-    Ok(all)
 }
 
-// The passes of workers of this site.
-fn passes_of<'a, P: Compiled, R: Wait, G: Gate + Drop, E: Drop>(
-    alloc: Global,
+// The passes of workers of this site. There is room for them.
+fn collect<'a, P: Compiled, R: Wait, G: Gate + Drop, E: Drop>(
     site: &SharedSite<P, G>,
     workers: Vec<Worker<'a, P, G, R, E>>,
-) -> Result<SitePasses<P>, AllocError>
-    requires { All (λ worker. (worker.token.actor.site.now ≡ site.now) × IsIdle site.now.opening
+    passes: &mut SitePasses<P>,
+)
+    requires idle { All (λ worker. (worker.token.actor.site.now ≡ site.now) × IsIdle site.now.opening
         worker.token.actor.pass.number worker.token.actor.pass.seen) workers.items }
-    ensures ready { IfOk result (λ passes. All (IsReady site.now) passes.items) }
-    ensures passes { IfOk result (λ passes. passes.items
-        ≡ map (λ worker. worker.token.actor.pass) workers.entry.items) }
+    requires empty { passes.old.items ≡ [] }
+    requires room { length workers.items ≤ vec_capacity passes.old }
+    ensures ready { All (IsReady site.now) passes.new.items }
+    ensures passes { passes.new.items ≡ map (λ worker. worker.token.actor.pass) workers.entry.items }
+    ensures room { vec_capacity passes.new ≡ vec_capacity passes.old }
 {
-    let mut passes = Vec::with_capacity(alloc, workers.len())?;
     for worker in workers {
-        passes.push(into_pass(worker.token))?;
+        passes.push_reserved(into_pass(worker.token));
     }
-    Ok(passes)
 }

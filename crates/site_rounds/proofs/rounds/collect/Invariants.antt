@@ -1,8 +1,8 @@
-use Rattle.std.proofs.Common.{◌≡◌, ◌++◌, All, length, map}
+use Rattle.std.proofs.Common.{◌≡◌, ◌++◌, All, length, map, vec_capacity}
 use Rattle.std.specs.Vec.Iter.{into_iter_items, into_iter_len}
 use Rattle.pass_course.specs.Course.{IsIdle}
 use Rattle.site_rounds.specs.Ready.{IsReady}
-use Rattle.site_rounds.proofs.rounds.passes_of.Given as goal
+use Rattle.site_rounds.proofs.rounds.collect.Given as goal
 
 abbrev pub invariant-loop-worker : goal.invariant-loop-worker
 invariant-loop-worker g l = record {
@@ -11,4 +11,5 @@ invariant-loop-worker g l = record {
   left : All (λ worker. (worker.token.actor.site.now ≡ l.site) × IsIdle l.site.opening worker.token.actor.pass.number worker.token.actor.pass.seen) (into_iter_items l.worker-iterator);
   ready : All (IsReady l.site) l.passes.items;
   passes : l.passes.items ≡ map (λ worker. worker.token.actor.pass) l.yielded;
+  room : vec_capacity l.passes ≡ vec_capacity l.fn.passes;
 }
