@@ -7,6 +7,11 @@ KINDS = {1: "Publish", 2: "Begin", 3: "App", 4: "Fresh", 5: "Fetch", 6: "Offer",
 STEPS = {0: "Get", 1: "Set", 2: "Remove", 3: "Ensure", 4: "All"}
 
 
+def listed(connections):
+    """The input of `record` for these connections."""
+    return b"".join(b"%d\n" % len(bytes_) + bytes_ for bytes_ in connections)
+
+
 class NotJournal(Exception):
     """The bytes don't begin with a journal."""
 

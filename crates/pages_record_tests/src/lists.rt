@@ -1,4 +1,5 @@
 use crate::recorded::told;
+use std::alloc::{AllocError, Global};
 use std::test::Fail;
 
 // The journal of a connection without a byte.
@@ -33,12 +34,23 @@ const FAULTY: [&str; 12] = [
     "99999999\n",
 ];
 
+// Writes that fail, and how many journals of empty connections were written before.
+const FAILING: [(u64, usize); 3] = [(0, 0), (1, 1), (2, 2)];
+
+// The journals of so many of its connections.
+fn journals_of(alloc: Global, count: usize) -> Result<Vec<u8>, AllocError> {
+    let mut journals = Vec::new(alloc);
+    for _ in 0..count {
+        for part in &EMPTY {
+            journals.extend_from_slice(part)?;
+        }
+    }
+    Ok(journals)
+}
+
 #[test]
 fn an_empty_connection_is_a_journal(rt: HostRuntime) -> Result<(), Fail> {
-    let mut wanted = Vec::new(rt.alloc());
-    for part in &EMPTY {
-        wanted.extend_from_slice(part)?;
-    }
+    let wanted = journals_of(rt.alloc(), 1)?;
     let (status, text) = told(rt.alloc(), b"0\n", 1, &[])?;
     assert_eq!(rt; status, 0);
     assert_eq!(rt; text.as_slice(), wanted.as_slice());
@@ -55,10 +67,14 @@ fn nothing_is_written_for_what_is_no_list(rt: HostRuntime) -> Result<(), Fail> {
     Ok(())
 }
 
+// Each of these journals is one write, and it is done before the next connection begins.
 #[test]
 fn a_failed_write_ends_it(rt: HostRuntime) -> Result<(), Fail> {
-    let (status, text) = told(rt.alloc(), b"0\n0\n", 4_096, &[0])?;
-    assert_eq!(rt; status, 4);
-    assert!(rt; text.is_empty());
+    for &(call, count) in &FAILING {
+        let wanted = journals_of(rt.alloc(), count)?;
+        let (status, text) = told(rt.alloc(), b"0\n0\n0\n", 4_096, &[call])?;
+        assert_eq!(rt; status, 4);
+        assert_eq!(rt; text.as_slice(), wanted.as_slice());
+    }
     Ok(())
 }

@@ -18,11 +18,10 @@ use Rattle.site_words.specs.declared.words.Op.TheVariants as op
 use Rattle.site_words.specs.declared.words.Opening.{Opening}
 use Rattle.site_words.specs.declared.words.Reply.TheVariants as reply
 use Rattle.site_core.specs.Lived.{Lived}
-use Rattle.edges.proofs.ToldBytes.{appends_none}
+use Rattle.std.specs.Io.KnownBytes.{Appends}
 use Rattle.edges.specs.Faults.{Rose}
 use Rattle.http_out.specs.Sent.{Sent}
 use Rattle.site_journal.specs.Journal.{journal, rolled}
-use Rattle.site_journal.specs.Writing.{Writes}
 use Rattle.site_journal.specs.declared.talk.Talk.{Talk}
 use Rattle.rollover.specs.Roll.{IsCutShort, IsRolled, IsUnrolled, goes_on_as, is_spent}
 
@@ -85,30 +84,27 @@ next_is_sound law needs site sound legal room =
 room_left : (needs : Needs) (site : Lived) (opening : Opening) (b : Bool) → opening ≡ next_opening site.opening (after needs site.opening site.history) → is_spent opening ≡ b → is_spent (goes_on_as needs site) ≡ b
 room_left needs site opening b is spent = ap is_spent (rolled_goes_on needs site ∙ sym is) ∙ spent
 
-pub comes_to_new : (needs : Needs) (site next : Lived) (opening : Opening) (talk : Option Talk) (old new : Option (List ℕ)) (before risen : ℕ) (failed : Bool) → is_sound site.opening ≡ true → Legal needs site.opening site.history
+pub comes_to_new : (needs : Needs) (site next : Lived) (opening : Opening) (talk : Option Talk) (old new : Option (List ℕ)) → is_sound site.opening ≡ true → Legal needs site.opening site.history
     → AllRest site.opening site.history → opening ≡ next_opening site.opening (after needs site.opening site.history) → is_spent opening ≡ false → next.opening ≡ opening → next.history ≡ []
-    → Writes old new before risen false failed (journal site.opening (rolled site.history) talk) → failed ≡ false → IsRolled needs site next talk old new
-comes_to_new needs site next opening talk old new before risen failed sound legal rest is room goes empty writes whole = record {
-  written = subst (λ f. Sent old new (journal site.opening (rolled site.history) talk) f) whole (writes.sent old [] (appends_none old));
+    → Appends old new (journal site.opening (rolled site.history) talk) → IsRolled needs site next talk old new
+comes_to_new needs site next opening talk old new sound legal rest is room goes empty written = record {
+  written = written;
   is_legal = rolled_is_legal needs site.opening site.history sound legal rest;
   opening = goes ∙ is ∙ sym (rolled_goes_on needs site);
   history = empty;
   room = room_left needs site opening false is room;
 }
 
-pub comes_to_old : (needs : Needs) (site : Lived) (opening : Opening) (talk : Option Talk) (old new : Option (List ℕ)) (before risen : ℕ) (failed : Bool) → is_sound site.opening ≡ true → Legal needs site.opening site.history
+pub comes_to_old : (needs : Needs) (site : Lived) (opening : Opening) (talk : Option Talk) (old new : Option (List ℕ)) (before risen : ℕ) → is_sound site.opening ≡ true → Legal needs site.opening site.history
     → AllRest site.opening site.history → opening ≡ next_opening site.opening (after needs site.opening site.history) → is_spent opening ≡ false
-    → Writes old new before risen false failed (journal site.opening (rolled site.history) talk) → failed ≡ true → IsCutShort needs site site talk old new before risen
-comes_to_old needs site opening talk old new before risen failed sound legal rest is room writes broke = record {
+    → Sent old new (journal site.opening (rolled site.history) talk) true → Rose before risen → IsCutShort needs site site talk old new before risen
+comes_to_old needs site opening talk old new before risen sound legal rest is room sent rose = record {
   same = refl;
   is_legal = rolled_is_legal needs site.opening site.history sound legal rest;
-  sent = subst (λ f. Sent old new (journal site.opening (rolled site.history) talk) f) broke (writes.sent old [] (appends_none old));
-  rose = writes.rose before (omega arith) never broke;
+  sent = sent;
+  rose = rose;
   room = room_left needs site opening false is room;
 }
-  where
-    never : false ≡ true → Rose before before
-    never is = absurd (cc)
 
 pub comes_to_nothing : (site : Lived) (old : Option (List ℕ)) → IsUnrolled site site old old
 comes_to_nothing site old = record { same = refl; silent = refl }

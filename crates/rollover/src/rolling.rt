@@ -3,7 +3,7 @@ ghost use Rattle.std.specs.Option.{option_copied};
 ghost use Rattle.rollover.specs.Roll.{Rolls, is_spent};
 ghost use Rattle.site_words.specs.Invariants.{AllRest};
 
-use edges::Sink;
+use edges::{Failed, Sink};
 use site_core::Site;
 use site_journal::{Talk, write_journal};
 use site_words::laws::rollover;
@@ -46,12 +46,9 @@ pub fn roll<P: Compiled, K: Sink>(
     let Ok(next) = Site::resume(alloc, opening) else {
         return Rolled::NoMemory(site);
     };
-    let mut failed = false;
-    write_journal(sink, &mut failed, site.opening(), site.history(), talk);
-    if failed {
-        Rolled::WriteFault(site)
-    } else {
-        Rolled::Done(next)
+    match write_journal(sink, site.opening(), site.history(), talk) {
+        Ok(()) => Rolled::Done(next),
+        Err(Failed) => Rolled::WriteFault(site),
     }
 }
 

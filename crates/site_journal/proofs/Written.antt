@@ -3,33 +3,16 @@ use Rattle.std.proofs.Common.{◌≡◌, ◌≤◌, ◌<◌, ℕ, ◌+◌, Bool,
 use Rattle.std.proofs.lemmas.List.{length-append, map-append, take_all, take_more}
 use Rattle.std.proofs.lemmas.Grind.{flat_map-append}
 use Rattle.std.specs.Prelude.{flat_map}
-use Rattle.http_out.specs.Sent.{Sent}
 use Rattle.pg_value.specs.Datum.{Datum, list, rec, items_of, entries_of}
 use Rattle.pg_value.specs.Value.{datum_of, entry_of}
 use Rattle.pg_value.specs.declared.value.Value.{Value}
 use Rattle.site_journal.specs.Codes.{of_bytes, of_list, of_number}
 use Rattle.site_journal.specs.Journal.{entry_count, item_count, of_attrs, of_datum, of_entries, of_entry, of_items, rolled}
-use Rattle.site_journal.specs.Writing.{Writes}
 use Rattle.site_words.specs.declared.words.Entry.{Entry as TheEntry}
 use Rattle.site_words.specs.declared.words.Op.TheVariants as op
 use Rattle.site_words.specs.declared.words.Reply.TheVariants as reply
-
-pub writes_both : {a b c : Option (List ℕ)} {m n o : ℕ} {f g h : Bool} {x y : List ℕ} → Writes a b m n f g x → Writes b c n o g h y → Writes a c m o f h (x ++ y)
-writes_both {c = c} {h = h} {x = x} {y = y} first second = record {
-  sent = λ old front was. subst (λ t. Sent old c t h) (append_assoc front x y) (second.sent old (front ++ x) (first.sent old front was));
-  counted = omega (arith, first.counted, second.counted);
-  rose = λ before le was failed. second.rose before (omega (arith, le, first.counted)) (λ f. first.rose before le was f) failed;
-}
-
-pub writes_none : (a : Option (List ℕ)) (m : ℕ) (f : Bool) → Writes a a m m f f []
-writes_none a m f = record {
-  sent = λ old front was. subst (λ t. Sent old a t f) (sym (append-nil front)) was;
-  counted = omega arith;
-  rose = λ before le was failed. was failed;
-}
-
-pub writes_same : {a b : Option (List ℕ)} {m n : ℕ} {f g : Bool} {x y : List ℕ} → x ≡ y → Writes a b m n f g x → Writes a b m n f g y
-writes_same {a = a} {b = b} {m = m} {n = n} {f = f} {g = g} same writes = subst (λ t. Writes a b m n f g t) same writes
+use Rattle.sink_buffer.proofs.Writing.{writes_both, writes_same}
+use Rattle.sink_buffer.specs.Buffer.{Buffer, Writes}
 
 -- the next item of a list behind those that were written
 
@@ -38,12 +21,12 @@ flat_next f xs i x within is =
     ap (flat_map f) (take_more xs i x within) ∙ flat_map-append f (take i xs) (get_or xs i x ∷ [])
     ∙ ap (λ y. flat_map f (take i xs) ++ (f y ++ [])) (sym is) ∙ ap (λ t. flat_map f (take i xs) ++ t) (append-nil (f x))
 
-pub writes_next : {a b c : Option (List ℕ)} {m n o : ℕ} {p q r : Bool} {A : Type 0} (f : A → List ℕ) (xs : List A) (i : ℕ) (x : A) → i < length xs → x ≡ get_or xs i x
+pub writes_next : {a b c : Option (List ℕ)} {m n o : ℕ} {p q r : Buffer} {A : Type 0} (f : A → List ℕ) (xs : List A) (i : ℕ) (x : A) → i < length xs → x ≡ get_or xs i x
     → Writes a b m n p q (flat_map f (take i xs)) → Writes b c n o q r (f x) → Writes a c m o p r (flat_map f (take (i + 1) xs))
 writes_next f xs i x within is first second = writes_same (sym (flat_next f xs i x within is)) (writes_both first second)
 
 -- all of them
-pub writes_all : {a b : Option (List ℕ)} {m n : ℕ} {p q : Bool} {A : Type 0} (f : A → List ℕ) (xs : List A) (i : ℕ) → length xs ≤ i → Writes a b m n p q (flat_map f (take i xs)) → Writes a b m n p q (flat_map f xs)
+pub writes_all : {a b : Option (List ℕ)} {m n : ℕ} {p q : Buffer} {A : Type 0} (f : A → List ℕ) (xs : List A) (i : ℕ) → length xs ≤ i → Writes a b m n p q (flat_map f (take i xs)) → Writes a b m n p q (flat_map f xs)
 writes_all f xs i past first = writes_same (ap (flat_map f) (take_all i xs past)) first
 
 -- a history with a Roll behind it
@@ -61,7 +44,7 @@ items_push : (ds : List Datum) (d : Datum) → of_items (items_of (ds ++ d ∷ [
 items_push [] d = append-nil (of_datum d)
 items_push (c ∷ ds) d = ap (λ t. of_datum c ++ t) (items_push ds d) ∙ sym (append_assoc (of_datum c) (of_items (items_of ds)) (of_datum d))
 
-pub item_next : {a b c : Option (List ℕ)} {m n o : ℕ} {p q r : Bool} (xs : List Value) (i : ℕ) (x : Value) → i < length xs → x ≡ get_or xs i x
+pub item_next : {a b c : Option (List ℕ)} {m n o : ℕ} {p q r : Buffer} (xs : List Value) (i : ℕ) (x : Value) → i < length xs → x ≡ get_or xs i x
     → Writes a b m n p q (of_items (items_of (map datum_of (take i xs)))) → Writes b c n o q r (of_datum (datum_of x)) → Writes a c m o p r (of_items (items_of (map datum_of (take (i + 1) xs))))
 item_next xs i x within is first second =
     let next : of_items (items_of (map datum_of (take (i + 1) xs))) ≡ of_items (items_of (map datum_of (take i xs))) ++ of_datum (datum_of x)
@@ -69,7 +52,7 @@ item_next xs i x within is first second =
     ∙ items_push (map datum_of (take i xs)) (datum_of (get_or xs i x)) ∙ ap (λ y. of_items (items_of (map datum_of (take i xs))) ++ of_datum (datum_of y)) (sym is) in
     writes_same (sym next) (writes_both first second)
 
-pub items_all : {a b : Option (List ℕ)} {m n : ℕ} {p q : Bool} (xs : List Value) (i : ℕ) → length xs ≤ i → Writes a b m n p q (of_items (items_of (map datum_of (take i xs)))) → Writes a b m n p q (of_items (items_of (map datum_of xs)))
+pub items_all : {a b : Option (List ℕ)} {m n : ℕ} {p q : Buffer} (xs : List Value) (i : ℕ) → length xs ≤ i → Writes a b m n p q (of_items (items_of (map datum_of (take i xs)))) → Writes a b m n p q (of_items (items_of (map datum_of xs)))
 items_all xs i past first = writes_same (ap (λ ys. of_items (items_of (map datum_of ys))) (take_all i xs past)) first
 
 items_counted : (ds : List Datum) → item_count (items_of ds) ≡ length ds
@@ -87,7 +70,7 @@ entries_push : (es : List (List ℕ × Datum)) (e : List ℕ × Datum) → of_en
 entries_push [] e = append-nil (of_bytes e.0 ++ of_datum e.1)
 entries_push (c ∷ es) e = ap (λ t. of_bytes c.0 ++ of_datum c.1 ++ t) (entries_push es e) ∙ sym (append_assoc (of_bytes c.0 ++ of_datum c.1) (of_entries (entries_of es)) (of_bytes e.0 ++ of_datum e.1))
 
-pub entry_next : {a b c d : Option (List ℕ)} {m n o s : ℕ} {p q r u : Bool} (xs : List (List ℕ × Value)) (i : ℕ) (x : List ℕ × Value) → i < length xs → x ≡ get_or xs i x
+pub entry_next : {a b c d : Option (List ℕ)} {m n o s : ℕ} {p q r u : Buffer} (xs : List (List ℕ × Value)) (i : ℕ) (x : List ℕ × Value) → i < length xs → x ≡ get_or xs i x
     → Writes a b m n p q (of_entries (entries_of (map entry_of (take i xs)))) → Writes b c n o q r (of_bytes x.0) → Writes c d o s r u (of_datum (datum_of x.1))
     → Writes a d m s p u (of_entries (entries_of (map entry_of (take (i + 1) xs))))
 entry_next xs i x within is first key value =
@@ -96,7 +79,7 @@ entry_next xs i x within is first key value =
     ∙ entries_push (map entry_of (take i xs)) (entry_of (get_or xs i x)) ∙ ap (λ (y : List ℕ × Value). of_entries (entries_of (map entry_of (take i xs))) ++ (of_bytes y.0 ++ of_datum (datum_of y.1))) (sym is) in
     writes_same (sym next) (writes_both first (writes_both key value))
 
-pub entries_all : {a b : Option (List ℕ)} {m n : ℕ} {p q : Bool} (xs : List (List ℕ × Value)) (i : ℕ) → length xs ≤ i → Writes a b m n p q (of_entries (entries_of (map entry_of (take i xs)))) → Writes a b m n p q (of_entries (entries_of (map entry_of xs)))
+pub entries_all : {a b : Option (List ℕ)} {m n : ℕ} {p q : Buffer} (xs : List (List ℕ × Value)) (i : ℕ) → length xs ≤ i → Writes a b m n p q (of_entries (entries_of (map entry_of (take i xs)))) → Writes a b m n p q (of_entries (entries_of (map entry_of xs)))
 entries_all xs i past first = writes_same (ap (λ ys. of_entries (entries_of (map entry_of ys))) (take_all i xs past)) first
 
 entries_counted : (es : List (List ℕ × Datum)) → entry_count (entries_of es) ≡ length es

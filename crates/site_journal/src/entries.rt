@@ -1,13 +1,14 @@
 ghost use Rattle.std.specs.Prelude.{◌≡◌, ◌<◌, ◌^◌, flat_map, length};
 ghost use Rattle.site_journal.specs.Codes.{of_bytes, of_list};
 ghost use Rattle.site_journal.specs.Journal.{kind_of, of_answer, of_edit, of_entry, of_op, of_reply, of_step, rolled};
-ghost use Rattle.site_journal.specs.Writing.{Writes};
+ghost use Rattle.sink_buffer.specs.Buffer.{Writes};
 
 use crate::values::{put_attrs, put_value};
 use crate::writing::{Item, put, put_byte, put_bytes, put_list, put_number, put_option, put_truth};
 use block_list::BlockList;
 use edges::Sink;
 use pg_text::Path;
+use sink_buffer::SinkBuffer;
 use site_words::{AppReply, AppStep, Entry, Op, Reply};
 use source_tree::Edit;
 
@@ -15,33 +16,33 @@ use source_tree::Edit;
 const ROLL: [u8; 2] = [0, 10];
 
 /// Writes a history with a Roll behind it.
-pub(crate) fn put_rolled<K: Sink>(sink: &mut K, failed: &mut bool, history: &BlockList<Entry>)
+pub(crate) fn put_rolled<K: Sink>(sink: &mut K, buffer: &mut SinkBuffer, history: &BlockList<Entry>)
     requires { length history.now.items < 2 ^ 63 }
     ensures { Writes (K.taken sink.old) (K.taken sink.new) (K.faults sink.old) (K.faults sink.new)
-        failed.old failed.new (of_list of_entry (rolled history.now.items)) }
+        buffer.old buffer.new (of_list of_entry (rolled history.now.items)) }
 {
-    put_number(sink, failed, history.len() as u64 + 1);
-    put_entries(sink, failed, history);
-    put(sink, failed, &ROLL);
+    put_number(sink, buffer, history.len() as u64 + 1);
+    put_entries(sink, buffer, history);
+    put(sink, buffer, &ROLL);
 }
 
 // Writes the entries of a history.
-fn put_entries<K: Sink>(sink: &mut K, failed: &mut bool, history: &BlockList<Entry>)
+fn put_entries<K: Sink>(sink: &mut K, buffer: &mut SinkBuffer, history: &BlockList<Entry>)
     ensures { Writes (K.taken sink.old) (K.taken sink.new) (K.faults sink.old) (K.faults sink.new)
-        failed.old failed.new (flat_map of_entry history.now.items) }
+        buffer.old buffer.new (flat_map of_entry history.now.items) }
 {
     for entry in history.iter() {
-        entry.put(sink, failed);
+        entry.put(sink, buffer);
     }
 }
 
 impl Item for Entry {
     ghost text = { λ entry. of_entry entry };
 
-    fn put<K: Sink>(&self, sink: &mut K, failed: &mut bool) {
-        put(sink, failed, &[self.pass, kind_of(&self.op)]);
-        put_op(sink, failed, &self.op);
-        put_reply(sink, failed, &self.reply);
+    fn put<K: Sink>(&self, sink: &mut K, buffer: &mut SinkBuffer) {
+        put(sink, buffer, &[self.pass, kind_of(&self.op)]);
+        put_op(sink, buffer, &self.op);
+        put_reply(sink, buffer, &self.reply);
     }
 }
 
@@ -79,67 +80,67 @@ fn kind_of(op: &Op) -> u8
 }
 
 // Writes the parts of an operation.
-fn put_op<K: Sink>(sink: &mut K, failed: &mut bool, op: &Op)
+fn put_op<K: Sink>(sink: &mut K, buffer: &mut SinkBuffer, op: &Op)
     ensures { Writes (K.taken sink.old) (K.taken sink.new) (K.faults sink.old) (K.faults sink.new)
-        failed.old failed.new (of_op op.now) }
+        buffer.old buffer.new (of_op op.now) }
 {
     match op {
         Op::Publish { base, edits } => {
-            put_option(sink, failed, *base);
-            put_list(sink, failed, edits.as_slice());
+            put_option(sink, buffer, *base);
+            put_list(sink, buffer, edits.as_slice());
         }
         Op::Begin { cookie, moment } => {
-            put_bytes(sink, failed, cookie.as_bytes());
-            put_number(sink, failed, *moment);
+            put_bytes(sink, buffer, cookie.as_bytes());
+            put_number(sink, buffer, *moment);
         }
         Op::App { request, step } => {
-            put_number(sink, failed, *request);
-            put_step(sink, failed, step);
+            put_number(sink, buffer, *request);
+            put_step(sink, buffer, step);
         }
         Op::Fetch { request, path } => {
-            put_number(sink, failed, *request);
-            put_bytes(sink, failed, path.as_bytes());
+            put_number(sink, buffer, *request);
+            put_bytes(sink, buffer, path.as_bytes());
         }
         Op::Offer { request, path } => {
-            put_number(sink, failed, *request);
-            put_bytes(sink, failed, path.as_bytes());
+            put_number(sink, buffer, *request);
+            put_bytes(sink, buffer, path.as_bytes());
         }
         Op::End { request, attrs } => {
-            put_number(sink, failed, *request);
-            put_attrs(sink, failed, attrs);
+            put_number(sink, buffer, *request);
+            put_attrs(sink, buffer, attrs);
         }
-        Op::Fresh { request } | Op::Abandon { request } => put_number(sink, failed, *request),
-        Op::Snapshot { cookie } => put_bytes(sink, failed, cookie.as_bytes()),
+        Op::Fresh { request } | Op::Abandon { request } => put_number(sink, buffer, *request),
+        Op::Snapshot { cookie } => put_bytes(sink, buffer, cookie.as_bytes()),
         Op::Roll => {}
     }
 }
 
 // Writes the parts of a reply.
-fn put_reply<K: Sink>(sink: &mut K, failed: &mut bool, reply: &Reply)
+fn put_reply<K: Sink>(sink: &mut K, buffer: &mut SinkBuffer, reply: &Reply)
     ensures { Writes (K.taken sink.old) (K.taken sink.new) (K.faults sink.old) (K.faults sink.new)
-        failed.old failed.new (of_reply reply.now) }
+        buffer.old buffer.new (of_reply reply.now) }
 {
     match reply {
         Reply::Published { version, dirty } => {
-            put_number(sink, failed, *version);
-            put_list(sink, failed, dirty.as_slice());
+            put_number(sink, buffer, *version);
+            put_list(sink, buffer, dirty.as_slice());
         }
         Reply::Begun {
             request,
             version,
             session,
         } => {
-            put_number(sink, failed, *request);
-            put_number(sink, failed, *version);
-            put_option(sink, failed, *session);
+            put_number(sink, buffer, *request);
+            put_number(sink, buffer, *version);
+            put_option(sink, buffer, *session);
         }
-        Reply::App(answer) => put_answer(sink, failed, answer),
-        Reply::Made { session } => put_number(sink, failed, *session),
-        Reply::Fetched { hit } => put_truth(sink, failed, *hit),
-        Reply::Offered { kept } => put_truth(sink, failed, *kept),
+        Reply::App(answer) => put_answer(sink, buffer, answer),
+        Reply::Made { session } => put_number(sink, buffer, *session),
+        Reply::Fetched { hit } => put_truth(sink, buffer, *hit),
+        Reply::Offered { kept } => put_truth(sink, buffer, *kept),
         Reply::Snapped { version, session } => {
-            put_number(sink, failed, *version);
-            put_option(sink, failed, *session);
+            put_number(sink, buffer, *version);
+            put_option(sink, buffer, *session);
         }
         Reply::Ended | Reply::Dropped | Reply::Rolled => {}
     }
@@ -148,16 +149,16 @@ fn put_reply<K: Sink>(sink: &mut K, failed: &mut bool, reply: &Reply)
 impl Item for Edit {
     ghost text = { λ edit. of_edit edit };
 
-    fn put<K: Sink>(&self, sink: &mut K, failed: &mut bool) {
+    fn put<K: Sink>(&self, sink: &mut K, buffer: &mut SinkBuffer) {
         match self {
             Edit::Put(path, text) => {
-                put_byte(sink, failed, 0);
-                put_bytes(sink, failed, path.as_bytes());
-                put_bytes(sink, failed, text.as_bytes());
+                put_byte(sink, buffer, 0);
+                put_bytes(sink, buffer, path.as_bytes());
+                put_bytes(sink, buffer, text.as_bytes());
             }
             Edit::Delete(path) => {
-                put_byte(sink, failed, 1);
-                put_bytes(sink, failed, path.as_bytes());
+                put_byte(sink, buffer, 1);
+                put_bytes(sink, buffer, path.as_bytes());
             }
         }
     }
@@ -166,54 +167,54 @@ impl Item for Edit {
 impl Item for Path {
     ghost text = { λ path. of_bytes path };
 
-    fn put<K: Sink>(&self, sink: &mut K, failed: &mut bool) {
-        put_bytes(sink, failed, self.as_bytes());
+    fn put<K: Sink>(&self, sink: &mut K, buffer: &mut SinkBuffer) {
+        put_bytes(sink, buffer, self.as_bytes());
     }
 }
 
 // Writes a step on the application's attributes.
-fn put_step<K: Sink>(sink: &mut K, failed: &mut bool, step: &AppStep)
+fn put_step<K: Sink>(sink: &mut K, buffer: &mut SinkBuffer, step: &AppStep)
     ensures { Writes (K.taken sink.old) (K.taken sink.new) (K.faults sink.old) (K.faults sink.new)
-        failed.old failed.new (of_step step.now) }
+        buffer.old buffer.new (of_step step.now) }
 {
     match step {
         AppStep::Get(name) => {
-            put_byte(sink, failed, 0);
-            put_bytes(sink, failed, name.as_bytes());
+            put_byte(sink, buffer, 0);
+            put_bytes(sink, buffer, name.as_bytes());
         }
         AppStep::Set(name, value) => {
-            put_byte(sink, failed, 1);
-            put_bytes(sink, failed, name.as_bytes());
-            put_value(sink, failed, value);
+            put_byte(sink, buffer, 1);
+            put_bytes(sink, buffer, name.as_bytes());
+            put_value(sink, buffer, value);
         }
         AppStep::Remove(name) => {
-            put_byte(sink, failed, 2);
-            put_bytes(sink, failed, name.as_bytes());
+            put_byte(sink, buffer, 2);
+            put_bytes(sink, buffer, name.as_bytes());
         }
         AppStep::Ensure(name, value) => {
-            put_byte(sink, failed, 3);
-            put_bytes(sink, failed, name.as_bytes());
-            put_value(sink, failed, value);
+            put_byte(sink, buffer, 3);
+            put_bytes(sink, buffer, name.as_bytes());
+            put_value(sink, buffer, value);
         }
-        AppStep::All => put_byte(sink, failed, 4),
+        AppStep::All => put_byte(sink, buffer, 4),
     }
 }
 
 // Writes what a step is told.
-fn put_answer<K: Sink>(sink: &mut K, failed: &mut bool, answer: &AppReply)
+fn put_answer<K: Sink>(sink: &mut K, buffer: &mut SinkBuffer, answer: &AppReply)
     ensures { Writes (K.taken sink.old) (K.taken sink.new) (K.faults sink.old) (K.faults sink.new)
-        failed.old failed.new (of_answer answer.now) }
+        buffer.old buffer.new (of_answer answer.now) }
 {
     match answer {
         AppReply::Value(value) => {
-            put_byte(sink, failed, 0);
-            put_value(sink, failed, value);
+            put_byte(sink, buffer, 0);
+            put_value(sink, buffer, value);
         }
-        AppReply::Done => put_byte(sink, failed, 1),
-        AppReply::Created => put_byte(sink, failed, 2),
+        AppReply::Done => put_byte(sink, buffer, 1),
+        AppReply::Created => put_byte(sink, buffer, 2),
         AppReply::Large { weight } => {
-            put_byte(sink, failed, 3);
-            put_number(sink, failed, *weight);
+            put_byte(sink, buffer, 3);
+            put_number(sink, buffer, *weight);
         }
     }
 }

@@ -2,43 +2,44 @@ ghost use Rattle.std.specs.Prelude.{map};
 ghost use Rattle.pg_value.specs.Datum.{entries_of, items_of};
 ghost use Rattle.pg_value.specs.Value.{datum_of, entry_of};
 ghost use Rattle.site_journal.specs.Journal.{of_attrs, of_datum, of_entries, of_items};
-ghost use Rattle.site_journal.specs.Writing.{Writes};
+ghost use Rattle.sink_buffer.specs.Buffer.{Writes};
 
 use crate::writing::{put_byte, put_bytes, put_int, put_number, put_truth};
 use edges::Sink;
 use pg_text::Text;
 use pg_value::{Attrs, Value};
+use sink_buffer::SinkBuffer;
 
 // Writes a value.
 #[cycle(values)]
 #[tactic(auto, using(pg_value::proofs::Sizes::sizes, pg_value::proofs::Lengths::lengths))]
-pub(crate) fn put_value<K: Sink>(sink: &mut K, failed: &mut bool, value: &Value)
+pub(crate) fn put_value<K: Sink>(sink: &mut K, buffer: &mut SinkBuffer, value: &Value)
     ensures { Writes (K.taken sink.old) (K.taken sink.new) (K.faults sink.old) (K.faults sink.new)
-        failed.old failed.new (of_datum (datum_of value.now)) }
+        buffer.old buffer.new (of_datum (datum_of value.now)) }
 {
     match value {
-        Value::Null => put_byte(sink, failed, 0),
+        Value::Null => put_byte(sink, buffer, 0),
         Value::Bool(truth) => {
-            put_byte(sink, failed, 1);
-            put_truth(sink, failed, *truth);
+            put_byte(sink, buffer, 1);
+            put_truth(sink, buffer, *truth);
         }
         Value::Int(number) => {
-            put_byte(sink, failed, 2);
-            put_int(sink, failed, number);
+            put_byte(sink, buffer, 2);
+            put_int(sink, buffer, number);
         }
         Value::Text(text) => {
-            put_byte(sink, failed, 3);
-            put_bytes(sink, failed, text.as_bytes());
+            put_byte(sink, buffer, 3);
+            put_bytes(sink, buffer, text.as_bytes());
         }
         Value::List(items) => {
-            put_byte(sink, failed, 4);
-            put_number(sink, failed, items.len() as u64);
-            put_items(sink, failed, items.as_slice());
+            put_byte(sink, buffer, 4);
+            put_number(sink, buffer, items.len() as u64);
+            put_items(sink, buffer, items.as_slice());
         }
         Value::Rec(entries) => {
-            put_byte(sink, failed, 5);
-            put_number(sink, failed, entries.len() as u64);
-            put_keys(sink, failed, entries.as_slice());
+            put_byte(sink, buffer, 5);
+            put_number(sink, buffer, entries.len() as u64);
+            put_keys(sink, buffer, entries.as_slice());
         }
     }
 }
@@ -46,33 +47,33 @@ pub(crate) fn put_value<K: Sink>(sink: &mut K, failed: &mut bool, value: &Value)
 // Writes the items of a list.
 #[cycle(values)]
 #[tactic(auto, using(pg_value::proofs::Sizes::sizes, pg_value::proofs::Lengths::lengths))]
-fn put_items<K: Sink>(sink: &mut K, failed: &mut bool, items: &[Value])
+fn put_items<K: Sink>(sink: &mut K, buffer: &mut SinkBuffer, items: &[Value])
     ensures { Writes (K.taken sink.old) (K.taken sink.new) (K.faults sink.old) (K.faults sink.new)
-        failed.old failed.new (of_items (items_of (map datum_of items.now))) }
+        buffer.old buffer.new (of_items (items_of (map datum_of items.now))) }
 {
     for item in items {
-        put_value(sink, failed, item);
+        put_value(sink, buffer, item);
     }
 }
 
 // Writes the keys of a record, each with what stands under it.
 #[cycle(values)]
 #[tactic(auto, using(pg_value::proofs::Sizes::sizes, pg_value::proofs::Lengths::lengths))]
-fn put_keys<K: Sink>(sink: &mut K, failed: &mut bool, entries: &[(Text, Value)])
+fn put_keys<K: Sink>(sink: &mut K, buffer: &mut SinkBuffer, entries: &[(Text, Value)])
     ensures { Writes (K.taken sink.old) (K.taken sink.new) (K.faults sink.old) (K.faults sink.new)
-        failed.old failed.new (of_entries (entries_of (map entry_of entries.now))) }
+        buffer.old buffer.new (of_entries (entries_of (map entry_of entries.now))) }
 {
     for entry in entries {
-        put_bytes(sink, failed, entry.0.as_bytes());
-        put_value(sink, failed, &entry.1);
+        put_bytes(sink, buffer, entry.0.as_bytes());
+        put_value(sink, buffer, &entry.1);
     }
 }
 
 /// Writes attributes.
-pub(crate) fn put_attrs<K: Sink>(sink: &mut K, failed: &mut bool, attrs: &Attrs)
+pub(crate) fn put_attrs<K: Sink>(sink: &mut K, buffer: &mut SinkBuffer, attrs: &Attrs)
     ensures { Writes (K.taken sink.old) (K.taken sink.new) (K.faults sink.old) (K.faults sink.new)
-        failed.old failed.new (of_attrs attrs.now) }
+        buffer.old buffer.new (of_attrs attrs.now) }
 {
-    put_number(sink, failed, attrs.len() as u64);
-    put_keys(sink, failed, attrs.as_slice());
+    put_number(sink, buffer, attrs.len() as u64);
+    put_keys(sink, buffer, attrs.as_slice());
 }

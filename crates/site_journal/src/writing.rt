@@ -1,110 +1,110 @@
 ghost use Rattle.std.specs.Prelude.{ℕ, List, [], ◌∷◌, flat_map};
 ghost use Rattle.site_journal.specs.Codes.{of_bytes, of_int, of_list, of_number, of_option, of_truth};
-ghost use Rattle.site_journal.specs.Writing.{Writes};
+ghost use Rattle.sink_buffer.specs.Buffer.{Writes};
 
 use edges::Sink;
-use http_out::write;
+use sink_buffer::SinkBuffer;
 
 /// What a journal has lists of.
 pub(crate) trait Item {
     ghost text: { Self → List ℕ };
 
     /// Writes this item.
-    fn put<K: Sink>(&self, sink: &mut K, failed: &mut bool)
+    fn put<K: Sink>(&self, sink: &mut K, buffer: &mut SinkBuffer)
         ensures { Writes (K.taken sink.old) (K.taken sink.new) (K.faults sink.old) (K.faults sink.new)
-            failed.old failed.new (text self.now) };
+            buffer.old buffer.new (text self.now) };
 }
 
 impl Item for u64 {
     ghost text = { λ number. of_number number };
 
-    fn put<K: Sink>(&self, sink: &mut K, failed: &mut bool) {
-        put_number(sink, failed, *self);
+    fn put<K: Sink>(&self, sink: &mut K, buffer: &mut SinkBuffer) {
+        put_number(sink, buffer, *self);
     }
 }
 
 /// Writes these bytes.
-pub(crate) fn put<K: Sink>(sink: &mut K, failed: &mut bool, bytes: &[u8])
+pub(crate) fn put<K: Sink>(sink: &mut K, buffer: &mut SinkBuffer, bytes: &[u8])
     ensures { Writes (K.taken sink.old) (K.taken sink.new) (K.faults sink.old) (K.faults sink.new)
-        failed.old failed.new bytes.now }
+        buffer.old buffer.new bytes.now }
 {
-    write(sink, failed, bytes);
+    buffer.write(sink, bytes);
 }
 
 /// Writes one byte.
-pub(crate) fn put_byte<K: Sink>(sink: &mut K, failed: &mut bool, byte: u8)
+pub(crate) fn put_byte<K: Sink>(sink: &mut K, buffer: &mut SinkBuffer, byte: u8)
     ensures { Writes (K.taken sink.old) (K.taken sink.new) (K.faults sink.old) (K.faults sink.new)
-        failed.old failed.new (byte ∷ []) }
+        buffer.old buffer.new (byte ∷ []) }
 {
-    put(sink, failed, &[byte]);
+    put(sink, buffer, &[byte]);
 }
 
 /// Writes a number.
-pub(crate) fn put_number<K: Sink>(sink: &mut K, failed: &mut bool, number: u64)
+pub(crate) fn put_number<K: Sink>(sink: &mut K, buffer: &mut SinkBuffer, number: u64)
     ensures { Writes (K.taken sink.old) (K.taken sink.new) (K.faults sink.old) (K.faults sink.new)
-        failed.old failed.new (of_number number) }
+        buffer.old buffer.new (of_number number) }
 {
-    put(sink, failed, &number.to_be_bytes());
+    put(sink, buffer, &number.to_be_bytes());
 }
 
 /// Writes an integer.
-pub(crate) fn put_int<K: Sink>(sink: &mut K, failed: &mut bool, integer: &i64)
+pub(crate) fn put_int<K: Sink>(sink: &mut K, buffer: &mut SinkBuffer, integer: &i64)
     ensures { Writes (K.taken sink.old) (K.taken sink.new) (K.faults sink.old) (K.faults sink.new)
-        failed.old failed.new (of_int integer.now) }
+        buffer.old buffer.new (of_int integer.now) }
 {
-    put(sink, failed, &integer.to_be_bytes());
+    put(sink, buffer, &integer.to_be_bytes());
 }
 
 /// Writes a truth value.
-pub(crate) fn put_truth<K: Sink>(sink: &mut K, failed: &mut bool, truth: bool)
+pub(crate) fn put_truth<K: Sink>(sink: &mut K, buffer: &mut SinkBuffer, truth: bool)
     ensures { Writes (K.taken sink.old) (K.taken sink.new) (K.faults sink.old) (K.faults sink.new)
-        failed.old failed.new (of_truth truth) }
+        buffer.old buffer.new (of_truth truth) }
 {
     if truth {
-        put_byte(sink, failed, 1);
+        put_byte(sink, buffer, 1);
     } else {
-        put_byte(sink, failed, 0);
+        put_byte(sink, buffer, 0);
     }
 }
 
 /// Writes bytes with their length.
-pub(crate) fn put_bytes<K: Sink>(sink: &mut K, failed: &mut bool, bytes: &[u8])
+pub(crate) fn put_bytes<K: Sink>(sink: &mut K, buffer: &mut SinkBuffer, bytes: &[u8])
     ensures { Writes (K.taken sink.old) (K.taken sink.new) (K.faults sink.old) (K.faults sink.new)
-        failed.old failed.new (of_bytes bytes.now) }
+        buffer.old buffer.new (of_bytes bytes.now) }
 {
-    put_number(sink, failed, bytes.len() as u64);
-    put(sink, failed, bytes);
+    put_number(sink, buffer, bytes.len() as u64);
+    put(sink, buffer, bytes);
 }
 
 /// Writes an optional number.
-pub(crate) fn put_option<K: Sink>(sink: &mut K, failed: &mut bool, number: Option<u64>)
+pub(crate) fn put_option<K: Sink>(sink: &mut K, buffer: &mut SinkBuffer, number: Option<u64>)
     ensures { Writes (K.taken sink.old) (K.taken sink.new) (K.faults sink.old) (K.faults sink.new)
-        failed.old failed.new (of_option of_number number) }
+        buffer.old buffer.new (of_option of_number number) }
 {
     match number {
-        None => put_byte(sink, failed, 0),
+        None => put_byte(sink, buffer, 0),
         Some(number) => {
-            put_byte(sink, failed, 1);
-            put_number(sink, failed, number);
+            put_byte(sink, buffer, 1);
+            put_number(sink, buffer, number);
         }
     }
 }
 
 /// Writes a list.
-pub(crate) fn put_list<K: Sink, T: Item>(sink: &mut K, failed: &mut bool, items: &[T])
+pub(crate) fn put_list<K: Sink, T: Item>(sink: &mut K, buffer: &mut SinkBuffer, items: &[T])
     ensures { Writes (K.taken sink.old) (K.taken sink.new) (K.faults sink.old) (K.faults sink.new)
-        failed.old failed.new (of_list T.text items.now) }
+        buffer.old buffer.new (of_list T.text items.now) }
 {
-    put_number(sink, failed, items.len() as u64);
-    put_items(sink, failed, items);
+    put_number(sink, buffer, items.len() as u64);
+    put_items(sink, buffer, items);
 }
 
 // Writes the items of a list.
-fn put_items<K: Sink, T: Item>(sink: &mut K, failed: &mut bool, items: &[T])
+fn put_items<K: Sink, T: Item>(sink: &mut K, buffer: &mut SinkBuffer, items: &[T])
     ensures { Writes (K.taken sink.old) (K.taken sink.new) (K.faults sink.old) (K.faults sink.new)
-        failed.old failed.new (flat_map T.text items.now) }
+        buffer.old buffer.new (flat_map T.text items.now) }
 {
     for item in items {
-        item.put(sink, failed);
+        item.put(sink, buffer);
     }
 }

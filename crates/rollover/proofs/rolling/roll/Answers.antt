@@ -21,12 +21,12 @@ returns-in_default-resume-clause-rolls g c = comes_to_nothing c.args.site (g.K.S
 pub write_journal-requires : goal.write_journal-requires
 write_journal-requires g c = subst (λ h. length h < 2 ^ 63) (sym c.history.ensures) c.law.ensures.short
 
-pub returns-then-failed-clause-rolls : goal.returns-then-failed-clause-rolls
-returns-then-failed-clause-rolls g c =
-    comes_to_old g.P.Compiled.needs c.args.site c.in-Ok.opening _ _ _ _ _ _ c.law.ensures.sound c.law.ensures.legal c.requires c.in-Ok.ensures (sym c.is_spent.ensures ∙ c.if-is_spent.false)
-    (rw (c.opening.ensures, c.history.ensures) at c.write_journal.ensures) c.if-failed.true
+pub returns-in-Err-clause-rolls : goal.returns-in-Err-clause-rolls
+returns-in-Err-clause-rolls g c =
+    comes_to_old g.P.Compiled.needs c.args.site c.in-Ok.opening _ _ _ _ _ c.law.ensures.sound c.law.ensures.legal c.requires c.in-Ok.ensures (sym c.is_spent.ensures ∙ c.if-is_spent.false)
+    (rw (c.opening.ensures, c.history.ensures) at c.in-Err.ensures.sent) c.in-Err.ensures.rose
 
-pub returns-else-failed-clause-rolls : goal.returns-else-failed-clause-rolls
-returns-else-failed-clause-rolls g c =
-    comes_to_new g.P.Compiled.needs c.args.site c.in-Ok-resume.next c.in-Ok.opening _ _ _ _ _ _ c.law.ensures.sound c.law.ensures.legal c.requires c.in-Ok.ensures (sym c.is_spent.ensures ∙ c.if-is_spent.false)
-    c.in-Ok-resume.ensures.0 c.in-Ok-resume.ensures.1 (rw (c.opening.ensures, c.history.ensures) at c.write_journal.ensures) c.if-failed.false
+pub returns-in-Ok-write_journal-clause-rolls : goal.returns-in-Ok-write_journal-clause-rolls
+returns-in-Ok-write_journal-clause-rolls g c =
+    comes_to_new g.P.Compiled.needs c.args.site c.in-Ok-resume.next c.in-Ok.opening _ _ _ c.law.ensures.sound c.law.ensures.legal c.requires c.in-Ok.ensures (sym c.is_spent.ensures ∙ c.if-is_spent.false)
+    c.in-Ok-resume.ensures.0 c.in-Ok-resume.ensures.1 (rw (c.opening.ensures, c.history.ensures) at c.in-Ok-write_journal.ensures.sent)

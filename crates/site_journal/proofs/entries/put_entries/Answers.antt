@@ -3,7 +3,8 @@ use Rattle.std.specs.Prelude.{flat_map}
 use Rattle.std.proofs.lemmas.Iterator.Consumers.{YieldsList-end, YieldsList-from_first, YieldsList-turn}
 use Rattle.std.proofs.lemmas.List.{length_push}
 use Rattle.site_journal.specs.Journal.{of_entry}
-use Rattle.site_journal.proofs.Written.{writes_all, writes_next, writes_none, writes_same}
+use Rattle.site_journal.proofs.Written.{writes_all, writes_next}
+use Rattle.sink_buffer.proofs.Writing.{writes_none, writes_same}
 use Rattle.site_journal.proofs.entries.put_entries.Goals as goal
 
 pub loop-entry-init : goal.loop-entry-init

@@ -1,4 +1,5 @@
-use Rattle.site_journal.proofs.Written.{rolled_text, writes_both, writes_same}
+use Rattle.site_journal.proofs.Written.{rolled_text}
+use Rattle.sink_buffer.proofs.Writing.{writes_both, writes_same}
 use Rattle.site_journal.proofs.entries.put_rolled.Goals as goal
 
 pub returns : goal.returns

@@ -1,4 +1,4 @@
-use Rattle.site_journal.proofs.Written.{writes_both}
+use Rattle.sink_buffer.proofs.Writing.{writes_both}
 use Rattle.site_journal.proofs.journal.put_talk.Goals as goal
 
 pub returns : goal.returns

@@ -1,5 +1,6 @@
 use Rattle.std.proofs.Common.{ap, arith, sym, ◌∙◌}
-use Rattle.site_journal.proofs.Written.{entries_all, entry_next, item_next, items_all, list_text, rec_text, writes_both, writes_none, writes_same}
+use Rattle.site_journal.proofs.Written.{entries_all, entry_next, item_next, items_all, list_text, rec_text}
+use Rattle.sink_buffer.proofs.Writing.{writes_both, writes_none, writes_same}
 use Rattle.site_journal.specs.Journal.{of_value}
 use Rattle.site_journal.proofs.values.+values.Goals as goal
 

@@ -1,4 +1,5 @@
-use Rattle.site_journal.proofs.Written.{attrs_text, writes_both, writes_same}
+use Rattle.site_journal.proofs.Written.{attrs_text}
+use Rattle.sink_buffer.proofs.Writing.{writes_both, writes_same}
 use Rattle.site_journal.proofs.values.put_attrs.Goals as goal
 
 pub returns : goal.returns

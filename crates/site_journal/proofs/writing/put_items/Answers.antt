@@ -1,5 +1,6 @@
 use Rattle.std.proofs.Common.{arith}
-use Rattle.site_journal.proofs.Written.{writes_all, writes_next, writes_none}
+use Rattle.site_journal.proofs.Written.{writes_all, writes_next}
+use Rattle.sink_buffer.proofs.Writing.{writes_none}
 use Rattle.site_journal.proofs.writing.put_items.Goals as goal
 
 pub loop-item-init : goal.loop-item-init

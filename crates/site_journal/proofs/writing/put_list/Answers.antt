@@ -1,4 +1,4 @@
-use Rattle.site_journal.proofs.Written.{writes_both}
+use Rattle.sink_buffer.proofs.Writing.{writes_both}
 use Rattle.site_journal.proofs.writing.put_list.Goals as goal
 
 pub returns : goal.returns

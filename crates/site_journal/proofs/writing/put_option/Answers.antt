@@ -1,5 +1,5 @@
 use Rattle.std.proofs.Common.{ap, sym}
-use Rattle.site_journal.proofs.Written.{writes_both, writes_same}
+use Rattle.sink_buffer.proofs.Writing.{writes_both, writes_same}
 use Rattle.site_journal.specs.Codes.{of_number, of_option}
 use Rattle.site_journal.proofs.writing.put_option.Goals as goal
 
