@@ -7,3 +7,8 @@ pub mod Compounds
 pub mod RisingLemmas
 pub mod TextLemmas
 pub mod ValueLemmas
+pub mod ApplicationLemmas
+pub mod OpeningParts
+pub mod ActParts
+pub mod EntryLemmas
+pub mod JournalLemmas

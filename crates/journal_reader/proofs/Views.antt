@@ -40,9 +40,16 @@ module _ {A B : Type 0} (I : A → Type 0) (k : A → List ℕ) (P : B → Type 
       second_stops I k P f Q g (λ y q. let n = goes y q in (n.0, n.1, n.2, n.3, λ e. let m = n.4 e in (m.0, m.1, m.2, m.3, tt))) first second
 
 -- each of the one is made of one of the other, and has its bytes
-module _ {A B : Type 0} (I : A → Type 0) (k : A → List ℕ) (Q : B → Type 0) (g : B → List ℕ) (make : A → B) (parts : (y : B) → Q y → (a : A) × I a × (g y ≡ k a) × (y ≡ make a)) where
-  pub parts_stop : {left later : Option (List ℕ)} {room rest before now : ℕ} {failure : Failure Unread} → Reads I k left later room rest before now (Err failure) → Reads Q g left later room rest before now (Err failure)
-  parts_stop was = first_stops I k Q g (λ y is. let p = parts y is in (p.0, [], p.1, p.2 ∙ sym (append-nil (k p.0)))) was
+pub record IsMadeOf {A B : Type 0} (I : A → Type 0) (k : A → List ℕ) (Q : B → Type 0) (g : B → List ℕ) (make : A → B) : Type 0 where
+  pub parts : (y : B) → Q y → (a : A) × I a × (g y ≡ k a) × (y ≡ make a)
+  pub text : (a : A) → g (make a) ≡ k a
 
-  pub parts_make : {left later : Option (List ℕ)} {room rest before now : ℕ} {a0 : A} → Q (make a0) → g (make a0) ≡ k a0 → Reads I k left later room rest before now (Ok a0) → Reads Q g left later room rest before now (Ok (make a0))
-  parts_make {a0 = a0} is text was = stands_for I k Q g is text (λ y q. let p = parts y q in (p.0, [], p.1, p.2 ∙ sym (append-nil (k p.0)), λ e. p.3 ∙ ap make e)) was
+module _ {A B : Type 0} {I : A → Type 0} {k : A → List ℕ} {Q : B → Type 0} {g : B → List ℕ} {make : A → B} where
+  pub made_stops : {left later : Option (List ℕ)} {room rest before now : ℕ} {failure : Failure Unread} → IsMadeOf I k Q g make → Reads I k left later room rest before now (Err failure) → Reads Q g left later room rest before now (Err failure)
+  made_stops made was = first_stops I k Q g (λ y is. let p = made.parts y is in (p.0, [], p.1, p.2 ∙ sym (append-nil (k p.0)))) was
+
+  pub made_read : {left later : Option (List ℕ)} {room rest before now : ℕ} {a0 : A} → IsMadeOf I k Q g make → Q (make a0) → Reads I k left later room rest before now (Ok a0) → Reads Q g left later room rest before now (Ok (make a0))
+  made_read {a0 = a0} made is was = stands_for I k Q g is (made.text a0) (λ y q. let p = made.parts y q in (p.0, [], p.1, p.2 ∙ sym (append-nil (k p.0)), λ e. p.3 ∙ ap make e)) was
+
+  pub made_so : {left later : Option (List ℕ)} {room rest before now : ℕ} {a0 : A} → IsMadeOf I k Q g make → ((a : A) → I a → Q (make a)) → Reads I k left later room rest before now (Ok a0) → Reads Q g left later room rest before now (Ok (make a0))
+  made_so {a0 = a0} made is was = made_read made (is a0 was.answered.is) was

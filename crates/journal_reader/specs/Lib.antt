@@ -1,2 +1,4 @@
+pub mod Acts
+pub mod Next
 pub mod Reads
 pub mod Values

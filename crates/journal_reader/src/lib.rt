@@ -1,15 +1,27 @@
-//! The parts that a journal is made of, each read from a source: exactly the part that stands next, or that none does.
+//! Journals and their parts, each read from a source: exactly the one that stands next, or that none does.
 #![tactic(auto)]
 
+mod acts;
+mod application;
+mod edits;
+mod entry;
+mod history;
+mod journal;
 mod lists;
+mod mark;
 mod numbers;
+mod opening;
 mod part;
 mod rising;
+mod talk;
 #[cfg(test)]
 mod tests;
 mod texts;
+mod tree;
 mod unread;
 mod values;
 
+pub use history::Entries;
+pub use journal::{Journal, next_journal};
 pub use part::Part;
 pub use unread::Unread;

@@ -1,4 +1,4 @@
-use crate::{Part, Unread};
+use crate::{Part, Unread, next_journal};
 use edges::MemSource;
 use pg_text::{Failure, Listed, Names, Text};
 use pg_value::{Attrs, Value};
@@ -45,6 +45,64 @@ fn a_value_is_as_deep_as_the_stack_is_trusted_to_have_room(rt: HostRuntime) -> R
         let mut room = 4_294_967_296;
         let failure = Value::read(alloc, &mut source, &mut room).err();
         assert!(rt; (failure == Some(Failure::NoMemory)) == starved);
+    }
+    Ok(())
+}
+
+// The smallest journal with a talk: no files, one pass, a history of one Roll, and a connection without bytes.
+const SMALLEST: [u8; 156] = *b"PGJRNL1\n\
+    \0\0\0\0\0\0\0\0\0\0\0\0\0\0\0\0\0\0\0\0\0\0\0\0\0\0\0\0\0\0\0\0\
+    \0\0\0\0\x80\0\0\0\0\0\0\0\0\0\0\x01\0\0\0\0\0\0\x07\x08\0\0\0\0\0\0\0\0\0\0\0\0\0\0\0\0\
+    \0\0\0\0\0\0\0\0\0\0\0\0\0\0\0\0\
+    \0\0\0\0\0\0\0\0\0\0\0\0\0\0\0\0\0\0\0\0\0\0\0\0\0\0\0\0\0\0\0\x01\0\x0a\
+    \x01\0\0\0\0\0\0\0\0\0\0\0\0\0\0\0\0\0\0\0\0\0\0\0\0\0";
+
+#[test]
+fn journals_stand_one_behind_the_other(rt: HostRuntime) -> Result<(), Fail> {
+    let alloc = rt.alloc();
+    let mut bytes = Vec::from_slice(alloc, &SMALLEST)?;
+    bytes.extend_from_slice(&SMALLEST)?;
+    let mut source = MemSource::new(bytes, 7, Vec::new(alloc));
+    let mut room = 1_000;
+    for &(there, left) in &[(true, 844), (true, 688), (false, 688)] {
+        let next = next_journal(alloc, &mut source, &mut room);
+        assert!(rt; next.is_ok_and(|found| found.is_some() == there));
+        assert!(rt; room == left);
+    }
+    Ok(())
+}
+
+#[test]
+fn what_is_no_journal_is_told(rt: HostRuntime) -> Result<(), Fail> {
+    let alloc = rt.alloc();
+    for &(count, place, byte, may, ref failure) in &[
+        (155, 0, b'P', 156, Some(NOT_THERE)),
+        (156, 0, b'Q', 156, Some(NOT_THERE)),
+        (156, 6, b'2', 156, Some(NOT_THERE)),
+        (156, 54, 1, 156, Some(NOT_THERE)),
+        (156, 127, 0, 156, Some(NOT_THERE)),
+        (156, 96, 255, 156, Some(NOT_THERE)),
+        (156, 104, 255, 156, Some(NOT_THERE)),
+        (156, 112, 255, 156, Some(NOT_THERE)),
+        (156, 120, 255, 156, Some(NOT_THERE)),
+        (156, 131, 255, 156, Some(NOT_THERE)),
+        (156, 139, 255, 156, Some(NOT_THERE)),
+        (156, 147, 255, 156, Some(NOT_THERE)),
+        (156, 129, 11, 156, Some(NOT_THERE)),
+        (156, 130, 2, 156, Some(NOT_THERE)),
+        (156, 0, b'P', 155, Some(Failure::Fault(Unread::TooLong))),
+        (156, 0, b'P', 0, Some(Failure::Fault(Unread::TooLong))),
+        (0, 0, b'P', 0, None),
+        (156, 155, 1, 156, None),
+    ] {
+        let mut bytes = Vec::from_slice(alloc, &SMALLEST)?;
+        bytes.truncate(count);
+        if let Some(changed) = bytes.get_mut(place) {
+            *changed = byte;
+        }
+        let mut source = MemSource::new(bytes, 7, Vec::new(alloc));
+        let mut room = may;
+        assert!(rt; next_journal(alloc, &mut source, &mut room).err() == *failure);
     }
     Ok(())
 }
