@@ -1,0 +1,4 @@
+pub mod KeptBases
+pub mod Offers
+pub mod Entries
+pub mod Histories
