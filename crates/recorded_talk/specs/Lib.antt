@@ -1,0 +1,2 @@
+pub mod Talked
+pub mod Rerun
