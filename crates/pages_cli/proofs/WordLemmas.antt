@@ -1,5 +1,5 @@
 -- Which command the words are those of.
-use Rattle.std.proofs.Common.{◌≡◌, ℕ, Bool, true, false, List, [], ◌∷◌, None, codes, refl, sym, ap, ◌∙◌}
+use Rattle.std.proofs.Common.{◌≡◌, ℕ, true, false, List, [], ◌∷◌, None, codes, refl, ap, ◌∙◌}
 use Rattle.std.proofs.lemmas.Slice.Eq.{bytes_eq-Decides}
 use Rattle.std.specs.Str.{bytes_eq}
 use Rattle.context_talk.specs.Contexts.{asked as contexts_asked}
@@ -8,6 +8,7 @@ use Rattle.pages_cli.specs.Words.{first_is}
 use Rattle.pages_load.specs.Load.{number_asked}
 use Rattle.pages_record.specs.Words.{record_asked}
 use Rattle.pages_talk.specs.Play.{seed_asked}
+use Rattle.preview.specs.Play.{seed_asked as preview_asked}
 use Rattle.serve_words.specs.Words.{settings_asked}
 
 -- no other word is the first
@@ -37,6 +38,13 @@ no_path (word ∷ path ∷ next ∷ words) is = refl
 pub no_settings : (words : List (List ℕ)) → first_is (codes "serve") words ≡ false → settings_asked words ≡ None
 no_settings [] is = refl
 no_settings (word ∷ words) is = rw is refl
+
+pub no_preview : (words : List (List ℕ)) → first_is (codes "preview") words ≡ false → preview_asked words ≡ None
+no_preview [] is = refl
+no_preview (word ∷ []) is = rw is refl
+no_preview (word ∷ option ∷ []) is = refl
+no_preview (word ∷ option ∷ digits ∷ []) is = rw is refl
+no_preview (word ∷ option ∷ digits ∷ next ∷ words) is = refl
 
 pub no_record : (words : List (List ℕ)) → first_is (codes "record") words ≡ false → record_asked words ≡ None
 no_record [] is = refl

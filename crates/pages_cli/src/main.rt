@@ -7,7 +7,7 @@
 //! `pages play [--seed HEX]` answers the requests that it reads from standard input, and writes the answers to standard output. Its
 //! status is 0 where the input ended between requests, a request asked to close, a response broke off or 65,536 requests were answered, 2 where
 //! the input shows a fault. `pages contexts NAMES [--seed HEX]` does the same over several sites, whose names, joined by commas, begin the
-//! targets.
+//! targets. `pages preview [--seed HEX]` does so too, but a page is shown with the edits that the connection has made, and nobody publishes.
 //! `pages record [--seed HEX]` reads a list of connections, each a line with the number of its bytes and then these, and writes the journal of each,
 //! one behind the other: status 0, or 2 where the input is no such list.
 //! `pages check PATH` reads the text of a page, and writes `ok` or the line of its fault: status 0 or 6. `pages load N` talks with a
@@ -23,6 +23,7 @@ ghost use Rattle.pages_cli.specs.Words.{first_is};
 ghost use Rattle.pages_load.specs.Load.{number_asked};
 ghost use Rattle.pages_record.specs.Words.{record_asked};
 ghost use Rattle.pages_talk.specs.Play.{seed_asked};
+ghost use Rattle.preview.specs.Play.{seed_asked as preview_asked};
 ghost use Rattle.serve_words.specs.Words.{settings_asked};
 
 use context_talk::play_contexts;
@@ -33,6 +34,7 @@ use pages_record::play_record;
 use pages_serve::serve;
 use pages_talk::play;
 use pages_usage::{help, usage};
+use preview::preview_play;
 use std::io::ErrorKind;
 use std::marker::Brand;
 use std::process::ExitCode;
@@ -121,11 +123,13 @@ fn run<N: Ledger, R: Threads + Wait + Sync>(
     ensures refused { seed_asked (map string_bytes words.now) ≡ None →
         path_asked (map string_bytes words.now) ≡ None → number_asked (map string_bytes words.now)
         ≡ None → settings_asked (map string_bytes words.now) ≡ None →
+        preview_asked (map string_bytes words.now) ≡ None →
         record_asked (map string_bytes words.now) ≡ None → contexts_asked (map string_bytes words.now)
         ≡ None → result ≢ 5 → result ≡ 1 }
     ensures only_refused { result ≡ 1 → (seed_asked (map string_bytes words.now) ≡ None) ×
         (path_asked (map string_bytes words.now) ≡ None) × (number_asked (map string_bytes words.now)
         ≡ None) × (settings_asked (map string_bytes words.now) ≡ None) ×
+        (preview_asked (map string_bytes words.now) ≡ None) ×
         (record_asked (map string_bytes words.now) ≡ None) × (contexts_asked (map string_bytes words.now)
         ≡ None) }
 {
@@ -140,6 +144,9 @@ fn run<N: Ledger, R: Threads + Wait + Sync>(
     }
     if first_is(words, "serve") {
         return served(rt, threads, words);
+    }
+    if first_is(words, "preview") {
+        return preview_play(rt.alloc(), words, &mut source, &mut sink, &mut steps);
     }
     let mut clock = WallClock::new(rt);
     if first_is(words, "record") {

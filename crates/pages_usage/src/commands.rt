@@ -22,6 +22,7 @@ fn all(alloc: Global, how: Told) -> Result<String, AllocError> {
     let mut text = String::new(alloc);
     add(&mut text, serve(alloc)?, how)?;
     add(&mut text, play(alloc)?, how)?;
+    add(&mut text, preview(alloc)?, how)?;
     add(&mut text, record(alloc)?, how)?;
     add(&mut text, contexts(alloc)?, how)?;
     add(&mut text, check(alloc)?, how)?;
@@ -64,6 +65,17 @@ fn serve<'a>(alloc: Global) -> Result<Command<'a>, AllocError> {
 fn play<'a>(alloc: Global) -> Result<Command<'a>, AllocError> {
     command(alloc, "pages play")
         .about("Answers the requests on standard input")
+        .arg(option(
+            alloc,
+            "seed",
+            "HEX",
+            "What sessions are named by, 64 digits",
+        ))
+}
+
+fn preview<'a>(alloc: Global) -> Result<Command<'a>, AllocError> {
+    command(alloc, "pages preview")
+        .about("Answers the requests on standard input, with their own edits")
         .arg(option(
             alloc,
             "seed",

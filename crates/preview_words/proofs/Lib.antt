@@ -1,3 +1,4 @@
+pub mod AnsweredLemmas
 pub mod OwnLemmas
 pub mod PictureLemmas
 pub mod StampLemmas

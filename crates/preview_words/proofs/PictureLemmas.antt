@@ -5,6 +5,8 @@ use Rattle.std.specs.Bool.{MatchBool}
 use Rattle.conversation.specs.Conversation.{IsLast, IsNext, Walked, closes}
 use Rattle.conversation.specs.Exchange.{Exchange, exchange_of}
 use Rattle.conversation.specs.declared.ended.Ended.TheVariants as ended
+use Rattle.edges.proofs.Own.{front_both, front_same}
+use Rattle.edges.specs.History.{IsFront}
 use Rattle.http_in.specs.declared.request.Request.{Request}
 use Rattle.http_out.specs.Methods.{takes_method}
 use Rattle.preview_words.specs.Laws.{AreLatest, GrewByPictures, IsPicture, TakesPicturesAlone}
@@ -37,11 +39,15 @@ latest needs x pass old new cookie version session acts =
 
 -- how the entries of a pass grew
 
-none_more : (pass : ℕ) (old new : List Entry) → own pass new ≡ own pass old → GrewByPictures pass old new
-none_more pass old new same = record { entries = []; grown = same ∙ sym (append-nil (own pass old)); pictures = tt }
+none_more : (pass : ℕ) (old new : List Entry) → IsFront old new → own pass new ≡ own pass old → GrewByPictures pass old new
+none_more pass old new longer same = record { longer = longer; entries = []; grown = same ∙ sym (append-nil (own pass old)); pictures = tt }
+
+same_seen : (pass : ℕ) (old new : List Entry) → new ≡ old → GrewByPictures pass old new
+same_seen pass old new same = none_more pass old new (subst (IsFront old) (sym same) (front_same old)) (ap (own pass) same)
 
 grew_both : (pass : ℕ) (a b c : List Entry) → GrewByPictures pass a b → GrewByPictures pass b c → GrewByPictures pass a c
 grew_both pass a b c one two = record {
+  longer = front_both a b c one.longer two.longer;
   entries = one.entries ++ two.entries;
   grown = two.grown ∙ (ap (λ l. l ++ two.entries) one.grown ∙ append_assoc (own pass a) one.entries two.entries);
   pictures = each_both IsPicture one.entries two.entries one.pictures two.pictures;
@@ -50,6 +56,7 @@ grew_both pass a b c one two = record {
 module _ (needs : Needs) (x : Opening) (pass : ℕ) where
   one_more : (cookie : List ℕ) (old new : List Entry) → IsPictured needs x pass cookie old new → GrewByPictures pass old new
   one_more cookie old new is = record {
+    longer = front_both old is.entry.front new is.entry.stays.longer (is.entry.entry ∷ [], is.entry.seen);
     entries = (length is.entry.front, is.entry.entry) ∷ [];
     grown = is.entry.grown;
     pictures = (
@@ -69,36 +76,36 @@ module _ (needs : Needs) (x : Opening) (pass : ℕ) where
     where
       by_way : IsShown needs x pass e.request close old e.text e.broken new ⊎ IsRefused needs x pass e.request close old e.text e.broken new → GrewByPictures pass old.seen new.seen
       by_way (inl is) = one_more e.request.cookie old.seen new.seen is.picture
-      by_way (inr is) = none_more pass old.seen new.seen is.stays.same
+      by_way (inr is) = none_more pass old.seen new.seen is.stays.longer is.stays.same
 
       by_method : (test : Bool) → MatchBool test (IsShown needs x pass e.request close old e.text e.broken new ⊎ IsRefused needs x pass e.request close old e.text e.broken new) (IsNotTaken e.request close old e.text e.broken new)
           → GrewByPictures pass old.seen new.seen
       by_method true is = by_way is
-      by_method false is = none_more pass old.seen new.seen (ap (λ (d : PreviewStand). own pass d.seen) is.same)
+      by_method false is = same_seen pass old.seen new.seen (ap (λ (d : PreviewStand). d.seen) is.same)
 
       by_target : (test : Bool) → MatchBool test (IsEdited e.request close old e.text e.broken new) (MatchBool (takes_method e.request.method) (IsShown needs x pass e.request close old e.text e.broken new ⊎ IsRefused needs x pass e.request close old e.text e.broken new) (IsNotTaken e.request close old e.text e.broken new))
           → GrewByPictures pass old.seen new.seen
-      by_target true is = none_more pass old.seen new.seen (ap (λ seen. own pass seen) is.drafts.unasked)
+      by_target true is = same_seen pass old.seen new.seen is.drafts.unasked
       by_target false is = by_method (takes_method e.request.method) is
 
   left : (close : Bool) (old new : PreviewStand) (request : Request) (text : List ℕ) → Leaves needs x pass request close old text new → GrewByPictures pass old.seen new.seen
   left close old new request text is = by_target (is_editors request.target) is
     where
       by_way : IsUnasked needs x pass old text new ⊎ IsDropped needs x pass request close old text new → GrewByPictures pass old.seen new.seen
-      by_way (inl is) = none_more pass old.seen new.seen is.stays.same
+      by_way (inl is) = none_more pass old.seen new.seen is.stays.longer is.stays.same
       by_way (inr is) = one_more request.cookie old.seen new.seen is.picture
 
       by_method : (test : Bool) → MatchBool test (IsUnasked needs x pass old text new ⊎ IsDropped needs x pass request close old text new) ((new ≡ old) × (text ≡ [])) → GrewByPictures pass old.seen new.seen
       by_method true is = by_way is
-      by_method false is = none_more pass old.seen new.seen (ap (λ (d : PreviewStand). own pass d.seen) is.0)
+      by_method false is = same_seen pass old.seen new.seen (ap (λ (d : PreviewStand). d.seen) is.0)
 
       by_target : (test : Bool) → MatchBool test (IsUntold request old text new) (MatchBool (takes_method request.method) (IsUnasked needs x pass old text new ⊎ IsDropped needs x pass request close old text new) ((new ≡ old) × (text ≡ [])))
           → GrewByPictures pass old.seen new.seen
-      by_target true is = none_more pass old.seen new.seen (ap (λ seen. own pass seen) is.drafts.unasked)
+      by_target true is = same_seen pass old.seen new.seen is.drafts.unasked
       by_target false is = by_method (takes_method request.method) is
 
   same_stand : (old new : PreviewStand) → new ≡ old → GrewByPictures pass old.seen new.seen
-  same_stand old new same = none_more pass old.seen new.seen (ap (λ (d : PreviewStand). own pass d.seen) same)
+  same_stand old new same = same_seen pass old.seen new.seen (ap (λ (d : PreviewStand). d.seen) same)
 
   walked : (number : ℕ) (old new : PreviewStand) (exchanges : List Exchange) → Walked (IsPreviewed needs x pass) number old exchanges new → GrewByPictures pass old.seen new.seen
   walked number old new [] is = same_stand old new is

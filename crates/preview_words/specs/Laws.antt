@@ -2,6 +2,7 @@
 use Rattle.std.specs.Prelude.{◌≡◌, ◌<◌, ◌+◌, ◌^◌, ℕ, true, List, ◌++◌, Option, None}
 use Rattle.conversation.specs.Conversation.{Tells}
 use Rattle.conversation.specs.declared.ended.Ended.{Ended}
+use Rattle.edges.specs.History.{IsFront}
 use Rattle.preview_words.specs.Own.{Picture, drafted_tree, own_opening, picture_of}
 use Rattle.preview_words.specs.Previewed.{IsPreviewed, Leaves, PreviewStand}
 use Rattle.site_words.specs.Calls.{Acts}
@@ -44,13 +45,15 @@ pub record IsPicture (e : ℕ × Entry) : Type 0 where
   pub op_is : e.1.op ≡ op.Snapshot cookie
   pub reply_is : e.1.reply ≡ reply.Snapped version session
 
--- the entries of a pass grew by pictures alone
+-- a history goes on from what had been seen of it, and the entries of a pass grew by pictures alone
 pub record GrewByPictures (pass : ℕ) (old new : List Entry) : Type 0 where
+  pub longer : IsFront old new
   pub entries : List (ℕ × Entry)
   pub grown : own pass new ≡ own pass old ++ entries
   pub pictures : Each IsPicture entries
 
--- whatever the requests of a preview connection come to, the new entries of its pass are pictures alone
+-- whatever the requests of a preview connection come to, its pass has seen more of one history, and its new entries are
+-- pictures alone
 abbrev pub TakesPicturesAlone : Type 0
 TakesPicturesAlone =
     (needs : Needs) (x : Opening) (pass : ℕ) (start now : PreviewStand) (left later : Option (List ℕ)) (faults risen : ℕ)

@@ -13,7 +13,7 @@ use Rattle.http_out.specs.Response.{plain}
 use Rattle.http_out.specs.declared.status.Status.{Status}
 use Rattle.http_out.specs.declared.status.Status.TheVariants as status
 use Rattle.http_out.specs.Methods.{shows_body}
-use Rattle.page_answers.specs.Answers.{Answers}
+use Rattle.page_answers.specs.Answers.{IsAnswered}
 use Rattle.page_answers.specs.Dropped.{Drops}
 use Rattle.page_answers.specs.Standing.{standing_of}
 use Rattle.preview_words.specs.Own.{Picture, drafted_tree, own_opening, own_request}
@@ -40,13 +40,12 @@ abbrev pub IsSilent : (steps : ℕ) → (text : List ℕ) → (later : ℕ) → 
 IsSilent steps text later = (later ≡ steps) × (text ≡ [])
 
 module _ (needs : Needs) (own : Opening) (session : Option ℕ) where
-  -- the request was answered on a site of its own from this opening, where it names the session; the clock of that site
-  -- always answers 0
+  -- the request was answered on a site of its own from this opening, where it names the session, and begins at the moment 0
   pub record IsRun (request : Request) (close : Bool) (steps : ℕ) (text : List ℕ) (broken : Bool) (later : ℕ) : Type 0 where
     pub history : List Entry
     pub answers :
-        Answers needs own 0 (own_request session request) close (standing_of [] no_time steps) text broken
-        (standing_of history no_time later)
+        IsAnswered needs own 0 (own_request session request) close (standing_of [] no_time steps) text broken
+        (standing_of history no_time later) 0
 
   -- memory was wanting for it there
   pub record IsRunDropped (request : Request) (close : Bool) (steps : ℕ) (text : List ℕ) (later : ℕ) : Type 0 where

@@ -5,8 +5,8 @@ pub fn own_sites()
     ensures { AreRunnable }
 {}
 
-/// A picture has the latest version; and whatever the requests of a preview connection come to, the new entries of its
-/// pass are pictures alone, so that nothing that a previewed page writes is seen elsewhere.
+/// A picture has the latest version; and whatever the requests of a preview connection come to, its pass has seen more of
+/// one history, and its new entries are pictures alone, so that nothing that a previewed page writes is seen elsewhere.
 pub fn pictures()
     ensures latest { AreLatest }
     ensures alone { TakesPicturesAlone }

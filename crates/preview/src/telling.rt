@@ -1,0 +1,124 @@
+// Plain answers.
+ghost use Rattle.std.specs.Prelude.{◌≡◌, ◌≤◌, ℕ, IfOk};
+ghost use Rattle.context_desk.specs.Told.{IsTold};
+ghost use Rattle.edges.specs.Faults.{Rose};
+ghost use Rattle.editor.specs.Telling.{fault_text};
+ghost use Rattle.http_out.specs.Full.{full_line};
+ghost use Rattle.http_out.specs.Methods.{shows_body};
+ghost use Rattle.http_out.specs.Response.{plain};
+ghost use Rattle.site_words.specs.Answers.{IsFull};
+ghost use Rattle.talk_words.specs.Said.{told_text};
+
+use conversation::Outcome;
+use edges::Sink;
+use editor::{EditorAnswer, EditorFault, fault_text};
+use http_in::Request;
+use http_out::{Status, full_line, tell_plain};
+use pages_talk::tell_editor;
+use site_words::Refusal;
+use source_tree::TreeFault;
+use std::alloc::{AllocError, Global};
+
+/// Gives a plain answer of one line.
+pub(crate) fn tell<K: Sink>(
+    alloc: Global,
+    request: &Request,
+    status: Status,
+    line: &[u8],
+    close: bool,
+    sink: &mut K,
+) -> Outcome
+    ensures told { IsTold (plain status close line.now (shows_body request.now.method))
+        (K.taken sink.old) (K.taken sink.new) result }
+    ensures later { K.faults sink.old ≤ K.faults sink.new }
+    ensures failed { result ≡ Outcome.WriteFault → Rose (K.faults sink.old) (K.faults sink.new) }
+{
+    let shown = shows_body(request);
+    match tell_plain(alloc, sink, status, close, line, shown) {
+        Ok(false) => Outcome::Whole,
+        Ok(true) => Outcome::WriteFault,
+        Err(AllocError) => Outcome::NoMemory,
+    }
+}
+
+/// Tells an editor what a message came to.
+pub(crate) fn tell_edit<K: Sink>(
+    alloc: Global,
+    request: &Request,
+    told: &Result<EditorAnswer, EditorFault>,
+    close: bool,
+    sink: &mut K,
+) -> Outcome
+    ensures told { IsTold (told_text told.now close (shows_body request.now.method))
+        (K.taken sink.old) (K.taken sink.new) result }
+    ensures later { K.faults sink.old ≤ K.faults sink.new }
+    ensures failed { result ≡ Outcome.WriteFault → Rose (K.faults sink.old) (K.faults sink.new) }
+{
+    let shown = shows_body(request);
+    match tell_editor(alloc, told, close, shown, sink) {
+        Ok(false) => Outcome::Whole,
+        Ok(true) => Outcome::WriteFault,
+        Err(AllocError) => Outcome::NoMemory,
+    }
+}
+
+/// Tells that the journal has no room for a picture.
+pub(crate) fn tell_full<K: Sink>(
+    alloc: Global,
+    request: &Request,
+    refusal: &Refusal,
+    close: bool,
+    sink: &mut K,
+) -> Outcome
+    requires full { IsFull refusal.now }
+    ensures told { (weight promised : ℕ) → refusal.now ≡ Refusal.JournalFull weight promised
+        → IsTold (plain Status.ServiceUnavailable close (full_line weight promised)
+        (shows_body request.now.method)) (K.taken sink.old) (K.taken sink.new) result }
+    ensures later { K.faults sink.old ≤ K.faults sink.new }
+    ensures failed { result ≡ Outcome.WriteFault → Rose (K.faults sink.old) (K.faults sink.new) }
+{
+    let Ok(line) = line_of(alloc, refusal) else {
+        return Outcome::NoMemory;
+    };
+    let status = Status::ServiceUnavailable;
+    tell(alloc, request, status, &line, close, sink)
+}
+
+// The line of a refusal that tells a full journal.
+fn line_of(alloc: Global, refusal: &Refusal) -> Result<Vec<u8>, AllocError>
+    requires full { IsFull refusal.now }
+    ensures line { (weight promised : ℕ) → refusal.now ≡ Refusal.JournalFull weight promised
+        → IfOk result (λ line. line.items ≡ full_line weight promised) }
+{
+    let Refusal::JournalFull { weight, promised } = refusal else {
+        unreachable!()
+    };
+    full_line(alloc, *weight, *promised)
+}
+
+/// Tells which limit the tree that a draft makes passes.
+pub(crate) fn tell_fault<K: Sink>(
+    alloc: Global,
+    request: &Request,
+    reason: TreeFault,
+    close: bool,
+    sink: &mut K,
+) -> Outcome
+    ensures told { IsTold (plain Status.ContentTooLarge close (fault_text (EditorFault.TreeTooLarge reason))
+        (shows_body request.now.method)) (K.taken sink.old) (K.taken sink.new) result }
+    ensures later { K.faults sink.old ≤ K.faults sink.new }
+    ensures failed { result ≡ Outcome.WriteFault → Rose (K.faults sink.old) (K.faults sink.new) }
+{
+    let Ok(line) = fault_text(alloc, EditorFault::TreeTooLarge(reason)) else {
+        return Outcome::NoMemory;
+    };
+    let status = Status::ContentTooLarge;
+    tell(alloc, request, status, &line, close, sink)
+}
+
+// Whether the response to a request shows its body.
+fn shows_body(request: &Request) -> bool
+    ensures { result ≡ shows_body request.now.method }
+{
+    http_out::shows_body(request.method.as_bytes())
+}
