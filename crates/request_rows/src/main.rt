@@ -1,0 +1,85 @@
+//! The program `request_rows`: reads the bytes of each row on standard input as requests, and tells
+//! what is read.
+//!
+//! A row is some lines up to an empty one: first what is told, then the bytes. `requests` tells
+//! each request as a line, its method, target and body and whether it asks to close, and then what
+//! stops them; `fails` and a number do so in pieces of 7 bytes where that read fails. `parts` tells
+//! how many fields the one request has, its path, query, parameters and session, `fields` its
+//! fields, and `to` and a target the line and the parts once it goes there. `size` tells how large
+//! the body of the first request is, and `calls` what four calls say where the reads 20, 48 and 50
+//! fail. But for the last two, one byte comes at a time, and all at once, which has to tell the
+//! same.
+//! In writing `¶` ends a line by CR LF, `↵` by LF, `␍` is CR, `ÿ` the byte 255, and `«9 x»` is x
+//! nine times. A line that begins with `# ` says what the rows behind it show. The lines are
+//! written as they are read, and behind each row, after `> `, comes what is told.
+#![tactic(auto)]
+
+mod bodies;
+mod requests;
+mod shown;
+
+use crate::requests::{only_told, told_both_ways, told_failing};
+use http_in::one_cut;
+use row_text::written_out;
+use std::alloc::{AllocError, Global};
+use std::io;
+
+// What a sign stands for.
+const SIGNS: [(&str, &str); 3] = [("¶", "\r\n"), ("↵", "\n"), ("␍", "\r")];
+
+fn main(rt: HostRuntime) -> io::Result<()> {
+    one_cut();
+    let alloc = rt.alloc();
+    let mut row = Vec::new(alloc);
+    for line in rt.lines(alloc) {
+        let line = line?;
+        println!(rt; "{}", line.as_str())?;
+        if line.starts_with("# ") {
+            continue;
+        }
+        if !line.is_empty() {
+            row.push(line)?;
+        } else if !row.is_empty() {
+            println!(rt; "> {}\n", told(alloc, &row)?.as_str())?;
+            row.clear();
+        }
+    }
+    Ok(())
+}
+
+// What is told of these lines. Line feeds in it are written.
+fn told(alloc: Global, lines: &[String]) -> Result<String, AllocError> {
+    let Some((first, written)) = lines.split_first() else {
+        return String::from_str(alloc, "nothing is told");
+    };
+    let (kind, word) = first
+        .as_str()
+        .split_once(' ')
+        .unwrap_or((first.as_str(), ""));
+    let bytes = bytes_of(alloc, written)?;
+    let told = match kind {
+        "requests" => told_both_ways(alloc, &bytes),
+        "fails" => told_failing(alloc, &bytes, word),
+        "size" => bodies::sizes_told(alloc, &bytes),
+        "calls" => bodies::told_by_calls(alloc, &bytes),
+        _ => only_told(alloc, kind, word, &bytes),
+    };
+    told?.replace(alloc, "\r", "␍")?.replace(alloc, "\n", "↵")
+}
+
+// The bytes of these lines, one behind the other.
+fn bytes_of(alloc: Global, written: &[String]) -> Result<Vec<u8>, AllocError> {
+    let mut bytes = Vec::new(alloc);
+    for line in written {
+        let text = written_out(alloc, line.as_str(), &SIGNS)?;
+        let mut is_first = true;
+        for piece in text.as_str().split('ÿ') {
+            if !is_first {
+                bytes.push(255)?;
+            }
+            is_first = false;
+            bytes.extend_from_slice(piece.as_bytes())?;
+        }
+    }
+    Ok(bytes)
+}
