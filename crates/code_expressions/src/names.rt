@@ -48,7 +48,7 @@ fn object_or_variable(
     }
 }
 
-// The code of a variable.
+// The code of a variable. A name that is too long for a code is answered as want of memory.
 fn variable(alloc: Global, ground: &Shape, place: &Place, name: &Text) -> Result<Code, AllocError>
     ensures { IfOk result (λ code. code ≡ form_code ground.now (does (op.Find name.now) place.now)) }
 {

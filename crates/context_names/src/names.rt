@@ -2,6 +2,7 @@ ghost use Rattle.std.specs.Prelude.{◌≡◌, ◌<◌, ◌≤◌, length, slice
 ghost use Rattle.std.specs.List.{position};
 ghost use Rattle.std.specs.Str.{bytes_eq};
 ghost use Rattle.context_names.specs.Names.{names_in};
+ghost use Rattle.context_names.specs.declared.limits.TheConstants.{MAX_CONTEXTS};
 ghost use Rattle.context_names.specs.Targets.{among, context_of};
 
 use crate::reading::{are_names, words_of};
@@ -44,7 +45,7 @@ impl ContextNames {
     pub fn len(&self) -> usize
         ensures count { result ≡ length self.now }
         ensures some { 1 ≤ result }
-        ensures few { result ≤ 16 }
+        ensures few { result ≤ MAX_CONTEXTS }
     {
         self.names.len()
     }

@@ -5,6 +5,7 @@ ghost use Rattle.std.specs.Option.{option_map};
 ghost use Rattle.std.specs.Str.{bytes_eq};
 ghost use Rattle.context_names.specs.Names.{are_distinct, are_names, is_comma, is_name, is_sign, words_in};
 
+use crate::limits::{MAX_CONTEXT_NAME_BYTES, MAX_CONTEXTS};
 use pg_text::Text;
 use std::alloc::{AllocError, Global};
 
@@ -38,7 +39,7 @@ fn cut(text: &str) -> (&str, Option<&str>)
 pub(crate) fn are_names(words: &[Text]) -> bool
     ensures { result ≡ are_names words.now }
 {
-    if words.is_empty() || words.len() > 16 {
+    if words.is_empty() || words.len() > MAX_CONTEXTS {
         return false;
     }
     all_named(words) && are_distinct(words)
@@ -60,7 +61,7 @@ fn all_named(words: &[Text]) -> bool
 fn is_name(text: &[u8]) -> bool
     ensures { result ≡ is_name text.now }
 {
-    text.len() >= 1 && text.len() <= 32 && are_signs(text)
+    text.len() >= 1 && text.len() <= MAX_CONTEXT_NAME_BYTES && are_signs(text)
 }
 
 // Whether there is nothing but lower-case letters and digits.

@@ -1,10 +1,12 @@
 -- The sites of several contexts.
 use Rattle.std.specs.Prelude.{◌≡◌, ℕ, zero, suc, ◌+◌, ◌%◌, List, [], ◌∷◌, ◌++◌, Some, set, slice_index}
 use Rattle.std.specs.List.{slice_get}
+use Rattle.contexts.specs.declared.limits.TheConstants.{CONTEXT_JOURNAL_LIMIT}
 use Rattle.edges.specs.declared.acted.Acted.{Acted}
 use Rattle.source_tree.specs.declared.file.File.{File}
 use Rattle.site_words.specs.Invariants.{AllRest}
 use Rattle.site_words.specs.Trees.{Needs}
+use Rattle.site_words.specs.declared.limits.TheConstants.{IDLE_SECONDS}
 use Rattle.site_words.specs.declared.words.Op.{Op}
 use Rattle.site_words.specs.declared.words.Refusal.{Refusal}
 use Rattle.site_state.specs.declared.gift.Given.{Given}
@@ -18,7 +20,7 @@ seed_at seed context = set seed 31 ((slice_index seed 31 + context) % 256)
 -- the site of a context when it starts: without files, with a journal of 128 MiB, and sessions that end after half an hour
 abbrev pub site_at : (seed : List ℕ) → (passes : ℕ) → (context : ℕ) → Lived
 site_at seed passes context =
-    record { opening = first_opening (seed_at seed context) [] [] 134217728 passes 1800; history = [] }
+    record { opening = first_opening (seed_at seed context) [] [] CONTEXT_JOURNAL_LIMIT passes IDLE_SECONDS; history = [] }
 
 -- the sites of so many contexts
 abbrev pub sites_of : (seed : List ℕ) → (passes : ℕ) → (count : ℕ) → List Lived

@@ -5,19 +5,14 @@ ghost use Rattle.site_core.specs.Lived.{Lived};
 ghost use Rattle.site_state.specs.Gifts.{IsMade, value_in};
 ghost use Rattle.site_words.specs.Law.{May, own, run_of};
 
+use crate::limits::CONTEXT_JOURNAL_LIMIT;
 use context_names::{ContextNames, PortList};
 use pg_value::Attrs;
 use site_core::{Site, SoloPort, solo};
 use site_state::{Act, Given};
-use site_words::{Acted, Compiled, Refusal};
+use site_words::{Acted, Compiled, IDLE_SECONDS, Refusal};
 use source_tree::Tree;
 use std::alloc::{AllocError, Global};
-
-/// The greatest weight of a context's journal.
-const JOURNAL_LIMIT: u64 = 134_217_728;
-
-/// How many seconds a session lasts that isn't used.
-const IDLE_SECONDS: u64 = 1_800;
 
 /// The sites of several contexts, in the order of their names.
 #[derive(Drop)]
@@ -57,7 +52,15 @@ fn site_at<P: Compiled>(
     let own = seed_at(seed, context);
     let app = Attrs::empty(alloc);
     let tree = Tree::new(alloc);
-    site_core::start(alloc, own, app, tree, JOURNAL_LIMIT, passes, IDLE_SECONDS)
+    site_core::start(
+        alloc,
+        own,
+        app,
+        tree,
+        CONTEXT_JOURNAL_LIMIT,
+        passes,
+        IDLE_SECONDS,
+    )
 }
 
 // The seed of a context: its place is added to the last byte.

@@ -31,8 +31,7 @@ use Rattle.page_answers.specs.Turns.{Turn, all_bytes, all_calls, answers_of, is_
 abbrev pub attrs_left : State → List (List ℕ × Datum)
 attrs_left s = unwrap_or s.scopes.session []
 
--- the request was begun, and did each step that its pages ask under the tree that was the latest then, in order, and its end; it is answered
--- what they mean
+-- the request was begun, did each step that its pages ask under the tree that was the latest then, in order, and its end, and the answer is what its pages mean
 pub record IsAnswered (needs : Needs) (x : Opening) (pass : ℕ) (request : Request) (close : Bool) (old : Standing) (text : List ℕ) (broken : Bool) (new : Standing) (moment : ℕ) : Type 0 where
   pub begun : List Entry
   pub begins : Begins needs x pass request.cookie moment old.seen begun

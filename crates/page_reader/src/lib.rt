@@ -14,4 +14,4 @@ pub use page_pieces::{
     Attribute, Attributes, Brought, BroughtPrefixes, Leaf, Part, Parts, Prefixes, Setting, Tag,
 };
 pub use pg_text::{PageFault, Path, Place, Text, TranslationFault};
-pub use reader::{MAX_PAGE_BYTES, one_page, read_page, read_under};
+pub use reader::{one_page, read_page, read_under};

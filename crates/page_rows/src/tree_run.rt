@@ -1,5 +1,5 @@
 // The run of a page of a tree, on a stage of its own.
-ghost use Rattle.std.specs.Prelude.{◌≡◌, ◌<◌, ◌≤◌, IsSome};
+ghost use Rattle.std.specs.Prelude.{◌≡◌, ◌<◌, IsSome};
 ghost use Rattle.source_tree.specs.Limits.{IsWithinLimits};
 ghost use Rattle.unit_source.specs.Files.{text_in};
 
@@ -10,6 +10,7 @@ use out_buffer::Writer;
 use pg_text::Path;
 use run_world::Around;
 use scopes::Scopes;
+use site_words::page_charge;
 use source_tree::Tree;
 use std::alloc::{AllocError, Global};
 use std::sync::ledger::{Blank, Ledger};
@@ -47,7 +48,7 @@ pub fn run_page<N: Ledger>(
     let mut around = Around {
         depth: 0,
         visits: 0,
-        charge: fetch_charge(path),
+        charge: page_charge(path),
         id: session,
         fresh: false,
         exception: None,
@@ -78,11 +79,4 @@ pub fn run_page<N: Ledger>(
         bytes: steps.count(),
     };
     told(alloc, tell.as_str(), ran)
-}
-
-// What the Fetch of a page and its Offer are charged.
-fn fetch_charge(path: &Path) -> u64
-    ensures { result ≤ 2208 }
-{
-    160 + 2 * path.as_bytes().len() as u64
 }

@@ -14,13 +14,11 @@ use pg_value::Attrs;
 use serve_words::{Settings, settings_asked};
 use site_core::{Site, start};
 use site_rounds::{Listeners, Talks, round};
+use site_words::JOURNAL_LIMIT;
 use source_tree::Tree;
 use std::alloc::{AllocError, Global};
 use std::sync::Wait;
 use std::thread::Threads;
-
-/// The greatest weight of the journal.
-const JOURNAL_LIMIT: u64 = 2_147_483_648;
 
 /// Serves a new site without files on two ports: to readers by as many workers as the words say, and by one more to editors. The answer
 /// is the program's status: 1 for other words, 7 where a listener can't be had, 8 where the workers can't have a thread each, 5 where

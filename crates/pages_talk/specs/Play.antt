@@ -12,6 +12,7 @@ use Rattle.compiled_pages.specs.Pages.{needs_at}
 use Rattle.site_core.specs.Lived.{first_opening}
 use Rattle.site_words.specs.declared.words.Entry.{Entry}
 use Rattle.site_words.specs.declared.words.Opening.{Opening}
+use Rattle.site_words.specs.declared.limits.TheConstants.{IDLE_SECONDS, JOURNAL_LIMIT}
 use Rattle.source_tree.specs.declared.edit.Edit.{Edit}
 use Rattle.talk_words.specs.Connection.{Connection, connection_of, stand_of}
 use Rattle.talk_words.specs.Grown.{HasGrown}
@@ -36,7 +37,7 @@ seed_asked (word ∷ option ∷ digits ∷ next ∷ words) = None
 
 -- the opening of the site: it has no files, its journal may weigh 2 GiB, one pass acts, and sessions end once they weren't used for more than half an hour
 abbrev pub opening_of : (seed : List ℕ) → Opening
-opening_of seed = first_opening seed [] [] 2147483648 1 1800
+opening_of seed = first_opening seed [] [] JOURNAL_LIMIT 1 IDLE_SECONDS
 
 -- the one connection to a site, an editor's too
 abbrev pub only_connection : Opening → Connection

@@ -9,18 +9,12 @@ use edges::Clock;
 use pg_text::Text;
 use pg_value::Attrs;
 use site_core::{Site, SoloPort, solo};
-use site_words::{KeptSession, KeptSessions, Opening, Snapped};
+use site_words::{IDLE_SECONDS, JOURNAL_LIMIT, KeptSession, KeptSessions, Opening, Snapped};
 use source_tree::Tree;
 use std::alloc::{AllocError, Global};
 
 /// The seed of the site.
 const SEED: [u8; 32] = [255; 32];
-
-/// The greatest weight of its journal.
-const JOURNAL_LIMIT: u64 = 2_147_483_648;
-
-/// How many seconds a session lasts that isn't used.
-const IDLE_SECONDS: u64 = 1_800;
 
 /// The clock of the site, which always answers 0.
 #[derive(Drop)]

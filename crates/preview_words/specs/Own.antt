@@ -9,6 +9,7 @@ use Rattle.site_words.specs.State.{State}
 use Rattle.site_words.specs.declared.port.Snapped.{Snapped}
 use Rattle.site_words.specs.declared.words.KeptSession.{KeptSession}
 use Rattle.site_words.specs.declared.words.Opening.{Opening}
+use Rattle.site_words.specs.declared.limits.TheConstants.{IDLE_SECONDS, JOURNAL_LIMIT}
 use Rattle.source_tree.specs.Edits.{after_edits}
 use Rattle.source_tree.specs.declared.edit.Edit.{Edit}
 use Rattle.source_tree.specs.declared.file.File.{File}
@@ -64,9 +65,9 @@ own_freshes (Some number) = 1
 abbrev pub own_opening : List File → Picture → Opening
 own_opening tree picture = record {
   seed = own_seed;
-  limit = 2147483648;
+  limit = JOURNAL_LIMIT;
   passes = 1;
-  idle = 1800;
+  idle = IDLE_SECONDS;
   version = picture.version + 1;
   begins = 0;
   freshes = own_freshes picture.session;

@@ -23,7 +23,7 @@ use Rattle.page_meaning.proofs.Growing.{ordered_asked}
 -- a file that is no page takes nothing
 pub plain_free : (path : List ℕ) (file : Option File) (text : List ℕ) → IsPlain path file text → look_claim path file ≡ 0
 plain_free path None text is = refl
-plain_free path (Some file) text is = ap (λ b. if b then 160 + 2 * length path else 0) is.0
+plain_free path (Some file) text is = ap (λ b. if b then page_charge path else 0) is.0
 
 -- nor is it asked for as a page
 plain_asks : (path : List ℕ) (file : Option File) (text : List ℕ) → IsPlain path file text → look_steps path file ≡ []
@@ -110,6 +110,6 @@ quiet_order scopes around old new path file looked h = record {
 pub look_room : (around : Around) (asking : Asking) (path : List ℕ) → page_charge path ≤ 2208 → around.charge ≤ 4197000 → IsFunded around asking → page_claim path + 65600 ≤ asking.left
 look_room around asking path short low funded = let most = claim_low (is_page path) in omega (arith, most, low, funded)
   where
-    claim_low : (b : Bool) → (if b then 160 + 2 * length path else 0) ≤ 2208
+    claim_low : (b : Bool) → (if b then page_charge path else 0) ≤ 2208
     claim_low true = omega (arith, short)
     claim_low false = omega arith

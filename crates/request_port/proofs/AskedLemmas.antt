@@ -220,11 +220,11 @@ steps_at false steps e = absurd (cc)
 -- what a look at a page's file takes of the promise, and what it asks
 pub page_looks : (path : List ℕ) (file : Option File) → IsPageFile path file → (look_claim path file ≡ op_weight (op.Fetch 0 path) + op_weight (op.Offer 0 path)) × (look_steps path file ≡ asks.fetch path ∷ [])
 page_looks path None is = absurd is
-page_looks path (Some file) is = let c = claim_at (is_page path) (160 + 2 * Rattle.std.specs.Prelude.length path) is in (omega (arith, c), steps_at (is_page path) (asks.fetch path ∷ []) is)
+page_looks path (Some file) is = let c = claim_at (is_page path) (asks.page_charge path) is in (omega (arith, c), steps_at (is_page path) (asks.fetch path ∷ []) is)
 
 pub page_claims : (path : List ℕ) (file : Option File) → IsPageFile path file → page_claim path ≡ op_weight (op.Fetch 0 path) + op_weight (op.Offer 0 path)
 page_claims path None is = absurd is
-page_claims path (Some file) is = let c = claim_at (is_page path) (160 + 2 * Rattle.std.specs.Prelude.length path) is in omega (arith, c)
+page_claims path (Some file) is = let c = claim_at (is_page path) (asks.page_charge path) is in omega (arith, c)
 
 looked_by : (needs : Needs) (x : Opening) (pass : ℕ) (old new : List Entry) (request : ℕ) (tree : List File) (run next : Run) (path : List ℕ) (calls : List (Op × Reply)) → Under x pass old request tree run → Under x pass new request tree next
     → HasDone needs x pass old new calls → IsPageFile path (file_at path tree) → asked_in (own pass new) ≡ asked_in (own pass old) ++ asks.fetch path ∷ [] → told_in x.seed (own pass new) ≡ told_in x.seed (own pass old) → next.session ≡ run.session

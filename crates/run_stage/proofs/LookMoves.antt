@@ -40,10 +40,10 @@ no_claim_at false n e = refl
 
 -- a page is charged its Fetch and its Offer
 pub page_claimed : (path : List ℕ) → is_page path ≡ true → page_claim path ≡ page_charge path
-page_claimed path e = let c = claim_at (is_page path) (160 + 2 * length path) e in omega (arith, c)
+page_claimed path e = let c = claim_at (is_page path) (page_charge path) e in omega (arith, c)
 
 pub plain_claimed : (path : List ℕ) → is_page path ≡ false → page_claim path ≡ 0
-plain_claimed path e = no_claim_at (is_page path) (160 + 2 * length path) e
+plain_claimed path e = no_claim_at (is_page path) (page_charge path) e
 
 pub look_claimed : (path : List ℕ) (file : Option File) → look_claim path file ≤ page_claim path
 look_claimed path None = omega arith

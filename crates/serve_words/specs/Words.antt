@@ -8,6 +8,7 @@ use Rattle.pg_text.specs.Numbers.{whole_number}
 use Rattle.serve_words.specs.declared.given.Given.{Given}
 use Rattle.serve_words.specs.declared.setting.Rounds.{Rounds}
 use Rattle.serve_words.specs.declared.setting.Settings.{Settings}
+use Rattle.site_words.specs.declared.limits.TheConstants.{IDLE_SECONDS}
 
 -- no option was read yet
 abbrev pub nothing_given : Given
@@ -83,7 +84,7 @@ rounds_of readers editors = None
 abbrev pub settings_of : Given → Option Settings
 settings_of g =
     option_and_then (λ port. option_and_then (λ editor_port. option_and_then (λ workers. option_and_then (λ rounds.
-    Some (record { port = port; editor_port = editor_port; workers = workers; seed = or_else (replicate 32 0) g.seed; idle = or_else 1800 g.idle; rounds = rounds }))
+    Some (record { port = port; editor_port = editor_port; workers = workers; seed = or_else (replicate 32 0) g.seed; idle = or_else IDLE_SECONDS g.idle; rounds = rounds }))
     (rounds_of g.round g.editor_round)) g.workers) g.editor_port) g.port
 
 -- how the words ask to serve: they are `serve` and options

@@ -5,6 +5,7 @@ use crate::given::Given;
 use crate::setting::{Rounds, Settings};
 use hex::decode_to_slice;
 use pg_text::whole_number;
+use site_words::IDLE_SECONDS;
 
 const MOST_PORT: u64 = 65_535;
 
@@ -13,9 +14,6 @@ const MOST_WORKERS: u64 = 63;
 const MOST_IDLE: u64 = 1_000_000_000;
 
 const MOST_ROUND: u64 = 1_000_000;
-
-/// How many seconds a session lasts that isn't used, where the words don't say.
-const IDLE_SECONDS: u64 = 1_800;
 
 /// How the words ask to serve, where they are those of this command.
 pub fn settings_asked(words: &[String]) -> Option<Settings>

@@ -29,9 +29,9 @@ pub record Asking : Type 0 where
 abbrev pub is_page : List ℕ → Bool
 is_page path = ends_with nat_eq path (codes ".jsp") || ends_with nat_eq path (codes ".jspx")
 
--- what a page run takes of the promise: one entry that looks for the page and one that offers it
+-- what a look takes of the promise: for a page one entry that looks for it and one that offers it
 abbrev pub page_claim : List ℕ → ℕ
-page_claim path = if is_page path then 160 + 2 * length path else 0
+page_claim path = if is_page path then asks.page_charge path else 0
 
 -- the answer to a step on the application's attributes
 abbrev pub fits_step_reply : AppStep → AppReply → Bool

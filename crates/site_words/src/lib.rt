@@ -18,8 +18,8 @@ pub use copies::{copy_op, copy_reply, copy_step};
 pub use edges::Acted;
 pub use ids::word;
 pub use limits::{
-    COUNT_END, END_WEIGHT, MAX_COOKIE_BYTES, MAX_PAGE_CHARGE, MAX_PASSES, MAX_SESSIONS, OP_WEIGHT,
-    PROMISE,
+    COUNT_END, END_WEIGHT, IDLE_SECONDS, JOURNAL_LIMIT, MAX_COOKIE_BYTES, MAX_PAGE_CHARGE,
+    MAX_PASSES, MAX_SESSIONS, OP_WEIGHT, PROMISE,
 };
 pub use pages::{is_page, page_charge};
 pub use port::{Begun, Fresh, Port, Published, Snapped};

@@ -9,6 +9,12 @@ pub const MAX_SESSIONS: usize = 4_096;
 /// The first number that a version, a count of requests or a count of sessions of an opening doesn't reach.
 pub const COUNT_END: u64 = 1 << 63;
 
+/// The greatest weight of the journal of a site that a command begins.
+pub const JOURNAL_LIMIT: u64 = 2_147_483_648;
+
+/// How many seconds a session lasts that isn't used, where nothing else is said.
+pub const IDLE_SECONDS: u64 = 1_800;
+
 /// The most bytes of a cookie.
 pub const MAX_COOKIE_BYTES: usize = 48;
 
