@@ -1,7 +1,8 @@
 use jstl_tags::{Body, Host, Standing, core_faults, core_row, taken_faults, takes_of};
 use page_directives::Faults;
-use page_reader::{Element, MAX_PAGE_BYTES, Node, PageTree, Prefixes, Setting, read_under};
+use page_reader::{Element, Node, PageTree, Prefixes, Setting, read_under};
 use pg_text::{TranslationFault, resolve};
+use source_tree::MAX_FILE_BYTES;
 use std::alloc::{AllocError, Global};
 use std::test::Fail;
 
@@ -14,7 +15,7 @@ static TOLD: [TranslationFault; 4] = [
 
 // The nodes of a file in which the prefix `c` is registered.
 fn tree(alloc: Global, text: &str) -> Result<PageTree, Fail> {
-    if text.len() > MAX_PAGE_BYTES {
+    if text.len() > MAX_FILE_BYTES {
         return Err(Fail::new("the text is too long"));
     }
     let mut setting = Setting::first(alloc);

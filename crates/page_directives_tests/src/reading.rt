@@ -1,6 +1,7 @@
 use page_directives::{Before, Directive, Faults, FirstReading, Where, settings};
-use page_reader::{MAX_PAGE_BYTES, Node, PageTree, Setting, read_under};
+use page_reader::{Node, PageTree, Setting, read_under};
 use pg_text::{TranslationFault, resolve};
+use source_tree::MAX_FILE_BYTES;
 use std::alloc::{AllocError, Global};
 use std::test::Fail;
 
@@ -15,7 +16,7 @@ static TOLD: [TranslationFault; 6] = [
 
 // What a file reads as that includes none.
 pub fn tree(alloc: Global, text: &str, el: bool) -> Result<PageTree, Fail> {
-    if text.len() > MAX_PAGE_BYTES {
+    if text.len() > MAX_FILE_BYTES {
         return Err(Fail::new("the text is too long"));
     }
     let mut setting = Setting::first(alloc);

@@ -1,7 +1,8 @@
 // What is told of a tree: all of it, the fault that broke the reading off, or how much there is.
 use crate::settings::{page_path, setting};
 use crate::trees::{show_place, shown};
-use page_reader::{MAX_PAGE_BYTES, Node, PageFault, PageTree, read_page, read_under};
+use page_reader::{Node, PageFault, PageTree, read_page, read_under};
+use source_tree::MAX_FILE_BYTES;
 use std::alloc::{AllocError, Global};
 
 /// What is told of the page with this text; where a part is asked for, whether it is told.
@@ -12,7 +13,7 @@ pub fn told(
     text: &str,
     part: Option<&String>,
 ) -> Result<String, AllocError> {
-    if text.len() > MAX_PAGE_BYTES {
+    if text.len() > MAX_FILE_BYTES {
         return String::from_str(alloc, "the text is too long");
     }
     let path = page_path(alloc)?;

@@ -5,13 +5,14 @@ ghost use Rattle.page_pieces.specs.Settings.{first_setting};
 ghost use Rattle.unit_source.specs.First.{directives_in, own_directives};
 
 use crate::WrittenDirective;
-use page_reader::{MAX_PAGE_BYTES, Node, PageTree, one_page, read_page};
+use page_reader::{Node, PageTree, one_page, read_page};
 use pg_text::{Listed, Path};
+use source_tree::MAX_FILE_BYTES;
 use std::alloc::{AllocError, Global};
 
 // The page of a first reading.
 fn first_page(alloc: Global, path: &Path, text: &str) -> Result<PageTree, AllocError>
-    requires { length text.now ≤ MAX_PAGE_BYTES }
+    requires { length text.now ≤ MAX_FILE_BYTES }
     ensures { IfOk result (λ tree. page_of tree ≡ page_text first_setting path.now text.now) }
 {
     one_page();
@@ -25,7 +26,7 @@ pub(crate) fn read_own(
     path: &Path,
     text: &str,
 ) -> Result<Listed<WrittenDirective>, AllocError>
-    requires { length text.now ≤ MAX_PAGE_BYTES }
+    requires { length text.now ≤ MAX_FILE_BYTES }
     ensures { IfOk result (λ own. own ≡ own_directives path.now text.now) }
 {
     let tree = first_page(alloc, path, text)?;

@@ -15,9 +15,10 @@ use crate::placing::file_nodes;
 use crate::progress::Progress;
 use crate::source_file::SourceFile;
 use page_pieces::{Brought, Setting};
-use page_reader::{MAX_PAGE_BYTES, PageTree, one_page, read_under};
+use page_reader::{PageTree, one_page, read_under};
 use pg_text::Path;
 use pg_value::PageSettings;
+use source_tree::MAX_FILE_BYTES;
 use std::alloc::{AllocError, Global};
 
 // A file by itself: its nodes before its include directives are read, and what these bring.
@@ -34,7 +35,7 @@ fn page_under(
     text: &str,
     setting: &Setting,
 ) -> Result<PageTree, AllocError>
-    requires { length text.now ≤ MAX_PAGE_BYTES }
+    requires { length text.now ≤ MAX_FILE_BYTES }
     ensures { IfOk result (λ tree. page_of tree ≡ page_text setting.now path.now text.now) }
 {
     one_page();

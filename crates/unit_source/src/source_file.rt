@@ -4,8 +4,8 @@ ghost use Rattle.unit_source.specs.ReadFiles.{source};
 
 use crate::WrittenDirective;
 use crate::own::read_own;
-use page_reader::MAX_PAGE_BYTES;
 use pg_text::{Listed, Path, Text};
+use source_tree::MAX_FILE_BYTES;
 use std::alloc::{AllocError, Global};
 use std::marker::Model;
 use std::sync::Arc;
@@ -20,7 +20,7 @@ pub(crate) struct SourceFile {
 
 impl Model for SourceFile {
     ghost use Rattle.std.specs.Prelude.{◌≡◌, ◌≤◌, length};
-    ghost use Rattle.page_reader.specs.declared.reader.TheConstants.{MAX_PAGE_BYTES};
+    ghost use Rattle.source_tree.specs.declared.limits.TheConstants.{MAX_FILE_BYTES};
     ghost use Rattle.unit_source.specs.First.{own_directives};
     ghost use Rattle.unit_source.specs.ReadFiles.{Source, source};
 
@@ -28,13 +28,13 @@ impl Model for SourceFile {
 
     ghost view = { λ f. source f.path f.text };
 
-    ghost invariant = { λ f. (f.own.value ≡ own_directives f.path f.text) × (length f.text ≤ MAX_PAGE_BYTES) };
+    ghost invariant = { λ f. (f.own.value ≡ own_directives f.path f.text) × (length f.text ≤ MAX_FILE_BYTES) };
 }
 
 impl SourceFile {
     // The file, which is read.
     pub fn read(alloc: Global, path: Path, text: Text) -> Result<Self, AllocError>
-        requires { length text ≤ MAX_PAGE_BYTES }
+        requires { length text ≤ MAX_FILE_BYTES }
         ensures { IfOk result (λ file. file ≡ source path text) }
     {
         let own = read_own(alloc, &path, text.as_str())?;
@@ -63,7 +63,7 @@ impl SourceFile {
 
     pub fn text(&self) -> &str
         ensures text { result.now ≡ self.now.text }
-        ensures within { length self.now.text ≤ MAX_PAGE_BYTES }
+        ensures within { length self.now.text ≤ MAX_FILE_BYTES }
     {
         self.text.as_str()
     }
