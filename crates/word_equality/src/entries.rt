@@ -56,119 +56,66 @@ impl Same for AppReply {
 
 impl Same for Op {
     fn is_same(&self, other: &Op) -> bool {
-        match (self, other) {
-            (
-                Op::Publish { base, edits },
-                Op::Publish {
-                    base: other_base,
-                    edits: other_edits,
-                },
-            ) => base.is_same(other_base) && edits.is_same(other_edits),
-            (
-                Op::Begin { cookie, moment },
-                Op::Begin {
-                    cookie: other_cookie,
-                    moment: other_moment,
-                },
-            ) => cookie.is_same(other_cookie) && moment == other_moment,
-            (
-                Op::App { request, step },
-                Op::App {
-                    request: other_request,
-                    step: other_step,
-                },
-            ) => request == other_request && step.is_same(other_step),
-            (
-                Op::Fresh { request },
-                Op::Fresh {
-                    request: other_request,
-                },
-            ) => request == other_request,
-            (
-                Op::Fetch { request, path },
-                Op::Fetch {
-                    request: other_request,
-                    path: other_path,
-                },
-            ) => request == other_request && path.is_same(other_path),
-            (
-                Op::Offer { request, path },
-                Op::Offer {
-                    request: other_request,
-                    path: other_path,
-                },
-            ) => request == other_request && path.is_same(other_path),
-            (
-                Op::End { request, attrs },
-                Op::End {
-                    request: other_request,
-                    attrs: other_attrs,
-                },
-            ) => request == other_request && attrs.is_same(other_attrs),
-            (
-                Op::Abandon { request },
-                Op::Abandon {
-                    request: other_request,
-                },
-            ) => request == other_request,
-            (
-                Op::Snapshot { cookie },
-                Op::Snapshot {
-                    cookie: other_cookie,
-                },
-            ) => cookie.is_same(other_cookie),
-            (Op::Roll, Op::Roll) => true,
-            _ => false,
+        match self {
+            Op::Publish { base, edits } => matches!(other,
+                Op::Publish { base: other_base, edits: other_edits }
+                    if base.is_same(other_base) && edits.is_same(other_edits)),
+            Op::Begin { cookie, moment } => matches!(other,
+                Op::Begin { cookie: other_cookie, moment: other_moment }
+                    if cookie.is_same(other_cookie) && moment == other_moment),
+            Op::App { request, step } => matches!(other,
+                Op::App { request: other_request, step: other_step }
+                    if request == other_request && step.is_same(other_step)),
+            Op::Fresh { request } => matches!(other,
+                Op::Fresh { request: other_request } if request == other_request),
+            Op::Fetch { request, path } => matches!(other,
+                Op::Fetch { request: other_request, path: other_path }
+                    if request == other_request && path.is_same(other_path)),
+            Op::Offer { request, path } => matches!(other,
+                Op::Offer { request: other_request, path: other_path }
+                    if request == other_request && path.is_same(other_path)),
+            Op::End { request, attrs } => matches!(other,
+                Op::End { request: other_request, attrs: other_attrs }
+                    if request == other_request && attrs.is_same(other_attrs)),
+            Op::Abandon { request } => matches!(other,
+                Op::Abandon { request: other_request } if request == other_request),
+            Op::Snapshot { cookie } => matches!(other,
+                Op::Snapshot { cookie: other_cookie } if cookie.is_same(other_cookie)),
+            Op::Roll => matches!(other, Op::Roll),
         }
     }
 }
 
 impl Same for Reply {
     fn is_same(&self, other: &Reply) -> bool {
-        match (self, other) {
-            (
-                Reply::Published { version, dirty },
-                Reply::Published {
-                    version: other_version,
-                    dirty: other_dirty,
-                },
-            ) => version == other_version && dirty.is_same(other_dirty),
-            (
+        match self {
+            Reply::Published { version, dirty } => matches!(other,
+                Reply::Published { version: other_version, dirty: other_dirty }
+                    if version == other_version && dirty.is_same(other_dirty)),
+            Reply::Begun {
+                request,
+                version,
+                session,
+            } => matches!(other,
                 Reply::Begun {
-                    request,
-                    version,
-                    session,
-                },
-                Reply::Begun {
-                    request: other_request,
-                    version: other_version,
-                    session: other_session,
-                },
-            ) => {
-                request == other_request
+                    request: other_request, version: other_version, session: other_session
+                } if request == other_request
                     && version == other_version
-                    && session.is_same(other_session)
-            }
-            (Reply::App(answer), Reply::App(other_answer)) => answer.is_same(other_answer),
-            (
-                Reply::Made { session },
-                Reply::Made {
-                    session: other_session,
-                },
-            ) => session == other_session,
-            (Reply::Fetched { hit }, Reply::Fetched { hit: other_hit }) => hit == other_hit,
-            (Reply::Offered { kept }, Reply::Offered { kept: other_kept }) => kept == other_kept,
-            (Reply::Ended, Reply::Ended)
-            | (Reply::Dropped, Reply::Dropped)
-            | (Reply::Rolled, Reply::Rolled) => true,
-            (
-                Reply::Snapped { version, session },
-                Reply::Snapped {
-                    version: other_version,
-                    session: other_session,
-                },
-            ) => version == other_version && session.is_same(other_session),
-            _ => false,
+                    && session.is_same(other_session)),
+            Reply::App(answer) => matches!(other,
+                Reply::App(other_answer) if answer.is_same(other_answer)),
+            Reply::Made { session } => matches!(other,
+                Reply::Made { session: other_session } if session == other_session),
+            Reply::Fetched { hit } => matches!(other,
+                Reply::Fetched { hit: other_hit } if hit == other_hit),
+            Reply::Offered { kept } => matches!(other,
+                Reply::Offered { kept: other_kept } if kept == other_kept),
+            Reply::Ended => matches!(other, Reply::Ended),
+            Reply::Dropped => matches!(other, Reply::Dropped),
+            Reply::Snapped { version, session } => matches!(other,
+                Reply::Snapped { version: other_version, session: other_session }
+                    if version == other_version && session.is_same(other_session)),
+            Reply::Rolled => matches!(other, Reply::Rolled),
         }
     }
 }
