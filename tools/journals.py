@@ -81,6 +81,9 @@ class Reader:
     def path(self):
         path = self.text()
         names = path.split("/")
+        bytes_ = path.encode()
+        if len(bytes_) > 1024 or any(byte < 0x20 or byte in b"\x7f\\" for byte in bytes_):
+            raise NotJournal(f"no path: {path}")
         if names[0] or len(names) < 2 or any(name in ("", ".", "..") for name in names[1:]):
             raise NotJournal(f"no path: {path}")
         return path
@@ -122,6 +125,8 @@ class Reader:
     def opening(self):
         seed = self.take(32)
         limit, passes, idle, version, begins, freshes, moment = (self.number() for _ in range(7))
+        if passes > 255:
+            raise NotJournal(f"{passes} passes")
         app = self.attributes()
         files = dict(self.rising(self.listed(self.file), lambda file: file[0]))
         return Opening(seed, limit, passes, idle, version, begins, freshes, moment, app, files, self.listed(self.session))

@@ -1,0 +1,4 @@
+pub mod Judge
+pub mod Audit
+pub mod Lines
+pub mod Command
