@@ -1,4 +1,4 @@
-/* The outside of the program, made to fail: in the place of the kit's heap, and of read, write and the clock of the C library. The
+/* The outside of the program, made to fail: in the place of the kit's heap, and of read, write, _exit and the clock of the C library. The
    environment says what fails; each number counts from 1.
    REFUSE=N        the Nth allocation or growth is refused
    REFUSE_FROM=N   each from the Nth on is refused
@@ -76,6 +76,12 @@ struct answer rattle_realloc(void *old, unsigned long old_size, unsigned long si
 }
 
 void rattle_dealloc(void *place) { free(place); }
+
+/* The program may end by this, and then the C library does nothing at the end. */
+void _exit(int status) {
+    report();
+    for (;;) syscall(SYS_exit_group, status);
+}
 
 ssize_t read(int from, void *into, size_t length) {
     begin();

@@ -2,7 +2,7 @@ ghost use Rattle.std.specs.Prelude.{◌≡◌, IfOk, Some, []};
 ghost use Rattle.pages_record.specs.Recorded.{IsTalked, end_number};
 ghost use Rattle.site_words.specs.Invariants.{AllRest};
 
-use crate::noting::LentClock;
+use crate::lent_clock::LentClock;
 use compiled_pages::Made;
 use conversation::Ended;
 use edges::{Clock, Ledger, MemSink, MemSource, NotedClock, Steps};
@@ -15,7 +15,8 @@ use std::alloc::{AllocError, Global};
 /// The most bytes that are read at once.
 const PIECE_BYTES: usize = 4_096;
 
-/// Talks on a connection of these bytes with a site at its beginning, in memory, and gives the site and what was said.
+/// Talks on a connection of these bytes with a site at its beginning, in memory, and gives the site
+/// and what was said.
 pub(crate) fn talk_in_memory<C: Clock, L: Ledger>(
     alloc: Global,
     site: Site<Made>,
@@ -65,7 +66,8 @@ fn moments_of<C: Clock>(alloc: Global, clock: &NotedClock<C>) -> Result<Listed<u
     Ok(Listed::new(Vec::from_slice(alloc, moments)?))
 }
 
-// The number by which a talk names how it ended, or none where memory was wanting: a source and a sink in memory fail for nothing else.
+// The number by which a talk names how it ended, or none where memory was wanting: a source and a
+// sink in memory fail for nothing else.
 fn end_number(ended: Ended) -> Option<u8>
     ensures { result ≡ end_number ended }
 {

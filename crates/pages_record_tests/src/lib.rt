@@ -4,6 +4,10 @@
 #[cfg(test)]
 mod lists;
 #[cfg(test)]
+mod moments;
+#[cfg(test)]
+mod pieces;
+#[cfg(test)]
 mod recorded;
 #[cfg(test)]
 mod sessions;

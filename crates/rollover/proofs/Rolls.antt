@@ -8,7 +8,7 @@ use Rattle.site_words.proofs.Legal.{after_push, legal_push, passes_len}
 use Rattle.site_words.specs.Fits.{at_rest}
 use Rattle.site_words.specs.Invariants.{AllRest}
 use Rattle.site_words.specs.Law.{Legal}
-use Rattle.site_words.specs.Laws.{NextIsSound}
+use Rattle.site_words.specs.Laws.{NextIsSound, RollsOver}
 use Rattle.site_words.specs.Opening.{is_sound, next_opening, sound_app, sound_counts, sound_sessions, sound_tree}
 use Rattle.site_words.specs.Runs.{UnderWay, run_at}
 use Rattle.site_words.specs.State.{State, after}
@@ -84,16 +84,20 @@ next_is_sound law needs site sound legal room =
 room_left : (needs : Needs) (site : Lived) (opening : Opening) (b : Bool) → opening ≡ next_opening site.opening (after needs site.opening site.history) → is_spent opening ≡ b → is_spent (goes_on_as needs site) ≡ b
 room_left needs site opening b is spent = ap is_spent (rolled_goes_on needs site ∙ sym is) ∙ spent
 
-pub comes_to_new : (needs : Needs) (site next : Lived) (opening : Opening) (talk : Option Talk) (old new : Option (List ℕ)) → is_sound site.opening ≡ true → Legal needs site.opening site.history
+pub comes_to_new : RollsOver → (needs : Needs) (site next : Lived) (opening : Opening) (talk : Option Talk) (old new : Option (List ℕ)) → is_sound site.opening ≡ true → Legal needs site.opening site.history
     → AllRest site.opening site.history → opening ≡ next_opening site.opening (after needs site.opening site.history) → is_spent opening ≡ false → next.opening ≡ opening → next.history ≡ []
     → Appends old new (journal site.opening (rolled site.history) talk) → IsRolled needs site next talk old new
-comes_to_new needs site next opening talk old new sound legal rest is room goes empty written = record {
-  written = written;
-  is_legal = rolled_is_legal needs site.opening site.history sound legal rest;
-  opening = goes ∙ is ∙ sym (rolled_goes_on needs site);
-  history = empty;
-  room = room_left needs site opening false is room;
-}
+comes_to_new law needs site next opening talk old new sound legal rest is room goes empty written =
+    let rolled_legal : Legal needs site.opening (rolled site.history) = rolled_is_legal needs site.opening site.history sound legal rest in
+    let goes_on : next.opening ≡ goes_on_as needs site = goes ∙ is ∙ sym (rolled_goes_on needs site) in
+    record {
+      written = written;
+      is_legal = rolled_legal;
+      opening = goes_on;
+      history = empty;
+      one_history = λ later legal_later. law needs site.opening site.history later 0 rolled_legal (subst (λ x. Legal needs x later) goes_on legal_later);
+      room = room_left needs site opening false is room;
+    }
 
 pub comes_to_old : (needs : Needs) (site : Lived) (opening : Opening) (talk : Option Talk) (old new : Option (List ℕ)) (before risen : ℕ) → is_sound site.opening ≡ true → Legal needs site.opening site.history
     → AllRest site.opening site.history → opening ≡ next_opening site.opening (after needs site.opening site.history) → is_spent opening ≡ false

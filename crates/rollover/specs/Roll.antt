@@ -1,5 +1,5 @@
 -- What a rollover comes to.
-use Rattle.std.specs.Prelude.{◌≡◌, ℕ, ◌^◌, ◌||◌, Bool, true, false, List, [], Option, nat_le}
+use Rattle.std.specs.Prelude.{◌≡◌, ℕ, ◌^◌, ◌||◌, ◌++◌, Bool, true, false, List, [], Option, nat_le}
 use Rattle.std.specs.Io.KnownBytes.{Appends}
 use Rattle.edges.specs.Faults.{Rose}
 use Rattle.http_out.specs.Sent.{Sent}
@@ -12,6 +12,7 @@ use Rattle.site_words.specs.Law.{Legal}
 use Rattle.site_words.specs.Opening.{next_opening}
 use Rattle.site_words.specs.State.{after}
 use Rattle.site_words.specs.Trees.{Needs}
+use Rattle.site_words.specs.declared.words.Entry.{Entry}
 use Rattle.site_words.specs.declared.words.Opening.{Opening}
 
 -- a count has no room for another site
@@ -22,12 +23,13 @@ is_spent x = nat_le (2 ^ 63) x.version || (nat_le (2 ^ 63) x.begins || nat_le (2
 abbrev pub goes_on_as : Needs → Lived → Opening
 goes_on_as needs site = next_opening site.opening (after needs site.opening (rolled site.history))
 
--- the journal was written; its history with the Roll is legal, and the new site goes on from the state behind it with an empty history
+-- the journal was written; its history with the Roll is legal, and the new site goes on from the state behind it with an empty history; with what comes to be its history, both are one legal history from the old opening
 pub record IsRolled (needs : Needs) (site next : Lived) (talk : Option Talk) (old new : Option (List ℕ)) : Type 0 where
   pub written : Appends old new (journal site.opening (rolled site.history) talk)
   pub is_legal : Legal needs site.opening (rolled site.history)
   pub opening : next.opening ≡ goes_on_as needs site
   pub history : next.history ≡ []
+  pub one_history : (later : List Entry) → Legal needs next.opening later → Legal needs site.opening (rolled site.history ++ later)
   pub room : is_spent (goes_on_as needs site) ≡ false
 
 -- the sink failed within the journal, and the site is as it was

@@ -28,5 +28,5 @@ returns-in-Err-clause-rolls g c =
 
 pub returns-in-Ok-write_journal-clause-rolls : goal.returns-in-Ok-write_journal-clause-rolls
 returns-in-Ok-write_journal-clause-rolls g c =
-    comes_to_new g.P.Compiled.needs c.args.site c.in-Ok-resume.next c.in-Ok.opening _ _ _ c.law.ensures.sound c.law.ensures.legal c.requires c.in-Ok.ensures (sym c.is_spent.ensures ∙ c.if-is_spent.false)
+    comes_to_new c.rollover.ensures.one g.P.Compiled.needs c.args.site c.in-Ok-resume.next c.in-Ok.opening _ _ _ c.law.ensures.sound c.law.ensures.legal c.requires c.in-Ok.ensures (sym c.is_spent.ensures ∙ c.if-is_spent.false)
     c.in-Ok-resume.ensures.0 c.in-Ok-resume.ensures.1 (rw (c.opening.ensures, c.history.ensures) at c.in-Ok-write_journal.ensures.sent)
