@@ -24,10 +24,11 @@ def free_ports(count):
 class Server:
     """The program while it serves: `with Server(program, workers=16) as server`."""
 
-    def __init__(self, program, workers=16, ports=None, files=None):
+    def __init__(self, program, workers=16, ports=None, files=None, shows_drafts=False):
         self.program = program
         self.workers = workers
         self.port, self.editor_port = ports or free_ports(2)
+        self.preview_port = free_ports(1)[0] if shows_drafts else None
         self.files = files
 
     def __enter__(self):
@@ -38,12 +39,14 @@ class Server:
         self.kill()
 
     def words(self):
+        previews = [f"--preview-port={self.preview_port}"] if self.preview_port else []
         return [
             "serve",
             f"--port={self.port}",
             "--editor-port",
             str(self.editor_port),
             f"--workers={self.workers}",
+            *previews,
         ]
 
     def start(self):

@@ -16,6 +16,7 @@ sys.dont_write_bytecode = True
 from by_curl import try_curl  # noqa: E402
 from by_hard_clients import try_hard_clients  # noqa: E402
 from by_many import try_large_publishing, try_many  # noqa: E402
+from by_previews import try_previews  # noqa: E402
 from server import Server, Tally, free_ports  # noqa: E402
 
 BUILT = os.path.join(HERE, "../../crates/pages_cli/out/pages_cli")
@@ -53,6 +54,9 @@ def main():
     with Server(program, workers=16) as server:
         tally.note(server.line.strip())
         try_curl(server, tally)
+    print("drafts")
+    with Server(program, workers=2, shows_drafts=True) as server:
+        try_previews(server, tally)
     print("sixty readers and an editor")
     with Server(program, workers=60) as server:
         try_many(server, tally)

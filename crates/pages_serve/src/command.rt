@@ -1,15 +1,14 @@
 ghost use Rattle.std.specs.Prelude.{◌≡◌, ◌≢◌, ◌≤◌, ◌+◌, None, OnErr, IfOk, map, string_bytes};
 ghost use Rattle.edges.specs.Faults.{Rose};
 ghost use Rattle.site_words.specs.Invariants.{AllRest};
-ghost use Rattle.serve_words.specs.Words.{settings_asked};
+ghost use Rattle.serve_words.specs.Words.{count_of, settings_asked};
 
 use crate::next_round::onward;
 use crate::notice::announce;
-use crate::pages::Pages;
+use crate::pages::{Audience, Pages};
 use crate::threads::can_run;
 use compiled_pages::Made;
 use edges::{Accept, Bind, Clocks, Failed, OpenGate, Sink};
-use pages_talk::Role;
 use pg_value::Attrs;
 use serve_words::{Settings, settings_asked};
 use site_core::{Site, start};
@@ -20,10 +19,10 @@ use std::alloc::{AllocError, Global};
 use std::sync::Wait;
 use std::thread::Threads;
 
-/// Serves a new site without files on two ports: to readers by as many workers as the words say, and by one more to editors. The answer
-/// is the program's status: 1 for other words, 7 where a listener can't be had, 8 where the workers can't have a thread each, 5 where
-/// memory was wanting. Otherwise it isn't meant to end. What it has to say at the start goes to `notices`, and the journal of each round to
-/// `journals`.
+/// Serves a new site without files on two ports: to readers by as many workers as the words say, and by one more to editors; and on a
+/// third, where the words name one, by one more to those who are shown drafts. The answer is the program's status: 1 for other words, 7
+/// where a listener can't be had, 8 where the workers can't have a thread each, 5 where memory was wanting. Otherwise it isn't meant to
+/// end. What it has to say at the start goes to `notices`, and the journal of each round to `journals`.
 pub fn serve<R: Threads + Wait + Sync, B: Bind, W: Clocks + Sync, J: Sink, K: Sink>(
     rt: &R,
     alloc: Global,
@@ -46,7 +45,7 @@ pub fn serve<R: Threads + Wait + Sync, B: Bind, W: Clocks + Sync, J: Sink, K: Si
     let Ok(listeners) = listeners_of(bind, &settings) else {
         return 7;
     };
-    if !can_run(rt, usize::from(settings.workers)) {
+    if !can_run(rt, usize::from(passes_of(&settings)) - 1) {
         return 8;
     }
     let Ok(site) = site_of(alloc, &settings) else {
@@ -56,7 +55,8 @@ pub fn serve<R: Threads + Wait + Sync, B: Bind, W: Clocks + Sync, J: Sink, K: Si
     rounds(rt, alloc, site, listeners, clocks, journals)
 }
 
-// Serves one round after the other, and writes the journal of each. It ends where memory is wanting.
+// Serves one round after the other, and writes the journal of each. It ends where memory is wanting. Where drafts are shown there are no
+// rounds.
 fn rounds<R: Threads + Wait + Sync, A: Accept + Sync + Drop, W: Clocks + Sync, J: Sink>(
     rt: &R,
     alloc: Global,
@@ -71,11 +71,15 @@ fn rounds<R: Threads + Wait + Sync, A: Accept + Sync + Drop, W: Clocks + Sync, J
     let talks = Talks {
         readers: Pages {
             alloc,
-            role: Role::Reader,
+            audience: Audience::Readers,
         },
         editors: Pages {
             alloc,
-            role: Role::Both,
+            audience: Audience::Editors,
+        },
+        previews: Pages {
+            alloc,
+            audience: Audience::Previews,
         },
     };
     for _ in rt.forever() {
@@ -89,21 +93,41 @@ fn rounds<R: Threads + Wait + Sync, A: Accept + Sync + Drop, W: Clocks + Sync, J
     unreachable!()
 }
 
-// Both listeners.
+// All listeners.
 fn listeners_of<B: Bind>(bind: &mut B, settings: &Settings) -> Result<Listeners<B::On>, Failed>
     ensures { OnErr result (Rose (B.faults bind.old) (B.faults bind.new)) }
 {
     let rounds = settings.rounds;
     let readers = bind.bind(settings.port, rounds.map(|rounds| rounds.readers))?;
     let editors = bind.bind(settings.editor_port, rounds.map(|rounds| rounds.editors))?;
-    Ok(Listeners { readers, editors })
+    let previews = match settings.preview_port {
+        Some(port) => Some(bind.bind(port, None)?),
+        None => None,
+    };
+    Ok(Listeners {
+        readers,
+        editors,
+        previews,
+    })
+}
+
+// How many passes it has: one for each worker, one for editors, and one for previews where there are any.
+fn passes_of(settings: &Settings) -> u8
+    requires { settings.now.workers + count_of settings.now.preview_port ≤ 63 }
+    ensures { result ≡ settings.now.workers + 1 + count_of settings.now.preview_port }
+{
+    match settings.preview_port {
+        Some(_) => settings.workers + 2,
+        None => settings.workers + 1,
+    }
 }
 
 // The site: it has no files.
 fn site_of(alloc: Global, settings: &Settings) -> Result<Site<Made>, AllocError>
-    requires { settings.now.workers ≤ 63 }
+    requires { settings.now.workers + count_of settings.now.preview_port ≤ 63 }
     ensures rest { IfOk result (λ site. AllRest site.opening site.history) }
-    ensures passes { IfOk result (λ site. site.opening.passes ≡ settings.now.workers + 1) }
+    ensures passes { IfOk result (λ site. site.opening.passes
+        ≡ settings.now.workers + 1 + count_of settings.now.preview_port) }
 {
     let app = Attrs::empty(alloc);
     let tree = Tree::new(alloc);
@@ -113,7 +137,7 @@ fn site_of(alloc: Global, settings: &Settings) -> Result<Site<Made>, AllocError>
         app,
         tree,
         JOURNAL_LIMIT,
-        settings.workers + 1,
+        passes_of(settings),
         settings.idle,
     )
 }

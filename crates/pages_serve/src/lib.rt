@@ -11,4 +11,4 @@ mod threads;
 
 pub use command::serve;
 pub use next_round::onward;
-pub use pages::Pages;
+pub use pages::{Audience, Pages};

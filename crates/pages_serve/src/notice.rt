@@ -27,5 +27,8 @@ fn line(alloc: Global, settings: &Settings, limit: u64) -> Result<String, AllocE
         line,
         "pages: readers at http://127.0.0.1:{port}/, editors at http://127.0.0.1:{editor_port}/; room for {least} requests at least, {counters} of a page that counts in a session\n"
     )?;
+    if let Some(preview_port) = settings.preview_port {
+        write!(line, "pages: drafts at http://127.0.0.1:{preview_port}/\n")?;
+    }
     Ok(line)
 }

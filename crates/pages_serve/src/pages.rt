@@ -5,6 +5,7 @@ ghost use Rattle.site_words.specs.Answers.{IsSamePort};
 use compiled_pages::Made;
 use edges::{Clock, Sink, Source, Steps, Unseen};
 use pages_talk::{Role, talk};
+use preview::preview;
 use site_rounds::Talk;
 use site_words::Port;
 use std::alloc::Global;
@@ -12,11 +13,21 @@ use std::marker::Brand;
 use std::sync::ledger;
 use std::sync::ledger::Blank;
 
-/// Answers connections by the pages of a site, which they may change or not.
+/// For whom connections are.
+#[derive(Clone, Copy, Debug, PartialEq, Eq)]
+pub enum Audience {
+    /// They may not change the site.
+    Readers,
+    Editors,
+    /// They are shown the site with edits that nobody publishes.
+    Previews,
+}
+
+/// Answers connections by the pages of a site.
 #[derive(Clone, Copy, Drop)]
 pub struct Pages {
     pub alloc: Global,
-    pub role: Role,
+    pub audience: Audience,
 }
 
 impl Talk<Made> for Pages {
@@ -30,7 +41,7 @@ impl Talk<Made> for Pages {
         talk_uncounted::<Brand, _, _, _, _>(
             self.alloc,
             port,
-            self.role,
+            self.audience,
             source,
             sink,
             clock,
@@ -43,7 +54,7 @@ impl Talk<Made> for Pages {
 fn talk_uncounted<N: ledger::Ledger, P: Port<Made>, S: Source, K: Sink, C: Clock>(
     alloc: Global,
     port: &mut P,
-    role: Role,
+    audience: Audience,
     source: &mut S,
     sink: &mut K,
     clock: &mut C,
@@ -58,5 +69,9 @@ fn talk_uncounted<N: ledger::Ledger, P: Port<Made>, S: Source, K: Sink, C: Clock
     ensures idle { IsIdle (P.opening port.new) (P.pass port.new) (P.seen port.new) }
 {
     let mut steps = Steps::<Unseen<N>>::unseen(blank);
-    talk(alloc, port, role, source, sink, clock, &mut steps);
+    match audience {
+        Audience::Readers => talk(alloc, port, Role::Reader, source, sink, clock, &mut steps),
+        Audience::Editors => talk(alloc, port, Role::Both, source, sink, clock, &mut steps),
+        Audience::Previews => preview(alloc, port, source, sink, &mut steps),
+    };
 }

@@ -4,7 +4,7 @@ use pages_serve::serve;
 use std::test::Fail;
 
 // The status for these words where no port can be had.
-const WORDS: [(&[&str], u8); 17] = [
+const WORDS: [(&[&str], u8); 20] = [
     (
         &[
             "serve",
@@ -20,6 +20,38 @@ const WORDS: [(&[&str], u8); 17] = [
     (
         &["serve", "--workers=63", "--editor-port=1", "--port=0080"],
         7,
+    ),
+    (
+        &[
+            "serve",
+            "--workers=62",
+            "--editor-port=1",
+            "--port=2",
+            "--preview-port=3",
+        ],
+        7,
+    ),
+    (
+        &[
+            "serve",
+            "--workers=63",
+            "--editor-port=1",
+            "--port=2",
+            "--preview-port=3",
+        ],
+        1,
+    ),
+    (
+        &[
+            "serve",
+            "--workers=1",
+            "--editor-port=1",
+            "--port=2",
+            "--preview-port=3",
+            "--round=1",
+            "--editor-round=1",
+        ],
+        1,
     ),
     (
         &[

@@ -10,11 +10,19 @@ const BOB: &str = "GET /hi.jsp?who=Bob HTTP/1.1\r\nHost: x\r\n\r\n";
 
 const PUBLISH: &str = "POST /_editor/publish HTTP/1.1\r\nHost: x\r\n\r\n";
 
+const DRAFT: &str =
+    "PUT /_editor/files/hi.jsp HTTP/1.1\r\nHost: x\r\nContent-Length: 30\r\n\r\n<%@ page session=\"false\" %>Bye\
+GET /hi.jsp HTTP/1.1\r\nHost: x\r\n\r\n";
+
 const TO_ANN: &str =
     "HTTP/1.1 200 OK\r\nContent-Type: text/html;charset=UTF-8\r\nContent-Length: 7\r\n\r\nHi Ann!";
 
 const TO_BOB: &str =
     "HTTP/1.1 200 OK\r\nContent-Type: text/html;charset=UTF-8\r\nContent-Length: 7\r\n\r\nHi Bob!";
+
+const SHOWN: &str =
+    "HTTP/1.1 200 OK\r\nContent-Type: text/plain;charset=UTF-8\r\nContent-Length: 8\r\n\r\ndraft 1\n\
+HTTP/1.1 200 OK\r\nContent-Type: text/html;charset=UTF-8\r\nContent-Length: 3\r\n\r\nBye";
 
 const PUBLISHED: &str =
     "HTTP/1.1 200 OK\r\nContent-Type: text/plain;charset=UTF-8\r\nContent-Length: 10\r\n\r\nversion 1\n";
@@ -37,6 +45,7 @@ fn two_requests_are_answered_at_once(rt: HostRuntime) -> Result<(), Fail> {
     let said = Said {
         readers: &[ANN, BOB],
         editors: &[],
+        previews: &[],
     };
     let came = come_of(&rt, rt.alloc(), site, said, true)?;
     assert!(rt; !came.gave_up);
@@ -51,9 +60,25 @@ fn readers_cannot_edit(rt: HostRuntime) -> Result<(), Fail> {
     let said = Said {
         readers: &[PUBLISH],
         editors: &[PUBLISH],
+        previews: &[],
     };
     let came = come_of(&rt, rt.alloc(), site, said, false)?;
     assert!(rt; is_answer(came.readers.as_slice(), 0, NOT_FOUND));
     assert!(rt; is_answer(came.editors.as_slice(), 0, PUBLISHED));
+    Ok(())
+}
+
+// What is seen on the port of previews isn't seen on that of readers.
+#[test]
+fn drafts_have_a_port_of_their_own(rt: HostRuntime) -> Result<(), Fail> {
+    let site = opened(rt.alloc(), &FILES, 0, 3)?;
+    let said = Said {
+        readers: &[ANN],
+        editors: &[],
+        previews: &[DRAFT],
+    };
+    let came = come_of(&rt, rt.alloc(), site, said, false)?;
+    assert!(rt; is_answer(came.readers.as_slice(), 0, TO_ANN));
+    assert!(rt; is_answer(came.previews.as_slice(), 0, SHOWN));
     Ok(())
 }

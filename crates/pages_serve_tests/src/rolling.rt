@@ -36,6 +36,7 @@ fn rounds_go_on_from_each_other(rt: HostRuntime) -> Result<(), Fail> {
             let said = Said {
                 readers: &[ASKS],
                 editors: &[],
+                previews: &[],
             };
             let came = come_of(&rt, rt.alloc(), site, said, false)?;
             assert!(rt; ends_first(&came.readers, count));

@@ -5,8 +5,7 @@ ghost use Rattle.site_words.specs.Invariants.{AllRest};
 use crate::wires::{HeldGate, Wire, WireAccept};
 use compiled_pages::Made;
 use edges::StillClock;
-use pages_serve::Pages;
-use pages_talk::Role;
+use pages_serve::{Audience, Pages};
 use site_core::Site;
 use site_rounds::{Listeners, Talks, round};
 use std::alloc::Global;
@@ -15,11 +14,12 @@ use std::sync::atomic::{AtomicU64, Ordering};
 use std::test::Fail;
 use std::thread::Threads;
 
-/// A text for each connection: to readers, and to editors.
+/// A text for each connection: to readers, to editors, and to previews.
 #[derive(Clone, Copy)]
 pub struct Said<'a> {
     pub readers: &'a [&'a str],
     pub editors: &'a [&'a str],
+    pub previews: &'a [&'a str],
 }
 
 /// The site behind the round, what was written to each connection, and whether the gate gave up.
@@ -28,6 +28,7 @@ pub struct Came {
     pub site: Site<Made>,
     pub readers: Vec<Vec<u8>>,
     pub editors: Vec<Vec<u8>>,
+    pub previews: Vec<Vec<u8>>,
     pub gave_up: bool,
 }
 
@@ -41,6 +42,7 @@ pub fn come_of<R: Threads + Wait + Sync>(
 ) -> Result<Came, Fail> {
     let readers = wires_of(alloc, said.readers)?;
     let editors = wires_of(alloc, said.editors)?;
+    let previews = wires_of(alloc, said.previews)?;
     let gave_up = AtomicU64::new(0);
     let gate = HeldGate {
         wires: readers.as_slice(),
@@ -54,12 +56,14 @@ pub fn come_of<R: Threads + Wait + Sync>(
         gate,
         readers.as_slice(),
         editors.as_slice(),
+        previews.as_slice(),
     )?;
     let gave_up = gave_up.load(Ordering::SeqCst) > 0;
     Ok(Came {
         site,
         readers: taken_of(alloc, readers)?,
         editors: taken_of(alloc, editors)?,
+        previews: taken_of(alloc, previews)?,
         gave_up,
     })
 }
@@ -80,7 +84,7 @@ fn taken_of(alloc: Global, wires: Vec<Wire>) -> Result<Vec<Vec<u8>>, Fail> {
     Ok(taken)
 }
 
-// One round.
+// One round. Where nobody asks for a preview there is no port for them.
 fn serve_once<R: Threads + Wait + Sync>(
     rt: &R,
     alloc: Global,
@@ -88,6 +92,7 @@ fn serve_once<R: Threads + Wait + Sync>(
     gate: HeldGate<'_>,
     readers: &[Wire],
     editors: &[Wire],
+    previews: &[Wire],
 ) -> Result<Site<Made>, Fail> {
     if !site.at_rest() {
         return Err(Fail::new("a request is under way"));
@@ -95,15 +100,24 @@ fn serve_once<R: Threads + Wait + Sync>(
     let listeners = Listeners {
         readers: WireAccept::new(rt, alloc, readers),
         editors: WireAccept::new(rt, alloc, editors),
+        previews: if previews.is_empty() {
+            None
+        } else {
+            Some(WireAccept::new(rt, alloc, previews))
+        },
     };
     let talks = Talks {
         readers: Pages {
             alloc,
-            role: Role::Reader,
+            audience: Audience::Readers,
         },
         editors: Pages {
             alloc,
-            role: Role::Both,
+            audience: Audience::Editors,
+        },
+        previews: Pages {
+            alloc,
+            audience: Audience::Previews,
         },
     };
     let clocks = StillClock { moment: 0 };

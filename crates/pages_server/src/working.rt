@@ -109,6 +109,70 @@ pub fn both<R: Threads + Wait + Sync, A: Accept + Sync, H: Handler + Sync>(
     )
 }
 
+/// Workers of three listeners at the same time. They come back once the rounds of all are over.
+pub fn three<R: Threads + Wait + Sync, A: Accept + Sync, H: Handler + Sync>(
+    rt: &R,
+    front: (&A, &H, Vec<Served<H::Token, A::Closing>>),
+    middle: (&A, &H, Vec<Served<H::Token, A::Closing>>),
+    back: (&A, &H, Vec<Served<H::Token, A::Closing>>),
+) -> (
+    Vec<Served<H::Token, A::Closing>>,
+    Vec<Served<H::Token, A::Closing>>,
+    Vec<Served<H::Token, A::Closing>>,
+)
+    requires front_fits { All (λ served. H.fits front.1.now served.token) front.2.items }
+    requires front_open { All (λ served. served.closing ≡ None) front.2.items }
+    requires middle_fits { All (λ served. H.fits middle.1.now served.token) middle.2.items }
+    requires middle_open { All (λ served. served.closing ≡ None) middle.2.items }
+    requires back_fits { All (λ served. H.fits back.1.now served.token) back.2.items }
+    requires back_open { All (λ served. served.closing ≡ None) back.2.items }
+    ensures front_fits { All (λ served. H.fits front.entry.1.now served.token) result.0.items }
+    ensures front_numbers { map (λ served. H.number served.token) result.0.items
+        ≡ map (λ served. H.number served.token) front.entry.2.items }
+    ensures middle_fits { All (λ served. H.fits middle.entry.1.now served.token) result.1.items }
+    ensures middle_numbers { map (λ served. H.number served.token) result.1.items
+        ≡ map (λ served. H.number served.token) middle.entry.2.items }
+    ensures back_fits { All (λ served. H.fits back.entry.1.now served.token) result.2.items }
+    ensures back_numbers { map (λ served. H.number served.token) result.2.items
+        ≡ map (λ served. H.number served.token) back.entry.2.items }
+{
+    let (front_listener, front_handler, front_tokens) = front;
+    let (rest_listener, rest_handler, rest_tokens) = middle;
+    let (back_listener, back_handler, back_tokens) = back;
+    let (front, (middle, back)) = join(
+        rt,
+        move || -> Vec<Served<H::Token, A::Closing>>
+            requires { All (λ served. H.fits front_handler.now served.token) front_tokens.items × All
+                (λ served. served.closing ≡ None) front_tokens.items }
+            ensures { All (λ served. H.fits front_handler.entry.now served.token) result.items ×
+                (map (λ served. H.number served.token) result.items
+                ≡ map (λ served. H.number served.token) front_tokens.items) }
+        { at_work(rt, front_listener, front_handler, front_tokens) },
+        move || -> (
+            Vec<Served<H::Token, A::Closing>>,
+            Vec<Served<H::Token, A::Closing>>,
+        )
+            requires { All (λ served. H.fits rest_handler.now served.token) rest_tokens.items × All
+                (λ served. served.closing ≡ None) rest_tokens.items × All
+                (λ served. H.fits back_handler.now served.token) back_tokens.items × All
+                (λ served. served.closing ≡ None) back_tokens.items }
+            ensures { All (λ served. H.fits rest_handler.entry.now served.token) result.0.items ×
+                (map (λ served. H.number served.token) result.0.items
+                ≡ map (λ served. H.number served.token) rest_tokens.items) × All
+                (λ served. H.fits back_handler.entry.now served.token) result.1.items ×
+                (map (λ served. H.number served.token) result.1.items
+                ≡ map (λ served. H.number served.token) back_tokens.items) }
+        {
+            both(
+                rt,
+                (rest_listener, rest_handler, rest_tokens),
+                (back_listener, back_handler, back_tokens),
+            )
+        },
+    );
+    (front, middle, back)
+}
+
 // The workers once the round of their listener is over.
 fn at_work<R: Threads + Wait + Sync, A: Accept + Sync, H: Handler + Sync>(
     rt: &R,

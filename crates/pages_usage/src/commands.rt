@@ -45,6 +45,7 @@ fn serve<'a>(alloc: Global) -> Result<Command<'a>, AllocError> {
         .about("Serves a site at 127.0.0.1, to readers and to editors")
         .arg(option(alloc, "port", "P", "The readers' port").required(true))?
         .arg(option(alloc, "editor-port", "E", "The editors' port").required(true))?
+        .arg(option(alloc, "preview-port", "V", "Where drafts are shown"))?
         .arg(option(alloc, "workers", "W", "How many readers at once, up to 63").required(true))?
         .arg(option(
             alloc,

@@ -1,5 +1,5 @@
 -- The words of the command `serve`, and what they say.
-use Rattle.std.specs.Prelude.{ℕ, ◌≤◌, ◌==◌, ◌&&◌, List, [], ◌∷◌, codes, nat_le, replicate, Option, Some, None, IfSome, if◌then◌else◌}
+use Rattle.std.specs.Prelude.{ℕ, ◌≤◌, ◌==◌, ◌&&◌, ◌||◌, Bool, List, [], ◌∷◌, codes, nat_le, nat_lt, is_none, replicate, Option, Some, None, IfSome, if◌then◌else◌}
 use Rattle.std.specs.Option.{option_and_then}
 use Rattle.std.specs.Result.{result_ok}
 use Rattle.std.specs.Str.{bytes_eq}
@@ -12,7 +12,7 @@ use Rattle.site_words.specs.declared.limits.TheConstants.{IDLE_SECONDS}
 
 -- no option was read yet
 abbrev pub nothing_given : Given
-nothing_given = record { port = None; editor_port = None; workers = None; seed = None; idle = None; round = None; editor_round = None }
+nothing_given = record { port = None; editor_port = None; preview_port = None; workers = None; seed = None; idle = None; round = None; editor_round = None }
 
 -- the number that a text writes, where it is from one to the most
 abbrev pub number_up_to : (most : ℕ) → List ℕ → Option ℕ
@@ -36,6 +36,7 @@ abbrev pub with_option : (name value : List ℕ) → Given → Option Given
 with_option name value g =
     if bytes_eq name (codes "--port") then option_and_then (λ n. Some (record g { port = Some n })) (once g.port (number_up_to 65535 value))
     else if bytes_eq name (codes "--editor-port") then option_and_then (λ n. Some (record g { editor_port = Some n })) (once g.editor_port (number_up_to 65535 value))
+    else if bytes_eq name (codes "--preview-port") then option_and_then (λ n. Some (record g { preview_port = Some n })) (once g.preview_port (number_up_to 65535 value))
     else if bytes_eq name (codes "--workers") then option_and_then (λ n. Some (record g { workers = Some n })) (once g.workers (number_up_to 63 value))
     else if bytes_eq name (codes "--seed") then option_and_then (λ s. Some (record g { seed = Some s })) (once g.seed (seed_in value))
     else if bytes_eq name (codes "--idle") then option_and_then (λ n. Some (record g { idle = Some n })) (once g.idle (number_up_to 1000000000 value))
@@ -80,12 +81,25 @@ rounds_of None None = Some None
 rounds_of (Some readers) (Some editors) = Some (Some (record { readers = readers; editors = editors }))
 rounds_of readers editors = None
 
+-- whether previews can stand with the rest: they take one of the workers, and there are no rounds
+abbrev pub stand_together : Settings → Bool
+stand_together s = is_none s.preview_port || (nat_lt s.workers 63 && is_none s.rounds)
+
+-- one where something was said, else none
+abbrev pub count_of : Option ℕ → ℕ
+count_of None = 0
+count_of (Some said) = 1
+
 -- three options have to stand there
-abbrev pub settings_of : Given → Option Settings
-settings_of g =
+abbrev pub all_said : Given → Option Settings
+all_said g =
     option_and_then (λ port. option_and_then (λ editor_port. option_and_then (λ workers. option_and_then (λ rounds.
-    Some (record { port = port; editor_port = editor_port; workers = workers; seed = or_else (replicate 32 0) g.seed; idle = or_else IDLE_SECONDS g.idle; rounds = rounds }))
+    Some (record { port = port; editor_port = editor_port; preview_port = g.preview_port; workers = workers; seed = or_else (replicate 32 0) g.seed; idle = or_else IDLE_SECONDS g.idle; rounds = rounds }))
     (rounds_of g.round g.editor_round)) g.workers) g.editor_port) g.port
+
+-- and all have to stand together
+abbrev pub settings_of : Given → Option Settings
+settings_of g = option_and_then (λ settings. if stand_together settings then Some settings else None) (all_said g)
 
 -- how the words ask to serve: they are `serve` and options
 abbrev pub settings_asked : List (List ℕ) → Option Settings

@@ -1,5 +1,5 @@
-ghost use Rattle.std.specs.Prelude.{◌≡◌, ◌≤◌, ◌<◌, map, string_bytes, IfSome, length, option_map};
-ghost use Rattle.serve_words.specs.Words.{FewWorkers, nothing_given, number_up_to, once, read, rounds_of, seed_in, settings_asked, settings_of, split_at_equals, with_option};
+ghost use Rattle.std.specs.Prelude.{◌≡◌, ◌≤◌, ◌<◌, ◌+◌, map, string_bytes, IfSome, length, option_map};
+ghost use Rattle.serve_words.specs.Words.{FewWorkers, all_said, count_of, nothing_given, number_up_to, once, read, rounds_of, seed_in, settings_asked, settings_of, split_at_equals, stand_together, with_option};
 
 use crate::given::Given;
 use crate::setting::{Rounds, Settings};
@@ -19,6 +19,7 @@ const MOST_ROUND: u64 = 1_000_000;
 pub fn settings_asked(words: &[String]) -> Option<Settings>
     ensures value { result ≡ settings_asked (map string_bytes words.now) }
     ensures workers { IfSome result (λ settings. (1 ≤ settings.workers) × (settings.workers ≤ 63)) }
+    ensures previews { IfSome result (λ settings. settings.workers + count_of settings.preview_port ≤ 63) }
 {
     match words {
         [word, options @ ..] if word.as_str() == "serve" => {
@@ -36,6 +37,7 @@ fn nothing_given() -> Given
     Given {
         port: None,
         editor_port: None,
+        preview_port: None,
         workers: None,
         seed: None,
         idle: None,
@@ -83,6 +85,8 @@ fn with_option(name: &[u8], value: &[u8], mut given: Given) -> Option<Given>
         given.port = Some(once(given.port, port_in(value))?);
     } else if name == b"--editor-port".as_slice() {
         given.editor_port = Some(once(given.editor_port, port_in(value))?);
+    } else if name == b"--preview-port".as_slice() {
+        given.preview_port = Some(once(given.preview_port, port_in(value))?);
     } else if name == b"--workers".as_slice() {
         given.workers = Some(once(given.workers, workers_in(value))?);
     } else if name == b"--seed".as_slice() {
@@ -165,18 +169,40 @@ fn rounds_of(readers: Option<u32>, editors: Option<u32>) -> Option<Option<Rounds
     }
 }
 
-// How options ask to serve: three have to stand there.
+// How options ask to serve: three have to stand there, and all can stand together.
 fn settings_of(given: &Given) -> Option<Settings>
     requires { FewWorkers given.now }
     ensures value { result ≡ settings_of given.now }
+    ensures workers { IfSome result (λ settings. (1 ≤ settings.workers) × (settings.workers ≤ 63)) }
+    ensures previews { IfSome result (λ settings. settings.workers + count_of settings.preview_port ≤ 63) }
+{
+    let settings = all_said(given)?;
+    if !stand_together(&settings) {
+        return None;
+    }
+    Some(settings)
+}
+
+// What options say, where the three that have to stand there do.
+fn all_said(given: &Given) -> Option<Settings>
+    requires { FewWorkers given.now }
+    ensures value { result ≡ all_said given.now }
     ensures workers { IfSome result (λ settings. (1 ≤ settings.workers) × (settings.workers ≤ 63)) }
 {
     Some(Settings {
         port: given.port?,
         editor_port: given.editor_port?,
+        preview_port: given.preview_port,
         workers: given.workers?,
         seed: given.seed.unwrap_or([0; 32]),
         idle: given.idle.unwrap_or(IDLE_SECONDS),
         rounds: rounds_of(given.round, given.editor_round)?,
     })
+}
+
+// Whether previews can stand with the rest: they take one of the workers, and there are no rounds.
+fn stand_together(settings: &Settings) -> bool
+    ensures { result ≡ stand_together settings.now }
+{
+    settings.preview_port.is_none() || (settings.workers < 63 && settings.rounds.is_none())
 }

@@ -3,6 +3,9 @@
 pub struct Settings {
     pub port: u16,
     pub editor_port: u16,
+
+    /// Where drafts are shown, if anywhere.
+    pub preview_port: Option<u16>,
     pub workers: u8,
     pub seed: [u8; 32],
     pub idle: u64,

@@ -17,13 +17,18 @@ all_left P left rest x next holds =
 pub all_made : {X : Type 0} (P : X → Type 0) (old new : List X) (x : X) → new ≡ old ++ x ∷ [] → All P old → P x → All P new
 all_made P old new x added holds more = subst (All P) (sym added) (All-append P old (x ∷ []) holds (λ k d low. search (rules, more)))
 
--- what was made of the items that are done
-pub made_of : {X Y : Type 0} (f : X → Y) (done : List X) (old new : List Y) (x : X) (y : Y) → new ≡ old ++ y ∷ [] → old ≡ map f done → y ≡ f x → new ≡ map f (done ++ x ∷ [])
-made_of f done old new x y added same is = added ∙ ap (λ l. l ++ y ∷ []) same ∙ ap (λ z. map f done ++ z ∷ []) is ∙ sym (map-append f done (x ∷ []))
+-- what was made of the items that are done stands behind what was there
+pub made_of : {X Y : Type 0} (f : X → Y) (done : List X) (before old new : List Y) (x : X) (y : Y) → new ≡ old ++ y ∷ [] → old ≡ before ++ map f done → y ≡ f x → new ≡ before ++ map f (done ++ x ∷ [])
+made_of f done before old new x y added same is =
+    added ∙ ap (λ l. l ++ y ∷ []) same ∙ append_assoc before (map f done) (y ∷ []) ∙ ap (λ l. before ++ l) (ap (λ z. map f done ++ z ∷ []) is ∙ sym (map-append f done (x ∷ [])))
 
--- lists of which one thing is the same are as long
-pub as_many : {X Y : Type 0} (f : X → Y) (a b : List X) → map f a ≡ map f b → length a ≡ length b
-as_many f a b same = sym (length-map a f) ∙ ap length same ∙ length-map b f
+-- there are as many as those that they were made of, where one thing of each is as it was
+pub as_many : {X Y Z : Type 0} (f : X → Y) (g : X → Z) (after before : List X) (from : List Z) → map f after ≡ map f before → map g before ≡ from → length after ≡ length from
+as_many f g after before from same made = sym (length-map after f) ∙ ap length same ∙ length-map before f ∙ sym (length-map before g) ∙ ap length made
+
+-- a list is longer by what was put behind it
+pub longer_by : {X Y : Type 0} (f : X → Y) (old new : List Y) (more : List X) → new ≡ old ++ map f more → length new ≡ length old + length more
+longer_by f old new more added = ap length added ∙ length-append old (map f more) ∙ ap (λ n. length old + n) (length-map more f)
 
 -- fewer were made than there are items, while one is left
 pub fewer : {X Y : Type 0} (f : Y → X) (made : List Y) (done left rest all : List X) (x : X) → map f made ≡ done → left ≡ x ∷ rest → done ++ left ≡ all → length made < length all
@@ -33,10 +38,10 @@ fewer f made done left rest all x same next split =
     let whole : length done + length left ≡ length all = sym (length-append done left) ∙ ap length split in
     omega (arith, as_many, some, whole)
 
--- the same where they are known by what they were made of
-pub fewer_made : {X Y : Type 0} (f : X → Y) (done left rest all : List X) (x : X) (made : List Y) → made ≡ map f done → left ≡ x ∷ rest → done ++ left ≡ all → length made < length all
-fewer_made f done left rest all x made same next split =
-    let as_many : length made ≡ length done = ap length same ∙ length-map done f in
+-- the same where they are known by what they were made of, behind what was there
+pub fewer_made : {X Y : Type 0} (f : X → Y) (done left rest all : List X) (x : X) (before made : List Y) → made ≡ before ++ map f done → left ≡ x ∷ rest → done ++ left ≡ all → length made < length before + length all
+fewer_made f done left rest all x before made same next split =
+    let as_many : length made ≡ length before + length done = longer_by f before made done same in
     let some : length left ≡ length (x ∷ rest) = ap length next in
     let whole : length done + length left ≡ length all = sym (length-append done left) ∙ ap length split in
     omega (arith, as_many, some, whole)

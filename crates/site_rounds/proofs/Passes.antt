@@ -1,5 +1,5 @@
 -- The passes of a shared site at the beginning of a round and at its end.
-use Rattle.std.proofs.Common.{◌≡◌, ℕ, ◌+◌, ◌<◌, List, [], ◌∷◌, ◌++◌, None, get_or, map, All, refl, sym, ap, subst, ◌∙◌, arith}
+use Rattle.std.proofs.Common.{◌≡◌, ℕ, ◌+◌, ◌<◌, List, [], ◌∷◌, ◌++◌, None, get_or, map, All, refl, sym, ap, subst, take, drop, take-append-drop, ◌∙◌, arith}
 use Rattle.std.proofs.lemmas.List.{map-append}
 use Rattle.std.specs.List.{range_with_len}
 use Rattle.std.specs.Prelude.{Contains}
@@ -40,11 +40,13 @@ pub are_free : (turns : Origin Opening) (passes : List (Known Opening Entry)) �
 are_free turns passes ready k d low = (ready k d low).1.1
 
 -- a pass that is idle on one site is so on the same, however it is named
-pub at_home : (turns home : Origin Opening) (number : ℕ) (seen : List Entry) → home ≡ turns → IsIdle turns.opening number seen → (home ≡ turns) × IsIdle home.opening number seen
-at_home turns home number seen same idle = (same, subst (λ (t : Origin Opening). IsIdle t.opening number seen) (sym same) idle)
+pub at_home : (turns home named : Origin Opening) (number : ℕ) (seen : List Entry) → named ≡ turns → home ≡ turns → IsIdle turns.opening number seen → (home ≡ named) × IsIdle home.opening number seen
+at_home turns home named number seen naming same idle = (same ∙ sym naming, subst (λ (t : Origin Opening). IsIdle t.opening number seen) (sym same) idle)
 
-pub from_home : (turns home : Origin Opening) (number : ℕ) (seen : List Entry) → (home ≡ turns) × IsIdle home.opening number seen → (home ≡ turns) × IsIdle turns.opening number seen
-from_home turns home number seen is = (is.0, subst (λ (t : Origin Opening). IsIdle t.opening number seen) is.0 is.1)
+pub from_home : (turns home named : Origin Opening) (number : ℕ) (seen : List Entry) → named ≡ turns → (home ≡ named) × IsIdle home.opening number seen → (home ≡ turns) × IsIdle turns.opening number seen
+from_home turns home named number seen naming is =
+    let same : home ≡ turns = is.0 ∙ naming in
+    (same, subst (λ (t : Origin Opening). IsIdle t.opening number seen) same is.1)
 
 numbers_through : {W : Type 0} (pass : W → Known Opening Entry) (workers : List W) → numbers_of (map pass workers) ≡ map (λ w. (pass w).number) workers
 numbers_through pass [] = refl
@@ -58,3 +60,16 @@ kept_numbers pass before after old new from kept made = ap numbers_of made ∙ n
 pub joined : (a b front back all : List (Known Opening Entry)) → numbers_of a ≡ numbers_of front → numbers_of b ≡ numbers_of back → front ++ back ≡ all → numbers_of (a ++ b) ≡ numbers_of all
 joined a b front back all first second whole =
     map-append (λ (pass : Known Opening Entry). pass.number) a b ∙ ap (λ l. l ++ numbers_of b) first ∙ ap (λ l. numbers_of front ++ l) second ∙ sym (map-append (λ (pass : Known Opening Entry). pass.number) front back) ∙ ap numbers_of whole
+
+-- and so does a list that is gathered from three parts
+pub gathered : (a b c front middle back all start one two three : List (Known Opening Entry)) → start ≡ [] → one ≡ start ++ a → two ≡ one ++ b → three ≡ two ++ c → numbers_of a ≡ numbers_of front → numbers_of b ≡ numbers_of middle → numbers_of c ≡ numbers_of back → (front ++ middle) ++ back ≡ all → numbers_of three ≡ numbers_of all
+gathered a b c front middle back all start one two three none from_start from_one from_two first second third whole =
+    let begun : numbers_of one ≡ numbers_of front = ap numbers_of (from_start ∙ ap (λ l. l ++ a) none) ∙ first in
+    let gone_on : numbers_of two ≡ numbers_of (front ++ middle) = ap numbers_of from_one ∙ joined one b front middle (front ++ middle) begun second refl in
+    ap numbers_of from_two ∙ joined two c (front ++ middle) back all gone_on third whole
+
+-- a list that was cut twice
+pub cut_twice : {X : Type 0} (front middle kept back all : List X) (n m : ℕ) → front ≡ take n kept → middle ≡ drop n kept → kept ≡ take m all → back ≡ drop m all → (front ++ middle) ++ back ≡ all
+cut_twice front middle kept back all n m f r k b =
+    let low : front ++ middle ≡ kept = rw (f, r) (take-append-drop n kept) in
+    ap (λ l. l ++ back) low ∙ rw (k, b) (take-append-drop m all)

@@ -1,11 +1,11 @@
-ghost use Rattle.std.specs.Prelude.{◌≡◌, ◌≤◌, ◌<◌, [], All, IfOk, None, length, map, vec_capacity};
+ghost use Rattle.std.specs.Prelude.{◌≡◌, ◌≤◌, ◌<◌, ◌+◌, ◌++◌, [], All, IfOk, None, length, map, vec_capacity};
 ghost use Rattle.site_words.specs.Invariants.{AllRest};
 ghost use Rattle.pass_course.specs.Course.{IsIdle};
 ghost use Rattle.site_rounds.specs.Ready.{IsReady, numbers_of};
 
 use crate::{PortHandler, Talk};
 use edges::{Accept, Clocks, Gate};
-use pages_server::{Served, both};
+use pages_server::{Served, three};
 use site_core::Site;
 use site_shared::{SharedPort, SharedSite, SitePasses, into_pass, start};
 use site_words::Compiled;
@@ -14,25 +14,27 @@ use std::marker::PhantomData;
 use std::sync::Wait;
 use std::thread::Threads;
 
-/// Where readers come in, and where editors do.
+/// Where readers come in, where editors do, and where drafts are shown, if anywhere.
 #[derive(Drop)]
 pub struct Listeners<A> {
     pub readers: A,
     pub editors: A,
+    pub previews: Option<A>,
 }
 
-/// How readers are answered, and how editors are.
+/// How readers are answered, how editors are, and how drafts are shown.
 #[derive(Drop)]
 pub struct Talks<T> {
     pub readers: T,
     pub editors: T,
+    pub previews: T,
 }
 
 /// A worker of the site: the port of a pass, and the mark that the round was over.
 pub type Worker<'a, P, G, R, E> = Served<SharedPort<'a, P, G, R>, E>;
 
-/// Serves one round of both listeners, each pass of the site in a thread: the last for editors, one connection after the other, the
-/// others for readers. Where there is no memory the site is dropped.
+/// Serves one round of all listeners, each pass of the site in a thread: the last for previews, where there are any, the one before it
+/// for editors, one connection after the other, and the others for readers. Where there is no memory the site is dropped.
 pub fn round<
     P: Compiled + Send + Sync,
     R: Threads + Wait + Sync,
@@ -82,37 +84,46 @@ fn served<
     ensures ready { IfOk result (λ after. All (IsReady site.now) after.items) }
     ensures numbers { IfOk result (λ after. numbers_of after.items ≡ numbers_of passes.items) }
 {
-    let last = passes.len() - 1;
-    let editor = passes.split_off(last)?;
+    let previewing = passes.split_off(passes.len() - usize::from(listeners.previews.is_some()))?;
+    let editing = passes.split_off(passes.len().saturating_sub(1))?;
     let mut readers = Vec::with_capacity(alloc, passes.len())?;
-    let mut editors = Vec::with_capacity(alloc, editor.len())?;
-    let mut all = Vec::with_capacity(alloc, passes.len() + editor.len())?;
-    let mut rest = Vec::with_capacity(alloc, editor.len())?;
+    let mut editors = Vec::with_capacity(alloc, editing.len())?;
+    let mut previews = Vec::with_capacity(alloc, previewing.len())?;
+    let mut after = Vec::with_capacity(alloc, passes.len() + editing.len() + previewing.len())?;
     seat(rt, site, passes, &mut readers);
-    seat(rt, site, editor, &mut editors);
-    let for_readers = PortHandler {
-        site,
-        talk: &talks.readers,
-        clocks,
-        turns: PhantomData,
-    };
-    let for_editors = PortHandler {
-        site,
-        talk: &talks.editors,
-        clocks,
-        turns: PhantomData,
-    };
-    let (readers, editors) = both(
+    seat(rt, site, editing, &mut editors);
+    seat(rt, site, previewing, &mut previews);
+    let for_readers = handler_of(site, &talks.readers, clocks);
+    let for_editors = handler_of(site, &talks.editors, clocks);
+    let for_previews = handler_of(site, &talks.previews, clocks);
+    // Where no drafts are shown, no worker is behind the third.
+    let third = listeners.previews.as_ref().unwrap_or(&listeners.editors);
+    let (readers, editors, previews) = three(
         rt,
         (&listeners.readers, &for_readers, readers),
         (&listeners.editors, &for_editors, editors),
+        (third, &for_previews, previews),
     );
-    collect(site, readers, &mut all);
-    collect(site, editors, &mut rest);
-    let Ok(()) = all.append(&mut rest) else {
-        unreachable!()
-    };
-    Ok(all)
+    collect(site, readers, &mut after);
+    collect(site, editors, &mut after);
+    collect(site, previews, &mut after);
+    Ok(after)
+}
+
+// What answers connections to this site so.
+fn handler_of<'a, P: Compiled, G: Gate + Drop, R, T, W>(
+    site: &'a SharedSite<P, G>,
+    talk: &'a T,
+    clocks: &'a W,
+) -> PortHandler<'a, P, G, R, T, W>
+    ensures { result.site.now ≡ site.now }
+{
+    PortHandler {
+        site,
+        talk,
+        clocks,
+        turns: PhantomData,
+    }
 }
 
 // A worker for each pass, whose round isn't over. There is room for them.
@@ -138,18 +149,18 @@ fn seat<'a, P: Compiled, R: Wait, G: Gate + Drop, E: Drop>(
     }
 }
 
-// The passes of workers of this site. There is room for them.
+// Puts the passes of workers of this site behind those that are there. There is room for them.
 fn collect<'a, P: Compiled, R: Wait, G: Gate + Drop, E: Drop>(
     site: &SharedSite<P, G>,
     workers: Vec<Worker<'a, P, G, R, E>>,
     passes: &mut SitePasses<P>,
 )
+    requires ready { All (IsReady site.now) passes.old.items }
     requires idle { All (λ worker. (worker.token.actor.site.now ≡ site.now) × IsIdle site.now.opening
         worker.token.actor.pass.number worker.token.actor.pass.seen) workers.items }
-    requires empty { passes.old.items ≡ [] }
-    requires room { length workers.items ≤ vec_capacity passes.old }
+    requires room { length passes.old.items + length workers.items ≤ vec_capacity passes.old }
     ensures ready { All (IsReady site.now) passes.new.items }
-    ensures passes { passes.new.items ≡ map (λ worker. worker.token.actor.pass) workers.entry.items }
+    ensures passes { passes.new.items ≡ passes.old.items ++ map (λ worker. worker.token.actor.pass) workers.entry.items }
     ensures room { vec_capacity passes.new ≡ vec_capacity passes.old }
 {
     for worker in workers {

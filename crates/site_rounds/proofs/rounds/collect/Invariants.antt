@@ -10,6 +10,6 @@ invariant-loop-worker g l = record {
   len : into_iter_len l.worker-iterator ≡ length (into_iter_items l.worker-iterator);
   left : All (λ worker. (worker.token.actor.site.now ≡ l.site) × IsIdle l.site.opening worker.token.actor.pass.number worker.token.actor.pass.seen) (into_iter_items l.worker-iterator);
   ready : All (IsReady l.site) l.passes.items;
-  passes : l.passes.items ≡ map (λ worker. worker.token.actor.pass) l.yielded;
+  passes : l.passes.items ≡ l.fn.passes.items ++ map (λ worker. worker.token.actor.pass) l.yielded;
   room : vec_capacity l.passes ≡ vec_capacity l.fn.passes;
 }
