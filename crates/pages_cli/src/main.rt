@@ -1,9 +1,10 @@
-//! The program `pages`: a page container, over standard input and output and over two ports of this machine.
+//! The program `pages`: a page container, over standard input and output and over ports of this machine.
 //!
-//! `pages serve --port P --editor-port E --workers W [--seed HEX] [--idle SECONDS] [--round N --editor-round M]` serves a site without files
-//! at 127.0.0.1: W workers answer readers on P, and one answers editors on E. An option and its value may also stand in one word, as
-//! `--port=80`. With rounds it writes a journal behind each and goes on with an empty one. Its status is 7 where a port can't be had, and 8
-//! where the workers can't have a thread each; otherwise it isn't meant to end.
+//! `pages serve --port P --editor-port E --workers W [--seed HEX] [--idle SECONDS] [--round N --editor-round M]
+//! [--preview-port V]` serves a site without files at 127.0.0.1: W workers answer readers on P, one answers editors on E, and one shows
+//! drafts on V. An option and its value may also stand in one word, as `--port=80`. With rounds it writes a journal behind each and goes on
+//! with an empty one. Its status is 7 where a port can't be had, and 8 where the workers can't have a thread each; otherwise it isn't meant
+//! to end.
 //! `pages play [--seed HEX]` answers the requests that it reads from standard input, and writes the answers to standard output. Its
 //! status is 0 where the input ended between requests, a request asked to close, a response broke off or 65,536 requests were answered, 2 where
 //! the input shows a fault. `pages contexts NAMES [--seed HEX]` does the same over several sites, whose names, joined by commas, begin the
@@ -17,13 +18,7 @@
 #![tactic(auto)]
 
 ghost use Rattle.std.specs.Prelude.{◌≡◌, ◌≢◌, ◌<◌, None, map, string_bytes};
-ghost use Rattle.context_talk.specs.Contexts.{asked as contexts_asked};
-ghost use Rattle.pages_check.specs.Words.{path_asked};
-ghost use Rattle.pages_cli.specs.Words.{first_is};
-ghost use Rattle.pages_load.specs.Load.{number_asked};
-ghost use Rattle.pages_record.specs.Words.{record_asked};
-ghost use Rattle.pages_talk.specs.Play.{seed_asked};
-ghost use Rattle.preview.specs.Play.{seed_asked as preview_asked};
+ghost use Rattle.pages_cli.specs.Words.{AsksNothing, first_of};
 ghost use Rattle.serve_words.specs.Words.{settings_asked};
 
 use context_talk::play_contexts;
@@ -65,7 +60,7 @@ fn main(rt: HostRuntime) -> ExitCode {
 
 // Whether this is the only word.
 fn is_alone(words: &[String], name: &str) -> bool {
-    words.len() == 1 && first_is(words, name)
+    words.len() == 1 && first(words) == name
 }
 
 // Says on standard output how the commands are called, and answers the status.
@@ -120,63 +115,23 @@ fn run<N: Ledger, R: Threads + Wait + Sync>(
     requires name { blank.name ≡ N.name }
     requires parts { blank.parts ≡ N.parts }
     requires some { 0 < N.parts }
-    ensures refused { seed_asked (map string_bytes words.now) ≡ None →
-        path_asked (map string_bytes words.now) ≡ None → number_asked (map string_bytes words.now)
-        ≡ None → settings_asked (map string_bytes words.now) ≡ None →
-        preview_asked (map string_bytes words.now) ≡ None →
-        record_asked (map string_bytes words.now) ≡ None → contexts_asked (map string_bytes words.now)
-        ≡ None → result ≢ 5 → result ≡ 1 }
-    ensures only_refused { result ≡ 1 → (seed_asked (map string_bytes words.now) ≡ None) ×
-        (path_asked (map string_bytes words.now) ≡ None) × (number_asked (map string_bytes words.now)
-        ≡ None) × (settings_asked (map string_bytes words.now) ≡ None) ×
-        (preview_asked (map string_bytes words.now) ≡ None) ×
-        (record_asked (map string_bytes words.now) ≡ None) × (contexts_asked (map string_bytes words.now)
-        ≡ None) }
+    ensures refused { AsksNothing (map string_bytes words.now) → result ≢ 5 → result ≡ 1 }
+    ensures only_refused { result ≡ 1 → AsksNothing (map string_bytes words.now) }
 {
+    let alloc = rt.alloc();
     let mut source = ReadSource::new(rt.reader());
     let mut sink = WriteSink::new(io::writer(rt));
-    let mut steps = Steps::<Unseen<N>>::unseen(blank);
-    if first_is(words, "check") {
-        return check(rt.alloc(), words, &mut source, &mut sink, &mut steps);
-    }
-    if first_is(words, "load") {
-        return load(rt.alloc(), words, &mut sink, &mut steps);
-    }
-    if first_is(words, "serve") {
-        return served(rt, threads, words);
-    }
-    if first_is(words, "preview") {
-        return preview_play(rt.alloc(), words, &mut source, &mut sink, &mut steps);
-    }
     let mut clock = WallClock::new(rt);
-    if first_is(words, "record") {
-        return play_record(
-            rt.alloc(),
-            words,
-            &mut source,
-            &mut sink,
-            &mut clock,
-            &mut steps,
-        );
+    let mut steps = Steps::<Unseen<N>>::unseen(blank);
+    match first(words) {
+        "check" => check(alloc, words, &mut source, &mut sink, &mut steps),
+        "contexts" => play_contexts(alloc, words, &mut source, &mut sink, &mut clock, &mut steps),
+        "load" => load(alloc, words, &mut sink, &mut steps),
+        "preview" => preview_play(alloc, words, &mut source, &mut sink, &mut steps),
+        "record" => play_record(alloc, words, &mut source, &mut sink, &mut clock, &mut steps),
+        "serve" => served(rt, threads, words),
+        _ => play(alloc, words, &mut source, &mut sink, &mut clock, &mut steps),
     }
-    if first_is(words, "contexts") {
-        return play_contexts(
-            rt.alloc(),
-            words,
-            &mut source,
-            &mut sink,
-            &mut clock,
-            &mut steps,
-        );
-    }
-    play(
-        rt.alloc(),
-        words,
-        &mut source,
-        &mut sink,
-        &mut clock,
-        &mut steps,
-    )
 }
 
 // Serves over TCP, says on standard error where, and writes the journals of rounds to standard output.
@@ -195,12 +150,12 @@ fn served<R: Threads + Wait + Sync>(rt: &HostRuntime, threads: &R, words: &[Stri
     )
 }
 
-// Whether this is the first word.
-fn first_is(words: &[String], name: &str) -> bool
-    ensures { result ≡ first_is name.now (map string_bytes words.now) }
+// The first word, or an empty text where there is none.
+fn first(words: &[String]) -> &str
+    ensures { result.now ≡ first_of (map string_bytes words.now) }
 {
     match words {
-        [word, ..] => word.as_str() == name,
-        [] => false,
+        [word, ..] => word.as_str(),
+        [] => "",
     }
 }
