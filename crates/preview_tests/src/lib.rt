@@ -1,0 +1,7 @@
+//! Tests of previews.
+#![tactic(auto)]
+
+#[cfg(test)]
+mod live;
+#[cfg(test)]
+mod played;
