@@ -1,5 +1,5 @@
 -- Connections that are recorded one after the other.
-use Rattle.std.proofs.Common.{◌≡◌, ◌≤◌, ◌<◌, ℕ, List, [], ◌∷◌, ◌++◌, Option, Some, None, refl, sym, ap, subst, ◌∙◌, append_assoc, append-nil, arith, length}
+use Rattle.std.proofs.Common.{◌≡◌, ◌≤◌, ◌<◌, ℕ, false, List, [], ◌∷◌, ◌++◌, Option, Some, None, refl, sym, ap, subst, ◌∙◌, append_assoc, append-nil, arith, length}
 use Rattle.std.specs.Io.KnownBytes.{Appends}
 use Rattle.edges.proofs.ToldBytes.{appends_both, appends_none}
 use Rattle.edges.specs.Clock.{Moments}
@@ -16,7 +16,7 @@ use Rattle.pages_record.specs.declared.recorded.Recorded.{Recorded}
 use Rattle.pages_record.specs.declared.recorded.Recorded.TheVariants.{Done, NotListed, ReadFault, WriteFault, NoMemory}
 use Rattle.pages_talk.specs.Play.{only_connection}
 use Rattle.pass_course.specs.Course.{IsIdle}
-use Rattle.rollover.specs.Roll.{IsCutShort, IsRolled, IsUnrolled, goes_on_as}
+use Rattle.rollover.specs.Roll.{IsCutShort, IsRolled, IsUnrolled, goes_on_as, is_spent}
 use Rattle.site_core.specs.Lived.{Lived}
 use Rattle.site_journal.specs.Journal.{journal, rolled}
 use Rattle.site_journal.specs.declared.talk.Talk.{Talk}
@@ -74,14 +74,14 @@ talked site before now done talk start still draft bytes gone answers later firs
     }
 
 recorded : (site : Lived) (talk : Talk) (bytes : List ℕ) (steps now : ℕ) → talk.bytes ≡ bytes → IsTalked site.opening site.history talk steps now → Legal needs_at site.opening (rolled site.history)
-    → IsRecorded site.opening bytes steps now (goes_on_as needs_at site) (journal site.opening (rolled site.history) (Some talk))
-recorded site talk bytes steps now same talked legal = record { history = site.history; talk = talk; bytes_are = same; talked = talked; is_legal = legal; goes_on = refl; text_is = refl }
+    → is_spent (goes_on_as needs_at site) ≡ false → IsRecorded site.opening bytes steps now (goes_on_as needs_at site) (journal site.opening (rolled site.history) (Some talk))
+recorded site talk bytes steps now same talked legal room = record { history = site.history; talk = talk; bytes_are = same; talked = talked; is_legal = legal; goes_on = refl; room = room; text_is = refl }
 
 goes_on_from : (site next : Lived) (talk : Talk) (bytes : List ℕ) (old new : Option (List ℕ)) (steps now : ℕ) → site.opening.passes ≡ 1 → talk.bytes ≡ bytes → IsTalked site.opening site.history talk steps now
     → IsRolled needs_at site next (Some talk) old new → GoesOn site.opening bytes old new steps now next
 goes_on_from site next talk bytes old new steps now one same talked is = record {
   text = journal site.opening (rolled site.history) (Some talk);
-  recorded = subst (λ x. IsRecorded site.opening bytes steps now x (journal site.opening (rolled site.history) (Some talk))) (sym is.opening) (recorded site talk bytes steps now same talked is.is_legal);
+  recorded = subst (λ x. IsRecorded site.opening bytes steps now x (journal site.opening (rolled site.history) (Some talk))) (sym is.opening) (recorded site talk bytes steps now same talked is.is_legal is.room);
   written = is.written;
   one = ap (λ (x : Opening). x.passes) is.opening ∙ one;
   at_start = is.history;
@@ -98,7 +98,7 @@ pub breaks_off : (x : Opening) (site next : Lived) (talk : Talk) (bytes : List �
 breaks_off x site next talk bytes old new before risen steps now here same talked is = record {
   text = journal site.opening (rolled site.history) (Some talk);
   next = goes_on_as needs_at site;
-  recorded = subst (λ y. IsRecorded y bytes steps now (goes_on_as needs_at site) (journal site.opening (rolled site.history) (Some talk))) here (recorded site talk bytes steps now same talked is.is_legal);
+  recorded = subst (λ y. IsRecorded y bytes steps now (goes_on_as needs_at site) (journal site.opening (rolled site.history) (Some talk))) here (recorded site talk bytes steps now same talked is.is_legal is.room);
   sent = is.sent;
   rose = is.rose;
 }

@@ -1,5 +1,5 @@
 -- What the command `record` writes.
-use Rattle.std.specs.Prelude.{◌≡◌, ◌≤◌, ℕ, List, [], ◌∷◌, ◌++◌, length, Option, Some, None}
+use Rattle.std.specs.Prelude.{◌≡◌, ◌≤◌, ℕ, false, List, [], ◌∷◌, ◌++◌, length, Option, Some, None}
 use Rattle.std.specs.Io.KnownBytes.{Appends, Consumes}
 use Rattle.connection_list.specs.List.{BeginsWith, IsListOf, first_connection}
 use Rattle.conversation.specs.Conversation.{Tells}
@@ -13,6 +13,7 @@ use Rattle.compiled_pages.specs.Pages.{needs_at}
 use Rattle.pages_record.specs.declared.recorded.Recorded.{Recorded}
 use Rattle.pages_record.specs.declared.recorded.Recorded.TheVariants.{Done, NotListed, ReadFault, WriteFault, NoMemory}
 use Rattle.pages_talk.specs.Play.{only_connection}
+use Rattle.rollover.specs.Roll.{is_spent}
 use Rattle.site_journal.specs.Journal.{journal, rolled}
 use Rattle.site_journal.specs.declared.talk.Talk.{Talk}
 use Rattle.site_words.specs.Law.{Legal}
@@ -51,7 +52,7 @@ pub record IsTalked (x : Opening) (history : List Entry) (talk : Talk) (steps no
   pub end_is : end_number ended ≡ Some talk.ended
   pub tells : Tells (IsSaid (only_connection x)) (IsLeft (only_connection x)) (stand_of [] (standing_of [] start steps)) (stand_of draft (standing_of history still now)) (Some talk.bytes) later before risen (Some []) (Some talk.answers) ended
 
--- a connection to a site with this opening was recorded as this journal, behind which the site goes on with the next opening
+-- a connection to a site with this opening was recorded as this journal, behind which the site goes on with the next opening, no count of which is spent
 pub record IsRecorded (x : Opening) (bytes : List ℕ) (steps now : ℕ) (next : Opening) (text : List ℕ) : Type 0 where
   pub history : List Entry
   pub talk : Talk
@@ -59,6 +60,7 @@ pub record IsRecorded (x : Opening) (bytes : List ℕ) (steps now : ℕ) (next :
   pub talked : IsTalked x history talk steps now
   pub is_legal : Legal needs_at x (rolled history)
   pub goes_on : next ≡ next_opening x (after needs_at x (rolled history))
+  pub room : is_spent next ≡ false
   pub text_is : text ≡ journal x (rolled history) (Some talk)
 
 -- connections were recorded one after the other, each to the site that went on from the one before
