@@ -14,11 +14,11 @@ use std::thread;
 /// The most looks at a word before a thread goes on.
 const LOOKS: u32 = 10_000_000;
 
-/// The pass that asks without a session while four others wait for one.
-const VISITOR: u8 = 5;
+/// The pass that asks without a session while sixty others wait for one.
+const VISITOR: u8 = 61;
 
 /// How many passes then wait.
-const WAITING: u64 = 4;
+const WAITING: u64 = 60;
 
 /// Words that the threads of a meeting look at.
 #[derive(Drop)]
@@ -27,6 +27,8 @@ pub struct Watch {
     pub held: AtomicU64,
     /// How often the passes that wait for the session came to the gate.
     pub tries: AtomicU64,
+    /// How often the visitor without a session came to the gate.
+    pub turns: AtomicU64,
     /// 1 once the visitor without a session was answered.
     pub answered: AtomicU64,
 }
@@ -36,12 +38,14 @@ impl Watch {
         Watch {
             held: AtomicU64::new(0),
             tries: AtomicU64::new(0),
+            turns: AtomicU64::new(0),
             answered: AtomicU64::new(0),
         }
     }
 }
 
-/// A gate that counts how often the passes come to it that wait for the session: those between 0 and the visitor.
+/// A gate that counts how often the visitor comes to it, and how often the passes that wait for the session: those between 0 and
+/// the visitor.
 #[derive(Drop)]
 pub struct Counting<'a> {
     pub watch: &'a Watch,
@@ -49,7 +53,9 @@ pub struct Counting<'a> {
 
 impl<'a> Gate for Counting<'a> {
     fn pass(&self, point: u64) {
-        if point > 0 && point < u64::from(VISITOR) {
+        if point == u64::from(VISITOR) {
+            self.watch.turns.fetch_add(1, Ordering::SeqCst);
+        } else if point > 0 {
             self.watch.tries.fetch_add(1, Ordering::SeqCst);
         }
     }
@@ -62,7 +68,7 @@ pub enum Job {
     Visits(u32),
     /// Pass 0 holds the session until another pass has asked for it.
     Meeting,
-    /// Pass 0 holds the session, for which four passes wait, until another visitor was answered.
+    /// Pass 0 holds the session, for which sixty passes wait, until another visitor was answered.
     Crowd,
 }
 

@@ -37,18 +37,22 @@ fn a_pass_waits_for_a_session_that_is_held(rt: HostRuntime) -> Result<(), Fail> 
     Ok(())
 }
 
-// How often the four passes that wait come to the gate at most: for each of the twelve entries once, and to end.
-const MOST_TRIES: u64 = 52;
+// How often the sixty passes that wait come to the gate at most: for each of the 124 entries once, and to end.
+const MOST_TRIES: u64 = 7_500;
+
+// How often the visitor comes to the gate: to begin, and to end.
+const ITS_TURNS: u64 = 2;
 
 #[test]
-fn another_visitor_is_answered_while_four_passes_wait_for_a_session(
+fn another_visitor_is_answered_while_sixty_passes_wait_for_a_session(
     rt: HostRuntime,
 ) -> Result<(), Fail> {
     let watch = Watch::new();
-    let site = worked(&rt, rt.alloc(), 6, FIRST, Job::Crowd, &watch)?;
+    let site = worked(&rt, rt.alloc(), 62, FIRST, Job::Crowd, &watch)?;
     let lines = visited(rt.alloc(), site, 5)?;
-    let first = "0 begun 1 1 0\n5 begun 2 1 -\n5 dropped\n0 ended\n";
+    let first = "0 begun 1 1 0\n61 begun 2 1 -\n61 dropped\n0 ended\n";
     assert_eq!(rt; lines.as_str().starts_with(first), true);
+    assert_eq!(rt; watch.turns.load(Ordering::SeqCst), ITS_TURNS);
     assert_eq!(rt; watch.tries.load(Ordering::SeqCst) <= MOST_TRIES, true);
     Ok(())
 }
