@@ -11,6 +11,7 @@ use Rattle.site_words.specs.declared.compiled.Compiled.{Ghosts}
 use Rattle.site_words.proofs.WordsCross.{attrs_send}
 use Rattle.site_state.specs.contracts.held.Held as Held
 use Rattle.site_state.proofs.request.Request.TheSendSync as request
+use Rattle.site_state.proofs.session_list.SessionList.TheSendSync as sessions
 
 -- what is held may be moved into a thread
 pub held_send : (P : RattleType) (g : Ghosts P.Denot) → IsSend P → IsSync P → IsSend (Held.the_field P g).row
@@ -23,7 +24,7 @@ held_send P g p y = struct_send (S.shape (Held.the_type P g)) (
       (
         attrs_send,
         (
-          search (crosses, sendable) depth 30,
+          search (sessions.the_send, crosses, sendable) depth 30,
           (
             search (request.the_send, option.the_send, crosses, sendable) depth 30,
             (

@@ -8,7 +8,6 @@ pub mod ValueSteps
 pub mod RequestSteps
 pub mod JournalSteps
 pub mod Arms
-pub mod RankLemmas
-pub mod RowLemmas
+pub mod UseLemmas
 pub mod HeldCross
 pub mod Spelling

@@ -1,14 +1,12 @@
 -- The list of sessions: the one whose id a cookie is, and those that are not there.
-use Rattle.std.proofs.Common.{◌≡◌, ℕ, ◌<◌, ◌^◌, Bool, true, false, not, List, [], ◌∷◌, length, Option, Some, None, refl, sym, if◌then◌else◌, arith}
-use Rattle.std.specs.Prelude.{◌==◌, ◌||◌, nat_le}
+use Rattle.std.proofs.Common.{◌≡◌, ℕ, ◌<◌, ◌^◌, Bool, true, false, List, [], ◌∷◌, Option, Some, None, refl, sym, if◌then◌else◌, arith}
+use Rattle.std.specs.Prelude.{◌==◌}
 use Rattle.std.specs.List.{All}
 use Rattle.std.proofs.lemmas.Bool.{eq-eqb, eqb-true}
 use Rattle.std.proofs.lemmas.List.Elements.{All-tail}
 use Rattle.site_words.specs.Ids.{is_id}
-use Rattle.site_words.specs.Runs.{UnderWay}
-use Rattle.site_words.specs.Sessions.{most_sessions}
 use Rattle.site_state.specs.declared.session.Session.{Session}
-use Rattle.site_state.specs.ReadSessions.{first_unheld, found_at, has_named, named, others, others_if, roomy}
+use Rattle.site_state.specs.ReadSessions.{found_at, named}
 
 -- the sessions' numbers are those of the program
 abbrev AreNumbers : List Session → Type 0
@@ -40,38 +38,6 @@ found_by seed cookie n (session ∷ sessions) small one =
     go false is true same false here more = more
     go false is false other true here more = more
     go false is false other false here more = more
-
--- the one that is taken out is gone
-pub out : (n : ℕ) (sessions : List Session) → has_named n (others n sessions) ≡ false
-out n [] = refl
-out n (session ∷ sessions) = go (session.number == n) refl (out n sessions)
-  where
-    go : (b : Bool) → (session.number == n) ≡ b → has_named n (others n sessions) ≡ false → has_named n (if not b then session ∷ others n sessions else others n sessions) ≡ false
-    go true is more = more
-    go false is more = rw is more
-
--- one that is not there is not there when another is taken out
-not_in_others : (n m : ℕ) (sessions : List Session) → has_named n sessions ≡ false → has_named n (others m sessions) ≡ false
-not_in_others n m [] none = refl
-not_in_others n m (session ∷ sessions) none = go (session.number == m) (session.number == n) refl none (λ more. not_in_others n m sessions more)
-  where
-    go : (b c : Bool) → (session.number == n) ≡ c → (c || has_named n sessions) ≡ false → (has_named n sessions ≡ false → has_named n (others m sessions) ≡ false)
-        → has_named n (if not b then session ∷ others m sessions else others m sessions) ≡ false
-    go b true is none more = absurd (cc)
-    go true false is none more = more none
-    go false false is none more = rw is (more none)
-
--- nor when room was made
-pub not_in_roomy : (n : ℕ) (runs : List (Option UnderWay)) (sessions : List Session) → has_named n sessions ≡ false → has_named n (roomy runs sessions) ≡ false
-not_in_roomy n runs sessions none = go (nat_le most_sessions (length sessions))
-  where
-    dropped : (number : Option ℕ) → has_named n (others_if number sessions) ≡ false
-    dropped None = none
-    dropped (Some number) = not_in_others n number sessions none
-
-    go : (b : Bool) → has_named n (if b then others_if (first_unheld runs sessions) sessions else sessions) ≡ false
-    go true = dropped (first_unheld runs sessions)
-    go false = none
 
 -- what is found under a test
 

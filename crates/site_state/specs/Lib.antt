@@ -1,5 +1,5 @@
 pub mod Sources
-pub mod Ranks
+pub mod LastUses
 pub mod Parts
 pub mod Gifts
 pub mod ReadSessions

@@ -1,48 +1,47 @@
-ghost use Rattle.std.specs.Prelude.{◌≡◌, ◌<◌, ◌^◌, ◌∷◌, ◌++◌, [], true, false, map, All, IfOk, OnOk, OnErr};
+ghost use Rattle.std.specs.Prelude.{◌≡◌, ◌<◌, ◌^◌, ◌∷◌, ◌++◌, [], true, false, map, All, IfOk, IfSome, OnOk, OnErr};
 ghost use Rattle.site_state.specs.Parts.{under_in};
-ghost use Rattle.site_state.specs.Ranks.{AreListed, HasSpare, session_in};
+ghost use Rattle.site_state.specs.LastUses.{session_with, sessions_in};
 ghost use Rattle.site_state.specs.Sources.{sessions_of};
-ghost use Rattle.site_state.specs.ReadSessions.{first_unheld, has_named, named, others, roomy, touched};
+ghost use Rattle.site_state.specs.ReadSessions.{first_unheld, has_named, named, others, others_if, roomy, touched};
 
 use crate::attributes::attributes;
-use crate::ranks::{Key, Row, append, place_of, take_out};
 use crate::request::Request;
-use crate::session::Session;
+use crate::session::{LastUse, Session};
 use crate::sessions::holder_of;
 use block_list::BlockList;
+use lru::LruCache;
 use site_words::{Entry, KeptSession, MAX_SESSIONS};
 use std::alloc::{AllocError, Global};
 use std::marker::Model;
 
-/// The sessions in their order, and an index of them by number. Contracts see the list of sessions.
+/// The sessions in their order. Contracts see the list of sessions. Finding a session by its number,
+/// taking it out and moving it to the end cost the same whatever the length.
 #[derive(Drop)]
 pub struct SessionList {
-    rows: Vec<Row>,
-    keys: Vec<Key>,
+    // By number. The session at the end of the list is the most recently used.
+    uses: LruCache<u64, LastUse>,
 }
 
 impl Model for SessionList {
-    ghost use Rattle.std.specs.Prelude.{List, map};
+    ghost use Rattle.std.specs.Prelude.{List};
     ghost use Rattle.site_state.specs.declared.session.Session.{Session};
+    ghost use Rattle.site_state.specs.LastUses.{AreListed, sessions_in};
 
     ghost Value = { List Session };
 
-    ghost use Rattle.site_state.specs.Ranks.{AreListed, session_in};
+    ghost view = { λ l. sessions_in l.uses.entries };
 
-    ghost view = { λ l. map session_in l.rows.items };
-
-    ghost invariant = { λ l. AreListed l.rows.items l.keys.items };
+    ghost invariant = { λ l. AreListed l.uses };
 }
 
 impl SessionList {
     /// No sessions.
-    pub(crate) fn new(alloc: Global) -> Self
-        ensures { result ≡ [] }
+    pub(crate) fn new(alloc: Global) -> Result<Self, AllocError>
+        ensures { IfOk result (λ sessions. sessions ≡ []) }
     {
-        SessionList {
-            rows: Vec::new(alloc),
-            keys: Vec::new(alloc),
-        }
+        Ok(SessionList {
+            uses: LruCache::unbounded(alloc)?,
+        })
     }
 
     /// The session with this number.
@@ -50,8 +49,8 @@ impl SessionList {
         ensures session { result ≡ named number self.now }
         ensures numbers { All (λ session. session.number < 2 ^ 64) self.now }
     {
-        match place_of(number, &self.rows, &self.keys) {
-            Some(at) => Some(self.rows[at].session),
+        match self.uses.peek(&number) {
+            Some(last) => Some(session_with(number, *last)),
             None => None,
         }
     }
@@ -65,20 +64,16 @@ impl SessionList {
     ) -> Result<Vec<KeptSession>, AllocError>
         ensures { IfOk result (λ kept. kept.items ≡ sessions_of opened.now history.now.items self.now) }
     {
-        kept_of(alloc, opened, history, &self.rows)
+        kept_of(alloc, opened, history, &self.uses)
     }
 
     /// The session with this number is used at this moment, and stays where it is.
     pub(crate) fn touch(&mut self, number: u64, moment: u64)
         ensures { self.new ≡ touched number moment self.old }
     {
-        if let Some(at) = place_of(number, &self.rows, &self.keys) {
-            let Row { session, rank } = self.rows[at];
-            let session = Session {
-                used: moment,
-                ..session
-            };
-            self.rows[at] = Row { session, rank };
+        match self.uses.peek_mut(&number) {
+            Some(last) => last.moment = moment,
+            None => {}
         }
     }
 
@@ -86,16 +81,18 @@ impl SessionList {
     pub(crate) fn remove(&mut self, number: u64)
         ensures { self.new ≡ others number self.old }
     {
-        take_out(number, &mut self.rows, &mut self.keys);
+        self.uses.pop(&number);
     }
 
-    /// The session comes to the end of the list, in place of the one with its number. It takes no memory, since that is there.
+    /// The session comes to the end of the list, in place of the one with its number. It takes no
+    /// memory, since that is there.
     pub(crate) fn free(&mut self, session: Session)
         requires { has_named session.number self.old ≡ true }
         ensures { self.new ≡ others session.number self.old ++ session ∷ [] }
     {
-        take_out(session.number, &mut self.rows, &mut self.keys);
-        append(session, &mut self.rows, &mut self.keys);
+        let Ok(_) = self.uses.put(session.number, last_use(session)) else {
+            unreachable!()
+        };
     }
 
     /// One session more, at the end.
@@ -104,13 +101,14 @@ impl SessionList {
         ensures ok { OnOk result (self.new ≡ self.old ++ session ∷ []) }
         ensures err { OnErr result (self.new ≡ self.old) }
     {
-        self.rows.try_reserve(1)?;
-        self.keys.try_reserve(1)?;
-        append(session, &mut self.rows, &mut self.keys);
+        // So the map pushes none out.
+        prove!(self.uses.len() < usize::MAX);
+        self.uses.put(session.number, last_use(session))?;
         Ok(())
     }
 
-    /// One session more, at the end. Where there are as many as there may be, the first free one is dropped.
+    /// One session more, at the end. Where there are as many as there may be, the first free one is
+    /// dropped.
     pub(crate) fn add(
         &mut self,
         session: Session,
@@ -120,63 +118,83 @@ impl SessionList {
         ensures ok { OnOk result (self.new ≡ roomy (map under_in runs.now) self.old ++ session ∷ []) }
         ensures err { OnErr result (self.new ≡ self.old) }
     {
-        self.rows.try_reserve(1)?;
-        self.keys.try_reserve(1)?;
-        make_room(runs, &mut self.rows, &mut self.keys);
-        append(session, &mut self.rows, &mut self.keys);
+        let surplus = self.surplus(runs);
+        self.push(session)?;
+        self.remove_found(surplus);
         Ok(())
     }
-}
 
-// Where there are as many sessions as there may be, the first free one is dropped.
-fn make_room(runs: &[Option<Request>], rows: &mut Vec<Row>, keys: &mut Vec<Key>)
-    requires { AreListed rows.old.items keys.old.items }
-    ensures sessions { map session_in rows.new.items ≡ roomy (map under_in runs.now) (map session_in rows.old.items) }
-    ensures listed { AreListed rows.new.items keys.new.items }
-    ensures rows { HasSpare rows.old rows.new }
-    ensures keys { HasSpare keys.old keys.new }
-{
-    if rows.len() < MAX_SESSIONS {
-        return;
+    // Takes out the session with this number, where there is one.
+    fn remove_found(&mut self, number: Option<u64>)
+        ensures { self.new ≡ others_if number self.old }
+    {
+        if let Some(number) = number {
+            self.remove(number);
+        }
     }
-    if let Some(number) = first_free(runs, rows) {
-        take_out(number, rows, keys);
+
+    // The first free session, where there are as many as there may be.
+    fn surplus(&self, runs: &[Option<Request>]) -> Option<u64>
+        ensures rest { others_if result self.now ≡ roomy (map under_in runs.now) self.now }
+        ensures there { IfSome result (λ number. has_named number self.now ≡ true) }
+    {
+        if self.uses.len() < MAX_SESSIONS {
+            return None;
+        }
+        first_free(runs, &self.uses)
     }
 }
 
 // The first session that no request holds.
-fn first_free(runs: &[Option<Request>], rows: &[Row]) -> Option<u64>
-    ensures { result ≡ first_unheld (map under_in runs.now) (map session_in rows.now) }
+fn first_free(runs: &[Option<Request>], uses: &LruCache<u64, LastUse>) -> Option<u64>
+    ensures { result ≡ first_unheld (map under_in runs.now) (sessions_in uses.now.entries) }
 {
-    for row in rows {
-        if holder_of(row.session.number, runs).is_none() {
-            return Some(row.session.number);
+    for (number, _) in uses.iter().rev() {
+        if holder_of(*number, runs).is_none() {
+            return Some(*number);
         }
     }
     None
 }
 
-// The sessions of these rows with their attributes.
+// The sessions with their attributes.
 fn kept_of(
     alloc: Global,
     opened: &[KeptSession],
     history: &BlockList<Entry>,
-    rows: &[Row],
+    uses: &LruCache<u64, LastUse>,
 ) -> Result<Vec<KeptSession>, AllocError>
-    ensures { IfOk result (λ kept. kept.items ≡ sessions_of opened.now history.now.items (map session_in rows.now)) }
+    ensures { IfOk result (λ kept. kept.items ≡ sessions_of opened.now history.now.items
+        (sessions_in uses.now.entries)) }
 {
-    let mut kept = Vec::with_capacity(alloc, rows.len())?;
-    for row in rows {
-        let Session {
-            number,
-            used,
-            source,
-        } = row.session;
+    let mut kept = Vec::with_capacity(alloc, uses.len())?;
+    for (number, last) in uses.iter().rev() {
         kept.push(KeptSession {
-            number,
-            used,
-            attrs: attributes(alloc, opened, history, source)?,
+            number: *number,
+            used: last.moment,
+            attrs: attributes(alloc, opened, history, last.source)?,
         })?;
     }
     Ok(kept)
+}
+
+// The session with this number and last use.
+fn session_with(number: u64, last: LastUse) -> Session
+    ensures { result ≡ session_with number last }
+{
+    Session {
+        number,
+        used: last.moment,
+        source: last.source,
+    }
+}
+
+// What is kept under the session's number.
+fn last_use(session: Session) -> LastUse
+    ensures { session_with session.number result ≡ session }
+{
+    LastUse {
+        moment: session.used,
+        source: session.source,
+    }
 }

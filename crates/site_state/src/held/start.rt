@@ -58,7 +58,7 @@ fn opened_sessions(alloc: Global, opened: &[KeptSession]) -> Result<SessionList,
     ensures sessions { IfOk result (λ sessions. sessions_of opened.now [] sessions ≡ opened.now) }
     ensures there { IfOk result (λ sessions. AreThere 0 sessions) }
 {
-    let mut sessions = SessionList::new(alloc);
+    let mut sessions = SessionList::new(alloc)?;
     for index in 0..opened.len() {
         let kept = &opened[index];
         sessions.push(Session {

@@ -1,12 +1,11 @@
-use Rattle.std.proofs.Common.{◌≡◌, ap, map, ◌∙◌}
-use Rattle.site_state.specs.Parts.{under_in}
-use Rattle.site_state.specs.Ranks.{session_in}
-use Rattle.site_state.specs.ReadSessions.{has_named}
-use Rattle.site_state.proofs.SessionLemmas.{not_in_roomy}
+use Rattle.std.proofs.Common.{◌++◌, ◌∷◌, [], List, ap, ◌∙◌}
+use Rattle.site_state.specs.declared.session.Session.{Session}
+use Rattle.site_state.specs.ReadSessions.{others_if}
+use Rattle.site_state.proofs.UseLemmas.{room_before}
 use Rattle.site_state.proofs.session_list.SessionList.add.Goals as goal
 
-pub append-requires-clause-absent : goal.append-requires-clause-absent
-append-requires-clause-absent c =
-    let same : map session_in c.try_reserve.new.self.items ≡ c.args.self.now = ap (map session_in) c.try_reserve.ensures.items ∙ c.self.view_is in
-    ap (has_named c.args.session.number) c.make_room.ensures.sessions
-    ∙ not_in_roomy c.args.session.number (map under_in c.args.runs.now) (map session_in c.try_reserve.new.self.items) (ap (has_named c.args.session.number) same ∙ c.requires)
+pub returns-clause-ok : goal.returns-clause-ok
+returns-clause-ok c =
+    c.remove_found.ensures
+    ∙ (ap (others_if c.surplus-surplus.result) c.in_ok-push.ensures.ok
+    ∙ (room_before c.surplus-surplus.result c.args.self.now c.args.session c.requires c.surplus-surplus.ensures.there ∙ ap (λ (sessions : List Session). sessions ++ c.args.session ∷ []) c.surplus-surplus.ensures.rest))
