@@ -3,5 +3,6 @@ pub mod Joins
 pub mod Low
 pub mod Places
 pub mod Replaces
+pub mod Searched
 pub mod Splits
 pub mod TooLong

@@ -93,9 +93,13 @@ kept part = if is_empty part then [] else part ∷ []
 abbrev pub tokens_between : (is_delimiter : ℕ → Bool) → List ℕ → List (List ℕ)
 tokens_between is_delimiter scalars = filter (λ part. not (is_empty part)) (map encode_utf8_all (slice_split is_delimiter scalars))
 
+-- a scalar value is one of these
+abbrev pub is_one_of : List ℕ → ℕ → Bool
+is_one_of values c = list_any (λ d. d == c) values
+
 -- a scalar value is one of these delimiters
 abbrev pub is_delimiter : (delimiters : List ℕ) → ℕ → Bool
-is_delimiter delimiters c = list_any (λ d. d == c) (chars delimiters)
+is_delimiter delimiters c = is_one_of (chars delimiters) c
 
 -- the parts of a text between the delimiters, each of which is one scalar value, without the empty parts
 abbrev pub tokens : (delimiters : List ℕ) → List ℕ → List (List ℕ)

@@ -6,6 +6,7 @@ mod functions;
 mod join;
 mod length;
 mod letters;
+mod marks;
 mod replace;
 mod scalars;
 mod search;

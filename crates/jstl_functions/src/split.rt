@@ -1,8 +1,9 @@
 ghost use Rattle.std.specs.Prelude.{◌≡◌, ◌++◌, [], string_bytes, IfOk, OnOk};
 ghost use Rattle.jstl_functions.specs.Functions.{texts_list};
-ghost use Rattle.jstl_functions.specs.Texts.{is_delimiter, kept, split_at, tokens};
+ghost use Rattle.jstl_functions.specs.Texts.{kept, split_at, tokens};
 ghost use Rattle.pg_value.specs.Value.{datum_of};
 
+use crate::marks::{is_mark, marks_of};
 use pg_value::{Text, Value, Values};
 use std::alloc::{AllocError, Global};
 
@@ -10,10 +11,11 @@ use std::alloc::{AllocError, Global};
 pub fn tokens(alloc: Global, text: &str, delimiters: &str) -> Result<Vec<Text>, AllocError>
     ensures { IfOk result (λ found. found.items ≡ tokens delimiters.now text.now) }
 {
+    let marks = marks_of(alloc, delimiters)?;
     let mut found = Vec::new(alloc);
     let mut token = String::new(alloc);
     for c in text.chars() {
-        if is_delimiter(delimiters, c) {
+        if is_mark(&marks, c) {
             end_token(&mut found, &mut token)?;
         } else {
             token.push(c)?;
@@ -21,12 +23,6 @@ pub fn tokens(alloc: Global, text: &str, delimiters: &str) -> Result<Vec<Text>, 
     }
     end_token(&mut found, &mut token)?;
     Ok(found)
-}
-
-fn is_delimiter(delimiters: &str, c: char) -> bool
-    ensures { result ≡ is_delimiter delimiters.now c }
-{
-    delimiters.chars().any(|delimiter| delimiter == c)
 }
 
 // Takes a token out, unless it is empty.
