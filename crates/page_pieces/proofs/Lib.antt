@@ -1,14 +1,15 @@
 pub mod AtFront
 pub mod AttributeValues
+pub mod BroughtLemmas
 pub mod EndCuts
 pub mod Expressions
 pub mod Failures
 pub mod FirstLemmas
 pub mod Heads
 pub mod NameLemmas
+pub mod NameListLemmas
 pub mod PieceCuts
 pub mod PieceLemmas
 pub mod PieceMeaning
 pub mod PieceRows
-pub mod PrefixLemmas
 pub mod RepeatLemmas

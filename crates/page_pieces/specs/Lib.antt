@@ -7,8 +7,8 @@ pub mod ReadEnd
 pub mod ReadExpression
 pub mod ReadFirsts
 pub mod ReadHead
+pub mod ReadNames
 pub mod ReadPiece
-pub mod ReadPrefixes
 pub mod ReadSigns
 pub mod ReadSpelled
 pub mod ReadValue

@@ -4,6 +4,7 @@
 
 mod attribute;
 mod attribute_reader;
+mod brought;
 mod end_reader;
 mod escape;
 mod expression;
@@ -12,6 +13,7 @@ mod head;
 mod head_reader;
 mod mark;
 mod misread;
+mod name_list;
 mod names;
 mod piece;
 mod piece_reader;
@@ -26,10 +28,12 @@ mod value;
 mod value_mark;
 
 pub use attribute::{Attribute, Attributes, Part, Parts, has_name, plain_text, value_of};
+pub use brought::Brought;
 pub use end_reader::could_end;
+pub use name_list::NameList;
 pub use names::{TagName, behind_white, tag_name};
 pub use piece::{Break, Leaf, Piece, Tag};
 pub use piece_reader::read_piece;
-pub use setting::{Brought, BroughtPrefixes, Prefixes, Setting};
+pub use setting::{BroughtPrefixes, Prefixes, Setting};
 pub use spot::Spot;
 pub use texts::{after, begins};
