@@ -1,4 +1,4 @@
-ghost use Rattle.std.specs.Prelude.{◌≡◌, [], ◌∷◌, ◌++◌, List, ℕ, IfOk, OnErr, OnOk};
+ghost use Rattle.std.specs.Prelude.{◌≡◌, [], ◌∷◌, ◌++◌, true, List, ℕ, IfOk, OnErr, OnOk};
 ghost use Rattle.std.specs.Option.{IfSome};
 ghost use Rattle.page_pieces.specs.ReadNames.{HasNames};
 ghost use Rattle.page_pieces.specs.Settings.{contains_text};
@@ -8,14 +8,15 @@ use std::alloc::{AllocError, Global};
 use std::collections::BTreeSet;
 use std::marker::Model;
 use std::string::String;
+use std::sync::Arc;
 
 /// Names in order, each to be looked up. Contracts see the list of them.
 #[derive(Drop)]
 pub struct NameList {
     items: Vec<Text>,
-    // The same to be looked up; after an error it isn't there, and they are looked through one after
-    // the other.
-    known: Option<BTreeSet<String>>,
+    // The same to be looked up, shared with copies until one of them grows. It isn't there where there
+    // are none; after an error neither, and they are looked through one after the other.
+    known: Option<Arc<BTreeSet<String>>>,
 }
 
 impl Model for NameList {
@@ -27,17 +28,16 @@ impl Model for NameList {
 
     ghost view = { λ n. n.items.items };
 
-    ghost invariant = { λ n. IfSome n.known (λ known. HasNames known n.items.items) };
+    ghost invariant = { λ n. IfSome n.known (λ known. HasNames known.value n.items.items) };
 }
 
 impl NameList {
-    #[tactic(auto, using(crate::proofs::NameListLemmas::names_none))]
     pub fn new(alloc: Global) -> Self
         ensures { result ≡ [] }
     {
         NameList {
             items: Vec::new(alloc),
-            known: Some(BTreeSet::new(alloc)),
+            known: None,
         }
     }
 
@@ -46,7 +46,8 @@ impl NameList {
         ensures err { OnErr result (self.new ≡ self.old) }
     {
         let alloc = *self.items.allocator();
-        let known = known_with(alloc, self.known.take(), name.as_str())?;
+        let is_first = self.items.is_empty();
+        let known = known_with(alloc, self.known.take(), is_first, name.as_str())?;
         self.items.push(name)?;
         self.known = known;
         Ok(())
@@ -71,9 +72,14 @@ impl NameList {
     pub fn copy(&self) -> Result<Self, AllocError>
         ensures { IfOk result (λ copy. copy ≡ self.now) }
     {
-        let mut copy = NameList::new(*self.items.allocator());
-        copy.push_all(&self.items)?;
-        Ok(copy)
+        let mut items = Vec::with_capacity(*self.items.allocator(), self.items.len())?;
+        for item in &self.items {
+            items.push(item.copy()?)?;
+        }
+        Ok(NameList {
+            items,
+            known: shared(&self.known)?,
+        })
     }
 
     /// A copy of a name comes behind those that are there.
@@ -104,18 +110,52 @@ fn knows(known: &BTreeSet<String>, name: &str) -> bool
     known.contains(name)
 }
 
-// What is known with one more name, where what was known is there.
-fn known_with(
-    alloc: Global,
-    known: Option<BTreeSet<String>>,
-    name: &str,
-) -> Result<Option<BTreeSet<String>>, AllocError>
-    ensures { IfOk result (λ more. (names : List (List ℕ)) →
-        IfSome known (λ known. HasNames known names) →
-        IfSome more (λ known. HasNames known (names ++ name.now ∷ []))) }
+// What is known, shared.
+fn shared(
+    known: &Option<Arc<BTreeSet<String>>>,
+) -> Result<Option<Arc<BTreeSet<String>>>, AllocError>
+    ensures { IfOk result (λ copy. (names : List (List ℕ)) →
+        IfSome known.now (λ known. HasNames known.value names) →
+        IfSome copy (λ known. HasNames known.value names)) }
 {
     match known {
-        Some(known) => Ok(Some(with_name(alloc, known, name)?)),
+        Some(known) => Ok(Some(Arc::try_clone(known)?)),
+        None => Ok(None),
+    }
+}
+
+// A set that is known, to be changed: an empty one before the first name.
+fn set_of(
+    alloc: Global,
+    known: Option<Arc<BTreeSet<String>>>,
+    is_first: bool,
+) -> Result<Option<BTreeSet<String>>, AllocError>
+    ensures { IfOk result (λ set. (names : List (List ℕ)) → (is_first ≡ true → names ≡ []) →
+        IfSome known (λ known. HasNames known.value names) → IfSome set (λ set. HasNames set names)) }
+{
+    match known {
+        Some(known) => Ok(Some(Arc::unwrap_or_clone(known)?)),
+        None if is_first => Ok(Some(BTreeSet::new(alloc))),
+        None => Ok(None),
+    }
+}
+
+// What is known with one more name, where what was known is there or this is the first name.
+fn known_with(
+    alloc: Global,
+    known: Option<Arc<BTreeSet<String>>>,
+    is_first: bool,
+    name: &str,
+) -> Result<Option<Arc<BTreeSet<String>>>, AllocError>
+    ensures { IfOk result (λ more. (names : List (List ℕ)) → (is_first ≡ true → names ≡ []) →
+        IfSome known (λ known. HasNames known.value names) →
+        IfSome more (λ known. HasNames known.value (names ++ name.now ∷ []))) }
+{
+    match set_of(alloc, known, is_first)? {
+        Some(set) => {
+            let more = with_name(alloc, set, name)?;
+            Ok(Some(Arc::new(alloc, more)?))
+        }
         None => Ok(None),
     }
 }
