@@ -1,12 +1,11 @@
 ghost use Rattle.std.specs.Prelude.{◌≡◌, ◌++◌, codes, IfOk, OnOk, if◌then◌else◌};
 ghost use Rattle.std.specs.Option.{option_to_list};
 ghost use Rattle.std.specs.Str.{bytes_eq};
-ghost use Rattle.page_pieces.specs.Settings.{brought_at, value_of};
+ghost use Rattle.page_pieces.specs.Settings.{value_of};
 ghost use Rattle.page_directives.specs.Taglibs.{prefixes_of};
 
 use crate::WrittenDirective;
-use page_pieces::{Attributes, BroughtPrefixes, Prefixes};
-use pg_text::Text;
+use page_pieces::{Attributes, Prefixes};
 use std::alloc::{AllocError, Global};
 
 // Adds the prefix that a directive with this name registers by itself.
@@ -38,30 +37,4 @@ pub(crate) fn prefixes_of(
         push_own(&mut prefixes, directive.name(), directive.attributes())?;
     }
     Ok(prefixes)
-}
-
-// Adds prefixes.
-pub(crate) fn push_all(prefixes: &mut Prefixes, more: &[Text]) -> Result<(), AllocError>
-    ensures { OnOk result (prefixes.new ≡ prefixes.old ++ more.now) }
-{
-    for prefix in more {
-        prefixes.push(prefix.copy()?)?;
-    }
-    Ok(())
-}
-
-// Adds the prefixes that the include directive with this first byte brings.
-pub(crate) fn push_brought(
-    prefixes: &mut Prefixes,
-    brought: &[BroughtPrefixes],
-    byte: u32,
-) -> Result<(), AllocError>
-    ensures { OnOk result (prefixes.new ≡ prefixes.old ++ brought_at byte brought.now) }
-{
-    for bringing in brought {
-        if bringing.byte == byte {
-            push_all(prefixes, bringing.prefixes.as_slice())?;
-        }
-    }
-    Ok(())
 }

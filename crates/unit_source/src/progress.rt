@@ -9,9 +9,8 @@ ghost use Rattle.unit_source.specs.Volume.{has_room, one_file};
 use crate::WrittenDirective;
 use crate::brought::read_brought;
 use crate::files::UnitFiles;
-use crate::prefixes::{push_all, push_brought};
 use crate::volume::Volume;
-use page_pieces::{Brought, BroughtPrefixes, Prefixes};
+use page_pieces::{Brought, Prefixes};
 use pg_text::{Listed, Path, Text};
 use std::alloc::{AllocError, Global};
 use std::marker::Model;
@@ -90,19 +89,15 @@ impl Progress {
     pub fn register(&mut self, prefixes: &[Text]) -> Result<(), AllocError>
         ensures { OnOk result (self.new ≡ gone self.old.names (with_prefixes prefixes.now self.old.going)) }
     {
-        push_all(&mut self.prefixes, prefixes)
+        self.prefixes.push_all(prefixes)
     }
 
     // The prefixes are registered that the include directive with this first byte brings.
-    pub fn register_brought(
-        &mut self,
-        brought: &[BroughtPrefixes],
-        byte: u32,
-    ) -> Result<(), AllocError>
+    pub fn register_brought(&mut self, brought: &Brought, byte: u32) -> Result<(), AllocError>
         ensures { OnOk result (self.new ≡ gone self.old.names
             (with_prefixes (brought_at byte brought.now) self.old.going)) }
     {
-        push_brought(&mut self.prefixes, brought, byte)
+        brought.register(byte, &mut self.prefixes)
     }
 
     // These prefixes are registered and no others.

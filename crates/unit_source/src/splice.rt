@@ -131,7 +131,7 @@ fn take_step(
         Step::Includes(around, directive) => {
             let inner = enter(files, file, *around, directive, progress)?;
             found.push_back(inner)?;
-            progress.register_brought(file.brought.as_slice(), directive.place().byte)
+            progress.register_brought(&file.brought, directive.place().byte)
         }
     }
 }

@@ -1,6 +1,0 @@
-use Rattle.std.proofs.Common.{◌≡◌, ◌++◌, drop}
-use Rattle.page_pieces.specs.Settings.{brought_at}
-use Rattle.unit_source.proofs.prefixes.push_brought.Given as goal
-
-abbrev pub invariant-loop-bringing : goal.invariant-loop-bringing
-invariant-loop-bringing l = l.prefixes ++ brought_at l.byte (drop l.bringing-index l.brought) ≡ l.fn.prefixes ++ brought_at l.byte l.brought
