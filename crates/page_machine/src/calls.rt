@@ -8,10 +8,11 @@ ghost use Rattle.page_table.specs.Act.{called_out};
 ghost use Rattle.page_table.specs.Calls.{call_entered, call_of as made_call, given_called};
 ghost use Rattle.page_table.specs.Checked.{SeatFits};
 ghost use Rattle.page_table.specs.Program.{tag_at};
-ghost use Rattle.page_table.specs.Seat.{Seat as Seat', code_of, in_tag, source_text};
+ghost use Rattle.page_table.specs.Seat.{Seat as Seat', code_of, in_tag, page_run_of, source_text};
 ghost use Rattle.run_moves.specs.Acted.{Acted};
 ghost use Rattle.run_moves.specs.Opened.{open_of};
 ghost use Rattle.run_parts.specs.Given.{given_by, given_of};
+ghost use Rattle.run_parts.specs.Records.{IsRecordsOf};
 ghost use Rattle.run_world.specs.Known.{Known, ServesSo};
 ghost use Rattle.run_world.specs.Programs.{program_of};
 ghost use Rattle.run_world.specs.Seats.{call_of, seat_of};
@@ -23,7 +24,8 @@ use pg_text::{Path, Place, Text};
 use pg_value::{Attrs, RunFault};
 use run_moves::{End, Flow, Open, fail, throw};
 use run_parts::{
-    Given, body_given, copy_out, exports_of, first_frame, fragment_given, give_back, nested_changes,
+    Given, RequestRecords, body_given, copy_out, exports_of, first_frame, fragment_given,
+    give_back, nested_changes,
 };
 use run_world::{CallSeat, Program, Seat, Served, TagProgram, World};
 use std::alloc::Global;
@@ -60,6 +62,7 @@ pub(crate) fn tag_call<W: World>(
     alloc: Global,
     served: &Served,
     seat: &Seat,
+    records: &mut RequestRecords,
     pc: usize,
     place: &Place,
     call: &TagCall,
@@ -67,6 +70,7 @@ pub(crate) fn tag_call<W: World>(
     world: &mut W,
 ) -> Flow
     requires covered { W.covered world.old }
+    requires records { IsRecordsOf served.now.request.now (page_run_of (seat_of seat.now)).params records.old }
     requires known { Known W.reached W.stores served.now world.old }
     requires seat { SeatFits (seat_of seat.now) }
     requires holds { SeatHolds (seat_of seat.now) (length (W.variables world.old).frames) }
@@ -75,6 +79,7 @@ pub(crate) fn tag_call<W: World>(
     requires within { pc + 1 + call_size call.now < 2 ^ 64 }
     requires filled { length call.now.names ≤ length open.old.stack }
     ensures covered { W.covered world.new }
+    ensures records { IsRecordsOf served.now.request.now (page_run_of (seat_of seat.now)).params records.new }
     ensures stepped { Stepped W.reached W.replies (ServesSo W.stores served.now) (seat_of seat.now)
         (λ serving s. called_out serving (seat_of seat.now) place.now (pc + 1) (call_out.Tag call.now) s
         (open_of open.old)) world.old world.new (open_of open.new) result }
@@ -94,7 +99,7 @@ pub(crate) fn tag_call<W: World>(
     open.stack.drop_top(count);
     match made {
         Ok(entries) => enter_call(
-            alloc, served, seat, pc, place, call, tag, entries, open, world,
+            alloc, served, seat, records, pc, place, call, tag, entries, open, world,
         ),
         Err(failed) => fail(alloc, failed, place, open, world),
     }
@@ -106,6 +111,7 @@ fn enter_call<W: World>(
     alloc: Global,
     served: &Served,
     seat: &Seat,
+    records: &mut RequestRecords,
     pc: usize,
     place: &Place,
     call: &TagCall,
@@ -115,6 +121,7 @@ fn enter_call<W: World>(
     world: &mut W,
 ) -> Flow
     requires covered { W.covered world.old }
+    requires records { IsRecordsOf served.now.request.now (page_run_of (seat_of seat.now)).params records.old }
     requires known { Known W.reached W.stores served.now world.old }
     requires seat { SeatFits (seat_of seat.now) }
     requires holds { SeatHolds (seat_of seat.now) (length (W.variables world.old).frames) }
@@ -123,6 +130,7 @@ fn enter_call<W: World>(
         (code_of (seat_of seat.now)) (pc + 1 + body_size call.now.body) call.now.fragments }
     requires within { pc + 1 + call_size call.now < 2 ^ 64 }
     ensures covered { W.covered world.new }
+    ensures records { IsRecordsOf served.now.request.now (page_run_of (seat_of seat.now)).params records.new }
     ensures stepped { Stepped W.reached W.replies (ServesSo W.stores served.now) (seat_of seat.now)
         (λ serving s. call_entered place.now (made_call (tag_of tag.now) call.now (pc + 1) entries s) entries
         (seat_of seat.now) (pc + 1 + call_size call.now) s (open_of open.old)) world.old world.new
@@ -152,7 +160,15 @@ fn enter_call<W: World>(
         behind: pc + 1,
         frame,
     };
-    match run_code(alloc, served, &Seat::InTag(&inner, &*seat), 0, left, world) {
+    match run_code(
+        alloc,
+        served,
+        &Seat::InTag(&inner, &*seat),
+        records,
+        0,
+        left,
+        world,
+    ) {
         End::Normal => match give_back(alloc, exports, before.as_slice(), frame, world) {
             Ok(()) => {
                 world.go_back(frames, frame);
@@ -187,6 +203,7 @@ pub(crate) fn given_call<W: World>(
     alloc: Global,
     served: &Served,
     seat: &Seat,
+    records: &mut RequestRecords,
     pc: usize,
     place: &Place,
     name: Option<&Text>,
@@ -194,11 +211,13 @@ pub(crate) fn given_call<W: World>(
     world: &mut W,
 ) -> Flow
     requires covered { W.covered world.old }
+    requires records { IsRecordsOf served.now.request.now (page_run_of (seat_of seat.now)).params records.old }
     requires known { Known W.reached W.stores served.now world.old }
     requires seat { SeatFits (seat_of seat.now) }
     requires holds { SeatHolds (seat_of seat.now) (length (W.variables world.old).frames) }
     requires within { pc + 1 < 2 ^ 64 }
     ensures covered { W.covered world.new }
+    ensures records { IsRecordsOf served.now.request.now (page_run_of (seat_of seat.now)).params records.new }
     ensures stepped { Stepped W.reached W.replies (ServesSo W.stores served.now) (seat_of seat.now)
         (λ serving s. given_called place.now (given_by (option_map (λ name. name.now) name.entry)
         (seat_of seat.now)) (seat_of seat.now) (pc + 1) s (open_of open.old)) world.old world.new
@@ -220,7 +239,7 @@ pub(crate) fn given_call<W: World>(
                 let frame = world.frame();
                 let frames = world.scopes().frames();
                 world.turn_to(call.frame);
-                match run_code(alloc, served, &*caller, at, left, world) {
+                match run_code(alloc, served, &*caller, records, at, left, world) {
                     End::Normal => {
                         world.go_back(frames, frame);
                         Flow::Go(pc + 1)

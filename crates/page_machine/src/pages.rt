@@ -30,7 +30,7 @@ use http_in::Param;
 use pg_text::{Failure, Listed, Path, Place, Text};
 use pg_value::{RunFault, Value};
 use run_moves::{End, Flow, Open, fail, named_path, throw};
-use run_parts::target_params;
+use run_parts::{RequestRecords, target_params};
 use run_values::text_of;
 use run_world::{Program, Seat, Served, World, know_tags};
 use site_words::Paged;
@@ -298,10 +298,12 @@ pub(crate) fn page_run<W: World>(
     let Ok(()) = begin_page(program, world) else {
         return End::NoMemory;
     };
+    let mut records = RequestRecords::none();
     run_code(
         alloc,
         served,
         &Seat::InPage(program, params),
+        &mut records,
         0,
         left,
         world,

@@ -6,8 +6,9 @@ ghost use Rattle.page_machine.specs.Turn.{CallBegins, CodeRuns, Ran, SeatHolds, 
 ghost use Rattle.page_table.specs.Act.{called_out, move_of};
 ghost use Rattle.page_table.specs.Checked.{SeatFits};
 ghost use Rattle.page_table.specs.Finds.{CallFinds};
-ghost use Rattle.page_table.specs.Seat.{code_of};
+ghost use Rattle.page_table.specs.Seat.{code_of, page_run_of};
 ghost use Rattle.run_moves.specs.Opened.{open_of};
+ghost use Rattle.run_parts.specs.Records.{IsRecordsOf};
 ghost use Rattle.run_world.specs.Known.{Known, ServesSo};
 ghost use Rattle.run_world.specs.Seats.{seat_of};
 
@@ -16,6 +17,7 @@ use crate::pages::{import_call, include_call};
 use page_code::{CallOut, Instr};
 use pg_text::Place;
 use run_moves::{End, Flow, Open, step};
+use run_parts::RequestRecords;
 use run_world::{Seat, Served, World};
 use std::alloc::Global;
 
@@ -25,23 +27,26 @@ pub(crate) fn run_code<W: World>(
     alloc: Global,
     served: &Served,
     seat: &Seat,
+    records: &mut RequestRecords,
     at: usize,
     left: u32,
     world: &mut W,
 ) -> End
     requires covered { W.covered world.old }
+    requires records { IsRecordsOf served.now.request.now (page_run_of (seat_of seat.now)).params records.old }
     requires known { Known W.reached W.stores served.now world.old }
     requires seat { SeatFits (seat_of seat.now) }
     requires holds { SeatHolds (seat_of seat.now) (length (W.variables world.old).frames) }
     requires at { Carries (code_of (seat_of seat.now)) at empty_shape }
     ensures covered { W.covered world.new }
+    ensures records { IsRecordsOf served.now.request.now (page_run_of (seat_of seat.now)).params records.new }
     ensures ran { Ran W.reached W.replies (ServesSo W.stores served.now) (CodeRuns (seat_of seat.now) at left)
         world.old world.new result }
 {
     let mut open = Open::fresh(alloc, left);
     let mut pc = at;
     loop {
-        match turn(alloc, served, seat, pc, &mut open, world) {
+        match turn(alloc, served, seat, records, pc, &mut open, world) {
             Flow::Go(to) => pc = to,
             Flow::Over(end) => return end,
         }
@@ -54,16 +59,19 @@ fn turn<W: World>(
     alloc: Global,
     served: &Served,
     seat: &Seat,
+    records: &mut RequestRecords,
     pc: usize,
     open: &mut Open,
     world: &mut W,
 ) -> Flow
     requires covered { W.covered world.old }
+    requires records { IsRecordsOf served.now.request.now (page_run_of (seat_of seat.now)).params records.old }
     requires known { Known W.reached W.stores served.now world.old }
     requires seat { SeatFits (seat_of seat.now) }
     requires holds { SeatHolds (seat_of seat.now) (length (W.variables world.old).frames) }
     requires standing { Standing (seat_of seat.now) pc (W.kept world.old) (open_of open.old) }
     ensures covered { W.covered world.new }
+    ensures records { IsRecordsOf served.now.request.now (page_run_of (seat_of seat.now)).params records.new }
     ensures stepped { Stepped W.reached W.replies (ServesSo W.stores served.now) (seat_of seat.now)
         (λ serving s. move_of serving (seat_of seat.now) pc s (open_of open.old)) world.old world.new
         (open_of open.new) result }
@@ -77,8 +85,28 @@ fn turn<W: World>(
         unreachable!()
     };
     match &cell.instr {
-        Instr::CallOut(what) => call_out(alloc, served, seat, pc, &cell.place, what, open, world),
-        instr => step(alloc, served, seat, pc, &cell.place, instr, open, world),
+        Instr::CallOut(what) => call_out(
+            alloc,
+            served,
+            seat,
+            records,
+            pc,
+            &cell.place,
+            what,
+            open,
+            world,
+        ),
+        instr => step(
+            alloc,
+            served,
+            seat,
+            records,
+            pc,
+            &cell.place,
+            instr,
+            open,
+            world,
+        ),
     }
 }
 
@@ -88,6 +116,7 @@ fn call_out<W: World>(
     alloc: Global,
     served: &Served,
     seat: &Seat,
+    records: &mut RequestRecords,
     pc: usize,
     place: &Place,
     what: &CallOut,
@@ -95,6 +124,7 @@ fn call_out<W: World>(
     world: &mut W,
 ) -> Flow
     requires covered { W.covered world.old }
+    requires records { IsRecordsOf served.now.request.now (page_run_of (seat_of seat.now)).params records.old }
     requires known { Known W.reached W.stores served.now world.old }
     requires seat { SeatFits (seat_of seat.now) }
     requires holds { SeatHolds (seat_of seat.now) (length (W.variables world.old).frames) }
@@ -102,16 +132,27 @@ fn call_out<W: World>(
     requires begins { CallBegins (code_of (seat_of seat.now)) (pc + 1) what.now }
     requires finds { CallFinds (length (code_of (seat_of seat.now))) (pc + 1) (open_of open.old) what.now }
     ensures covered { W.covered world.new }
+    ensures records { IsRecordsOf served.now.request.now (page_run_of (seat_of seat.now)).params records.new }
     ensures stepped { Stepped W.reached W.replies (ServesSo W.stores served.now) (seat_of seat.now)
         (λ serving s. called_out serving (seat_of seat.now) place.now (pc + 1) what.now s (open_of open.old))
         world.old world.new (open_of open.new) result }
     ensures left { open.new.left ≡ open.old.left }
 {
     match what {
-        CallOut::Tag(call) => tag_call(alloc, served, seat, pc, place, call, open, world),
-        CallOut::Body => given_call(alloc, served, seat, pc, place, None, open, world),
+        CallOut::Tag(call) => tag_call(alloc, served, seat, records, pc, place, call, open, world),
+        CallOut::Body => given_call(alloc, served, seat, records, pc, place, None, open, world),
         CallOut::Fragment(name) => {
-            given_call(alloc, served, seat, pc, place, Some(name), open, world)
+            given_call(
+                alloc,
+                served,
+                seat,
+                records,
+                pc,
+                place,
+                Some(name),
+                open,
+                world,
+            )
         }
         CallOut::Include { flush, params } => {
             include_call(alloc, served, seat, pc, place, *flush, *params, open, world)

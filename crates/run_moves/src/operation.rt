@@ -6,10 +6,11 @@ ghost use Rattle.page_code.specs.declared.op.Op.TheVariants as op;
 ghost use Rattle.page_code.specs.declared.operands.PropertyMode.TheVariants as mode;
 ghost use Rattle.page_table.specs.Act.{act};
 ghost use Rattle.page_table.specs.Program.{Serving};
-ghost use Rattle.page_table.specs.Seat.{Seat as Seat'};
+ghost use Rattle.page_table.specs.Seat.{Seat as Seat', page_run_of};
 ghost use Rattle.run_moves.specs.Acted.{Acted, ActedFor};
 ghost use Rattle.run_moves.specs.Opened.{open_of};
 ghost use Rattle.run_parts.specs.Operations.{HasOnePlace, IsComputed};
+ghost use Rattle.run_parts.specs.Records.{IsRecordsOf};
 ghost use Rattle.run_world.specs.Known.{ServesSo};
 ghost use Rattle.run_world.specs.Seats.{seat_of};
 
@@ -18,7 +19,9 @@ use crate::landing::{fail, land, land_done, land_value};
 use crate::open::Open;
 use page_code::{Name, Op, PropertyMode};
 use pg_text::{Place, Text};
-use run_parts::{compute, count_visits, find, find_property, operate, values_taken, write_back};
+use run_parts::{
+    RequestRecords, compute, count_visits, find, find_property, operate, values_taken, write_back,
+};
 use run_values::{replaced, text_of};
 use run_world::{Seat, Served, World};
 use std::alloc::Global;
@@ -28,6 +31,7 @@ pub(crate) fn operation<W: World>(
     alloc: Global,
     served: &Served,
     seat: &Seat,
+    records: &mut RequestRecords,
     pc: usize,
     place: &Place,
     op: &Op,
@@ -35,9 +39,11 @@ pub(crate) fn operation<W: World>(
     world: &mut W,
 ) -> Flow
     requires covered { W.covered world.old }
+    requires records { IsRecordsOf served.now.request.now (page_run_of (seat_of seat.now)).params records.old }
     requires within { pc + 1 < 2 ^ 64 }
     requires filled { takes op.now ≤ length open.old.stack }
     ensures covered { W.covered world.new }
+    ensures records { IsRecordsOf served.now.request.now (page_run_of (seat_of seat.now)).params records.new }
     ensures acted { ActedFor W.reached W.replies (ServesSo W.stores served.now) (λ serving s.
         act serving (seat_of seat.now) place.now pc s (open_of open.old) (instr.Op op.now)) world.old world.new
         (open_of open.new) result }
@@ -59,9 +65,9 @@ pub(crate) fn operation<W: World>(
                 property,
                 place: value_place,
             } => set_value(alloc, pc, place, name, property, value_place, open, world),
-            _ => at_one_place(alloc, served, seat, pc, place, op, open, world),
+            _ => at_one_place(alloc, served, seat, records, pc, place, op, open, world),
         },
-        _ => at_one_place(alloc, served, seat, pc, place, op, open, world),
+        _ => at_one_place(alloc, served, seat, records, pc, place, op, open, world),
     }
 }
 
@@ -122,6 +128,7 @@ fn at_one_place<W: World>(
     alloc: Global,
     served: &Served,
     seat: &Seat,
+    records: &mut RequestRecords,
     pc: usize,
     place: &Place,
     op: &Op,
@@ -129,10 +136,12 @@ fn at_one_place<W: World>(
     world: &mut W,
 ) -> Flow
     requires covered { W.covered world.old }
+    requires records { IsRecordsOf served.now.request.now (page_run_of (seat_of seat.now)).params records.old }
     requires within { pc + 1 < 2 ^ 64 }
     requires filled { takes op.now ≤ length open.old.stack }
     requires placed { HasOnePlace op.now }
     ensures covered { W.covered world.new }
+    ensures records { IsRecordsOf served.now.request.now (page_run_of (seat_of seat.now)).params records.new }
     ensures acted { ActedFor W.reached W.replies (ServesSo W.stores served.now) (λ serving s.
         act serving (seat_of seat.now) place.now pc s (open_of open.old) (instr.Op op.now)) world.old world.new
         (open_of open.new) result }
@@ -141,7 +150,15 @@ fn at_one_place<W: World>(
     let held = open.stack.len();
     let count = values_taken(op);
     prove!(count <= held);
-    let made = operate(alloc, served, seat, op, open.stack.top(count), world);
+    let made = operate(
+        alloc,
+        served,
+        seat,
+        records,
+        op,
+        open.stack.top(count),
+        world,
+    );
     open.stack.drop_top(count);
     land(alloc, pc, place, made, open, world)
 }

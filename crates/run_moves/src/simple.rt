@@ -2,10 +2,11 @@
 ghost use Rattle.std.specs.Prelude.{◌≡◌, ◌<◌, ◌^◌, length};
 ghost use Rattle.page_table.specs.Act.{act};
 ghost use Rattle.page_table.specs.Finds.{Finds};
-ghost use Rattle.page_table.specs.Seat.{code_of};
+ghost use Rattle.page_table.specs.Seat.{code_of, page_run_of};
 ghost use Rattle.run_moves.specs.Acted.{ActedFor};
 ghost use Rattle.run_moves.specs.Opened.{open_of};
 ghost use Rattle.run_moves.specs.Simple.{IsSimple};
+ghost use Rattle.run_parts.specs.Records.{IsRecordsOf};
 ghost use Rattle.run_world.specs.Known.{ServesSo};
 ghost use Rattle.run_world.specs.Seats.{seat_of};
 
@@ -19,6 +20,7 @@ use crate::operation::operation;
 use crate::rounds_arm::{loop_next, loop_start};
 use page_code::Instr;
 use pg_text::Place;
+use run_parts::RequestRecords;
 use run_world::{Seat, Served, World};
 use std::alloc::Global;
 
@@ -27,6 +29,7 @@ pub fn step<W: World>(
     alloc: Global,
     served: &Served,
     seat: &Seat,
+    records: &mut RequestRecords,
     pc: usize,
     place: &Place,
     instr: &Instr,
@@ -34,17 +37,19 @@ pub fn step<W: World>(
     world: &mut W,
 ) -> Flow
     requires covered { W.covered world.old }
+    requires records { IsRecordsOf served.now.request.now (page_run_of (seat_of seat.now)).params records.old }
     requires within { length (code_of (seat_of seat.now)) < 2 ^ 64 }
     requires finds { Finds (length (code_of (seat_of seat.now))) pc (W.kept world.old) (open_of open.old) instr.now }
     requires simple { IsSimple instr.now }
     ensures covered { W.covered world.new }
+    ensures records { IsRecordsOf served.now.request.now (page_run_of (seat_of seat.now)).params records.new }
     ensures acted { ActedFor W.reached W.replies (ServesSo W.stores served.now) (λ serving s.
         act serving (seat_of seat.now) place.now pc s (open_of open.old) instr.now) world.old world.new
         (open_of open.new) result }
     ensures left { open.new.left ≡ open.old.left }
 {
     match instr {
-        Instr::Op(op) => operation(alloc, served, seat, pc, place, op, open, world),
+        Instr::Op(op) => operation(alloc, served, seat, records, pc, place, op, open, world),
         Instr::Take(above) => take(pc, *above, open, world),
         Instr::StartBody => start_body(pc, open, world),
         Instr::TakeBody => take_body(alloc, pc, place, open, world),

@@ -4,3 +4,4 @@ pub mod Given
 pub mod Objects
 pub mod Operations
 pub mod Properties
+pub mod Records

@@ -9,12 +9,13 @@ ghost use Rattle.page_meaning.specs.Went.{Well, result_of, then_do};
 ghost use Rattle.page_meaning.specs.Work.{ask};
 ghost use Rattle.page_table.specs.Operands.{implicit_of, keyed_scope};
 ghost use Rattle.page_table.specs.Program.{Serving, served_of};
-ghost use Rattle.page_table.specs.Seat.{here_of};
+ghost use Rattle.page_table.specs.Seat.{here_of, page_run_of};
 ghost use Rattle.pg_text.specs.Failure.{Answers, AnswersAs};
 ghost use Rattle.pg_value.specs.Attrs.{entry_at};
 ghost use Rattle.pg_value.specs.Datum.{entries_of, rec};
 ghost use Rattle.pg_value.specs.Value.{datum_of};
 ghost use Rattle.run_parts.specs.Objects.{whole_answer};
+ghost use Rattle.run_parts.specs.Records.{IsRecordsOf};
 ghost use Rattle.run_world.specs.Known.{ServesSo};
 ghost use Rattle.run_world.specs.Part.{Doing};
 ghost use Rattle.run_world.specs.Seats.{seat_of};
@@ -22,6 +23,7 @@ ghost use Rattle.site_words.specs.PageSteps.{told_value};
 ghost use Rattle.site_words.specs.declared.words.AppStep.TheVariants as step;
 
 use crate::request_objects::request_value;
+use crate::request_records::RequestRecords;
 use crate::variables::told;
 use el_coercion::{made_text, to_text};
 use page_code::Implicit;
@@ -65,17 +67,20 @@ pub(crate) fn implicit_value<W: World>(
     alloc: Global,
     served: &Served,
     seat: &Seat,
+    records: &mut RequestRecords,
     object: Implicit,
     world: &mut W,
 ) -> Result<Value, Failure<RunFault>>
     requires covered { W.covered world.old }
+    requires records { IsRecordsOf served.now.request.now (page_run_of (seat_of seat.now)).params records.old }
     ensures covered { W.covered world.new }
+    ensures records { IsRecordsOf served.now.request.now (page_run_of (seat_of seat.now)).params records.new }
     ensures does { (serving : Serving) → ServesSo W.stores served.now world.old serving →
         Doing W.reached W.replies datum_of (λ place. implicit_value (served_of serving)
         (here_of (seat_of seat.now)) place (implicit_of object)) world.old world.new result }
 {
     let Implicit::Scope(scope) = object else {
-        let value = request_value(alloc, served, seat.params(), world.id(), object)?;
+        let value = request_value(alloc, served, seat.params(), records, world.id(), object)?;
         return Ok(value);
     };
     match HeldScope::of(scope) {

@@ -5,16 +5,19 @@ ghost use Rattle.page_code.specs.Ops.{takes};
 ghost use Rattle.page_meaning.specs.Core.{set_or_remove};
 ghost use Rattle.page_table.specs.Operations.{operation, visits};
 ghost use Rattle.page_table.specs.Program.{Serving};
+ghost use Rattle.page_table.specs.Seat.{page_run_of};
 ghost use Rattle.pg_text.specs.Failure.{AnswersAs};
 ghost use Rattle.pg_value.specs.Value.{datum_of};
 ghost use Rattle.run_parts.specs.Answers.{left_by, none_of, one_of};
 ghost use Rattle.run_parts.specs.Operations.{HasOnePlace, IsComputed, computed};
+ghost use Rattle.run_parts.specs.Records.{IsRecordsOf};
 ghost use Rattle.run_world.specs.Known.{ServesSo};
 ghost use Rattle.run_world.specs.Part.{Doing};
 ghost use Rattle.run_world.specs.Seats.{seat_of};
 
 use crate::objects::{implicit_value, scope_entry};
 use crate::output::put_escaped;
+use crate::request_records::RequestRecords;
 use crate::set_properties::{get_property, set_property};
 use crate::variables::{assign, find, unassign, unassign_all};
 use el_ops::{binary, index, unary};
@@ -112,14 +115,17 @@ pub fn operate<W: World>(
     alloc: Global,
     served: &Served,
     seat: &Seat,
+    records: &mut RequestRecords,
     op: &Op,
     args: &[Value],
     world: &mut W,
 ) -> Result<Option<Value>, Failure<RunFault>>
     requires covered { W.covered world.old }
+    requires records { IsRecordsOf served.now.request.now (page_run_of (seat_of seat.now)).params records.old }
     requires args { length args.now ≡ takes op.now }
     requires placed { HasOnePlace op.now }
     ensures covered { W.covered world.new }
+    ensures records { IsRecordsOf served.now.request.now (page_run_of (seat_of seat.now)).params records.new }
     ensures does { (serving : Serving) → ServesSo W.stores served.now world.old serving →
         Doing W.reached W.replies left_by (λ place. operation serving (seat_of seat.now) place op.now
         (map datum_of args.now)) world.old world.new result }
@@ -136,7 +142,7 @@ pub fn operate<W: World>(
         Op::SetProperty(name, mode) => none(set_property(alloc, seat, name, mode, args, world)),
         Op::GetProperty(name) => one(get_property(name, text_of(&args[0]), world)),
         Op::Find(name) => one(find(seat.is_strict(), name, world)),
-        Op::Implicit(object) => one(implicit_value(alloc, served, seat, *object, world)),
+        Op::Implicit(object) => one(implicit_value(alloc, served, seat, records, *object, world)),
         Op::HeaderIndex(object) => one(header_entry(alloc, served.request, *object, &args[0])),
         Op::ScopeIndex(scope) => one(scope_entry(alloc, *scope, &args[0], world)),
         op => one(compute(alloc, op, args)),

@@ -3,16 +3,15 @@ ghost use Rattle.std.specs.Prelude.{◌≡◌, map, option_map, IfOk};
 ghost use Rattle.page_meaning.specs.Implicit.{exception_datum};
 ghost use Rattle.pg_value.specs.Value.{datum_of};
 ghost use Rattle.run_parts.specs.Objects.{page_context_of, request_value};
+ghost use Rattle.run_parts.specs.Records.{IsRecordsOf};
 ghost use Rattle.run_world.specs.Seats.{raise_of};
 
+use crate::request_records::{RequestRecords, cookie, param, param_values};
 use http_in::Param;
 use page_code::Implicit;
 use pg_text::Text;
 use pg_value::{Attrs, Value};
-use run_values::{
-    all_values, cookie_records, fault_record, first_values, headers, put, record, request_record,
-    session_value,
-};
+use run_values::{fault_record, headers, put, record, request_record, session_value};
 use run_world::{Raise, Served};
 use std::alloc::{AllocError, Global};
 
@@ -50,19 +49,22 @@ pub(crate) fn request_value(
     alloc: Global,
     served: &Served,
     params: &[Param],
+    records: &mut RequestRecords,
     id: Option<&Text>,
     object: Implicit,
 ) -> Result<Value, AllocError>
-    ensures { IfOk result (λ made. datum_of made ≡ request_value served.now.request.now
+    requires { IsRecordsOf served.now.request.now params.now records.old }
+    ensures value { IfOk result (λ made. datum_of made ≡ request_value served.now.request.now
         (option_map (λ raise. raise_of raise.now) served.now.exception) (option_map (λ id. id.now) id.entry)
         params.now object) }
+    ensures records { IsRecordsOf served.now.request.now params.now records.new }
 {
     match object {
         Implicit::PageContext => page_context(alloc, served, id),
-        Implicit::Param => record(first_values(alloc, params)?),
-        Implicit::ParamValues => record(all_values(alloc, params)?),
+        Implicit::Param => param(alloc, params, &mut records.param),
+        Implicit::ParamValues => param_values(alloc, params, &mut records.param_values),
         Implicit::Header(object) => record(headers(alloc, served.request, object)?),
-        Implicit::Cookie => record(cookie_records(alloc, served.request)?),
+        Implicit::Cookie => cookie(alloc, served.request, &mut records.cookie),
         Implicit::InitParam => record(Attrs::empty(alloc)),
         Implicit::Scope(_) => Ok(Value::Null),
     }

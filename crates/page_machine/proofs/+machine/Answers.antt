@@ -29,7 +29,7 @@ use Rattle.page_table.specs.Landing.{thrown}
 use Rattle.page_table.specs.Move.{On}
 use Rattle.page_table.specs.Pages.{include_path, included}
 use Rattle.page_table.specs.Program.{absent, bad, good, plain, tag_at}
-use Rattle.page_table.specs.Seat.{code_of, in_tag}
+use Rattle.page_table.specs.Seat.{code_of, in_tag, page_run_of}
 use Rattle.pg_text.specs.Failure.{Answers}
 use Rattle.pg_text.specs.declared.place.Place.{Place}
 use Rattle.pg_value.specs.Value.{datum_of}
@@ -42,6 +42,7 @@ use Rattle.run_moves.specs.declared.flow.End.TheVariants as ends
 use Rattle.run_moves.specs.declared.flow.Flow.TheVariants as flows
 use Rattle.run_parts.specs.Exports.{change_of, nested_changes}
 use Rattle.run_parts.specs.Given.{given_by}
+use Rattle.run_parts.specs.Records.{IsRecordsOf}
 use Rattle.run_world.proofs.Knowing.{known_changed, known_done, serves_changed, serves_done, serves_on}
 use Rattle.run_world.specs.Programs.{program_of, stored_of}
 use Rattle.run_world.specs.Seats.{call_of, export_of, seat_of}
@@ -60,6 +61,7 @@ turn::run_code-loop-to-init g t c = record {
   left = ap (λ o. o.left) c.fresh-open.ensures;
   covered = c.requires.covered;
   known = c.requires.known;
+  records = c.requires.records;
   holds = c.requires.holds;
   standing = standing_start (seat_of c.args.seat.now) c.args.at c.args.left (g.W.World.kept c.args.world.now) (open_of c.fresh-open.result) c.requires.at c.fresh-open.ensures;
   so_far = λ serving serves first origin s stands.
@@ -76,6 +78,7 @@ turn::run_code-loop-to-preserved g t c =
     record {
       left = c.turn.ensures.left ∙ inv.left;
       covered = c.turn.ensures.covered;
+      records = c.turn.ensures.records;
       known = loop_known laws.stores_on laws.again laws.tells c.args.served.now seat c.requires.seat c.loop-to.pc c.in-Go.to o o2 c.loop-to.world c.turn.new.world inv.known c.in-Go.ensures.stepped;
       holds = loop_holds laws.stores_on laws.again laws.tells c.args.served.now seat c.requires.seat c.loop-to.pc c.in-Go.to o o2 c.loop-to.world c.turn.new.world inv.known c.in-Go.ensures.stepped inv.holds;
       standing = loop_standing laws.stores_on laws.again laws.tells c.args.served.now seat c.requires.seat c.loop-to.pc c.in-Go.to o o2 c.loop-to.world c.turn.new.world inv.known c.in-Go.ensures.stepped inv.standing;
@@ -193,6 +196,7 @@ pages::page_run-run_code-requires g t c κs within =
     let tags = subst (λ xs. TagsFit (map tag_of xs)) c.as_slice.ensures c.know_tags.ensures in
     let fits = c.code.ensures.fits in
     let first = fits.0 in
+    let records = c.none-records.ensures c.args.served.now.request.now c.args.params.now in
     search rules
 
 pub pages::page_run-returns-clause-ran : goal.pages::page_run-returns-clause-ran
@@ -441,6 +445,7 @@ calls::given_call-run_code-requires g t c κs within =
     let stands = holds_more caller n m (omega (arith, c.copy_out.ensures.frames, c.turn_to.ensures.frames)) holds.2 in
     let at = begins_given name call caller c.in-Code.at seated.1 (sym (c.in-Code.ensures caller)) in
     let fits = seated.2 in
+    let records = subst (λ x. IsRecordsOf c.args.served.now.request.now (page_run_of x).params c.args.records.now) (ap seat_of c.in-InTag.is) c.requires.records in
     search rules
 
 pub calls::given_call-go_back-requires : goal.calls::given_call-go_back-requires
@@ -561,6 +566,18 @@ calls::given_call-returns-in_default-run_code-clause-stepped g t c =
     given_over laws.stores_on laws.again laws.tells c.args.served.now call caller c.in-Code.at c.in-Some.left c.frame-frame.result c.frames-frames.result c.args.world.now c.copy_out.new.world c.turn_to.new.self c.run_code.new.world c.requires.known
     c.in_default-copy_out.ensures.does c.turn_to.ensures.turned c.turn_to.ensures.replies c.frame-frame.ensures.current counted more c.args.place.now (c.args.pc + 1) (open_of c.args.open.now) name (seat_of c.args.seat.now) is gives level
     c.run_code.result (λ e. c.in_default-run_code.not-Normal e) (λ f p e. c.in_default-run_code.not-Raised f p e) c.run_code.ensures.ran
+
+pub calls::given_call-returns-in-Normal-clause-records : goal.calls::given_call-returns-in-Normal-clause-records
+calls::given_call-returns-in-Normal-clause-records g t c =
+    subst (λ x. IsRecordsOf c.args.served.now.request.now (page_run_of x).params c.run_code.new.records) (sym (ap seat_of c.in-InTag.is)) c.run_code.ensures.records
+
+pub calls::given_call-returns-in-Raised-clause-records : goal.calls::given_call-returns-in-Raised-clause-records
+calls::given_call-returns-in-Raised-clause-records g t c =
+    subst (λ x. IsRecordsOf c.args.served.now.request.now (page_run_of x).params c.run_code.new.records) (sym (ap seat_of c.in-InTag.is)) c.run_code.ensures.records
+
+pub calls::given_call-returns-in_default-run_code-clause-records : goal.calls::given_call-returns-in_default-run_code-clause-records
+calls::given_call-returns-in_default-run_code-clause-records g t c =
+    subst (λ x. IsRecordsOf c.args.served.now.request.now (page_run_of x).params c.run_code.new.records) (sym (ap seat_of c.in-InTag.is)) c.run_code.ensures.records
 
 -- a call of a tag file
 

@@ -10,7 +10,8 @@ use Rattle.page_meaning.specs.State.{State}
 use Rattle.page_meaning.specs.Work.{visit_limit}
 use Rattle.page_table.specs.Measure.{span, weight}
 use Rattle.page_table.specs.Program.{Serving}
-use Rattle.page_table.specs.Seat.{code_of}
+use Rattle.page_table.specs.Seat.{code_of, page_run_of}
+use Rattle.run_parts.specs.Records.{IsRecordsOf}
 
 abbrev pub decreases-turn::run_code : goal.decreases-turn::run_code
 decreases-turn::run_code g l = 8 * l.left + 7
@@ -55,6 +56,7 @@ invariant-turn::run_code-loop-to g l = record {
   left : l.open.left ≡ l.left;
   covered : g.W.World.covered l.world;
   known : Known g.W.World.reached g.W.World.stores l.served l.world;
+  records : IsRecordsOf l.served.request.now (page_run_of (seat_of l.seat)).params l.records;
   holds : SeatHolds (seat_of l.seat) (length (g.W.World.variables l.world).frames);
   standing : Standing (seat_of l.seat) l.pc (g.W.World.kept l.world) (open_of l.open);
   so_far : (serving : Serving) → ServesSo g.W.World.stores l.served l.fn.world serving → (first : g.row.W.Denot) (origin : Origin) (s : State) → g.W.World.reached first origin l.fn.world s

@@ -17,7 +17,7 @@ returns-in-Op-clause-acted g c =
 pub operation-requires : goal.operation-requires
 operation-requires g c =
     let finds = subst (Finds (length (code_of (seat_of c.args.seat.now))) c.args.pc (g.W.World.kept c.args.world.now) (open_of c.args.open.now)) c.in-Op.is c.requires.finds in
-    record { covered = c.requires.covered; within = omega (arith, finds.1, c.requires.within); filled = finds.0 }
+    record { covered = c.requires.covered; records = c.requires.records; within = omega (arith, finds.1, c.requires.within); filled = finds.0 }
 
 pub returns-in-Take-clause-acted : goal.returns-in-Take-clause-acted
 returns-in-Take-clause-acted g c =
