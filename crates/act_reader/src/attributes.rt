@@ -13,14 +13,14 @@ use page_acts::ActAttribute;
 use std::alloc::{AllocError, Global};
 use unit_nodes::{Action, ActionKind, JspName, UnitAttribute};
 
-// Whether an attribute of a core tag names something, and takes no expression.
+// Whether an attribute of a core tag says what is named, and isn't evaluated as the others are: the tag's own reader takes it.
 fn is_core_static(name: &str) -> bool
     ensures { result ≡ list_any (bytes_eq name.now) core_statics }
 {
     name == "var" || name == "varStatus" || name == "scope" || name == "target"
 }
 
-// The same of a standard action.
+// Whether an attribute of a standard action says what is named, and isn't evaluated as the others are.
 fn is_jsp_static(name: &str) -> bool
     ensures { result ≡ list_any (bytes_eq name.now) jsp_statics }
 {

@@ -18,12 +18,14 @@ pub(crate) fn place_of_part(text: &str, part: &str) -> Option<usize>
     text.find(part)
 }
 
+// Whether a text has a part, by its bytes; an empty part is in each text.
 pub(crate) fn contains(text: &str, part: &str) -> bool
     ensures { result ≡ contains_part part.now text.now }
 {
     place_of_part(text, part).is_some()
 }
 
+// Whether a text has a part where both are in lower case.
 pub(crate) fn contains_ignoring_case(
     alloc: Global,
     text: &str,

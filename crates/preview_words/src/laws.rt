@@ -1,6 +1,7 @@
 ghost use Rattle.preview_words.specs.Laws.{AreLatest, AreRunnable, TakesPicturesAlone};
 
-/// The site of its own on which a preview runs may open, by each picture and draft.
+/// The site of its own on which a preview runs may open, by each picture and draft, where the tree with the draft keeps its limits
+/// and a version is left.
 pub fn own_sites()
     ensures { AreRunnable }
 {}

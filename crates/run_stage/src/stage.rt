@@ -140,7 +140,7 @@ impl<'a, P: AppPort<Program>, K: Sink> World for Stage<'a, P, K> {
         Ok(reply)
     }
 
-    // The session stands also where memory is wanting for the head to name it.
+    // Gives the request a session. It stands also where memory is wanting for the head to name it; no other failure comes.
     fn fresh(&mut self) -> Result<(), Failure<RunFault>> {
         let made = self.port.fresh()?;
         self.scopes.start_session();

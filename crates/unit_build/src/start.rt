@@ -104,7 +104,7 @@ fn declared(tag: Option<&Tag>) -> Option<&TagDecl>
     tag?.declared()
 }
 
-// Meets the value of an attribute.
+// Meets the faults of an attribute's value at its place; the first that was ever met stays.
 fn meet_value(
     alloc: Global,
     course: &Course,

@@ -102,7 +102,7 @@ fn push_node<'r>(
     }
 }
 
-// Adds the beginning of an element, and the steps of its body.
+// Adds the beginning of an element, and the steps of its body; the answer is what stands around the node behind it.
 #[cycle(steps)]
 fn push_element<'r>(
     alloc: Global,

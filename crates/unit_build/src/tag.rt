@@ -85,13 +85,14 @@ pub(crate) fn own_directives<'r>(
     standing_in(alloc, &root.path, first_directives(alloc, root)?)
 }
 
-// Those of the second reading.
+// The directives of the second reading that stand in a tag file itself: by them it is judged whether what it declares is good.
 fn judged_directives<'r>(alloc: Global, root: &'r Root) -> Result<Vec<Directive<'r>>, AllocError>
     ensures { IfOk result (λ own. own.items ≡ judged_directives (root_view root.now)) }
 {
     standing_in(alloc, &root.path, directives(alloc, &root.nodes)?)
 }
 
+// What a tag file declares, where its directives have no fault.
 #[tactic(auto, unfolding(tag_decl::specs::Declare::declaration))]
 fn declared_in(alloc: Global, root: &Root) -> Result<Option<TagDecl>, AllocError>
     ensures { IfOk result (λ declared. declared ≡ declaration_of (Some (root_view root.now))) }

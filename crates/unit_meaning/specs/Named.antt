@@ -62,11 +62,11 @@ property_in attributes = property (unwrap_or (static_text (codes "property") att
     property : List ℕ → page.Property
     property p = if bytes_eq p (codes "*") then page.every else page.one p (unwrap_or (static_text (codes "param") attributes) p)
 
--- the attributes of core tags that take no expression and name something
+-- the attributes of core tags that say what is named, and aren't evaluated as the others are
 abbrev pub core_statics : List (List ℕ)
 core_statics = codes "var" ∷ codes "varStatus" ∷ codes "scope" ∷ codes "target" ∷ []
 
--- the same of the standard actions
+-- the attributes of standard actions that say what is named, and aren't evaluated as the others are
 abbrev pub jsp_statics : List (List ℕ)
 jsp_statics = codes "name" ∷ codes "flush" ∷ codes "property" ∷ codes "param" ∷ codes "fragment" ∷ codes "var" ∷ codes "scope" ∷ []
 
