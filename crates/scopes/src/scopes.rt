@@ -1,7 +1,8 @@
 ghost use Rattle.std.specs.Prelude.{◌≡◌, ◌<◌, [], length, option_map, unwrap_or, IsNone, OnOk, OnErr, IfOk};
 ghost use Rattle.pg_text.specs.Failure.{Answers};
 ghost use Rattle.pg_value.specs.Value.{datum_of};
-ghost use Rattle.scopes.specs.Scopes.{starting, entries_in, found_in, found, with_variable, without_variable, set_answer, record_answer, restarted, with_frame, with_frame_of, without_frame, turned_to, with_session};
+ghost use Rattle.scopes.specs.Scopes.{starting, entries_in, found_in, found, with_variable, without_variable, set_answer, record_answer, restarted};
+ghost use Rattle.scopes.specs.Scopes.{with_frame, with_frame_of, without_frame, turned_to, with_session};
 
 use crate::attributes;
 use crate::held_scope::HeldScope;

@@ -6,7 +6,9 @@ ghost use Rattle.page_directives.specs.Settings.{is_value};
 ghost use Rattle.page_directives.specs.Faults.{in_order, is_good};
 ghost use Rattle.page_directives.specs.Rows.{rows_of};
 ghost use Rattle.tag_decl.specs.Declare.{declared};
-ghost use Rattle.tag_decl.specs.Faults.{any_faults, are_good, attribute_directive_faults, attribute_table, clash_faults, declared_names, declaring_faults, has_one_name, is_named_well, is_text, may_name, variable_directive_faults, variable_table};
+ghost use Rattle.tag_decl.specs.Faults.{any_faults, are_good, attribute_directive_faults, attribute_table, clash_faults, declared_names};
+ghost use Rattle.tag_decl.specs.Faults.{declaring_faults, has_one_name, is_named_well, is_text, may_name, variable_directive_faults};
+ghost use Rattle.tag_decl.specs.Faults.{variable_table};
 
 use crate::declaration::{AttrDecl, AttrDecls, AttrKind, declared};
 use crate::declared_before::DeclaredBefore;
