@@ -1,4 +1,5 @@
 pub mod Apart
 pub mod DatumApart
+pub mod Parts
 pub mod WordsApart
 pub mod Written

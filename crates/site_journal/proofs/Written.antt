@@ -55,7 +55,7 @@ item_next xs i x within is first second =
 pub items_all : {a b : Option (List ℕ)} {m n : ℕ} {p q : Buffer} (xs : List Value) (i : ℕ) → length xs ≤ i → Writes a b m n p q (of_items (items_of (map datum_of (take i xs)))) → Writes a b m n p q (of_items (items_of (map datum_of xs)))
 items_all xs i past first = writes_same (ap (λ ys. of_items (items_of (map datum_of ys))) (take_all i xs past)) first
 
-items_counted : (ds : List Datum) → item_count (items_of ds) ≡ length ds
+pub items_counted : (ds : List Datum) → item_count (items_of ds) ≡ length ds
 items_counted [] = refl
 items_counted (d ∷ ds) = ap (λ n. n + 1) (items_counted ds) ∙ omega arith
 
@@ -82,7 +82,7 @@ entry_next xs i x within is first key value =
 pub entries_all : {a b : Option (List ℕ)} {m n : ℕ} {p q : Buffer} (xs : List (List ℕ × Value)) (i : ℕ) → length xs ≤ i → Writes a b m n p q (of_entries (entries_of (map entry_of (take i xs)))) → Writes a b m n p q (of_entries (entries_of (map entry_of xs)))
 entries_all xs i past first = writes_same (ap (λ ys. of_entries (entries_of (map entry_of ys))) (take_all i xs past)) first
 
-entries_counted : (es : List (List ℕ × Datum)) → entry_count (entries_of es) ≡ length es
+pub entries_counted : (es : List (List ℕ × Datum)) → entry_count (entries_of es) ≡ length es
 entries_counted [] = refl
 entries_counted (e ∷ es) = ap (λ n. n + 1) (entries_counted es) ∙ omega arith
 

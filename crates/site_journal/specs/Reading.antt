@@ -120,6 +120,12 @@ pub record IsEntry (e : TheEntry) : Type 0 where
   pub op_is : IsOp e.op
   pub reply_is : IsReply e.reply
 
+-- the parts of an entry: such as have a code
+pub record HasParts (e : TheEntry) : Type 0 where
+  pub pass : e.pass < 256
+  pub op_is : IsOp e.op
+  pub reply_is : IsReply e.reply
+
 pub record IsTalk (talk : Talk) : Type 0 where
   pub bytes : AreBytes talk.bytes
   pub moments : IsList IsNumber talk.moments
@@ -138,6 +144,12 @@ abbrev pub EndsByRoll : List TheEntry → Type 0
 EndsByRoll [] = ⊥
 EndsByRoll (e ∷ []) = is_roll e ≡ true
 EndsByRoll (e ∷ next ∷ entries) = (is_roll e ≡ false) × EndsByRoll (next ∷ entries)
+
+-- all parts are such as have a code, whichever replies the operations have, and wherever a Roll stands
+pub record HasCode (x : Opening) (history : List TheEntry) (talk : Option Talk) : Type 0 where
+  pub opening : IsOpening x
+  pub entries : IsList HasParts history
+  pub talk_is : IsOption IsTalk talk
 
 -- a journal of this opening, this history and this talk
 pub record IsJournal (x : Opening) (history : List TheEntry) (talk : Option Talk) : Type 0 where

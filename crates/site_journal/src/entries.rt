@@ -1,10 +1,14 @@
 ghost use Rattle.std.specs.Prelude.{◌≡◌, ◌<◌, ◌^◌, flat_map, length};
-ghost use Rattle.site_journal.specs.Codes.{of_bytes, of_list};
+ghost use Rattle.site_journal.specs.Codes.{IsList, of_bytes, of_list};
 ghost use Rattle.site_journal.specs.Journal.{kind_of, of_answer, of_edit, of_entry, of_op, of_reply, of_step, rolled};
+ghost use Rattle.site_journal.specs.Reading.{HasParts, IsAnswer, IsEdit, IsOp, IsPath, IsReply, IsStep};
+ghost use Rattle.site_words.specs.Trees.{Each};
 ghost use Rattle.sink_buffer.specs.Buffer.{Writes};
 
 use crate::values::{put_attrs, put_value};
-use crate::writing::{Item, put, put_byte, put_bytes, put_list, put_number, put_option, put_truth};
+use crate::writing::{
+    Item, know_byte, put, put_byte, put_list, put_number, put_option, put_text, put_truth,
+};
 use block_list::BlockList;
 use edges::Sink;
 use pg_text::Path;
@@ -18,8 +22,9 @@ const ROLL: [u8; 2] = [0, 10];
 /// Writes a history with a Roll behind it.
 pub(crate) fn put_rolled<K: Sink>(sink: &mut K, buffer: &mut SinkBuffer, history: &BlockList<Entry>)
     requires { length history.now.items < 2 ^ 63 }
-    ensures { Writes (K.taken sink.old) (K.taken sink.new) (K.faults sink.old) (K.faults sink.new)
+    ensures writes { Writes (K.taken sink.old) (K.taken sink.new) (K.faults sink.old) (K.faults sink.new)
         buffer.old buffer.new (of_list of_entry (rolled history.now.items)) }
+    ensures can_be { IsList HasParts (rolled history.now.items) }
 {
     put_number(sink, buffer, history.len() as u64 + 1);
     put_entries(sink, buffer, history);
@@ -28,8 +33,9 @@ pub(crate) fn put_rolled<K: Sink>(sink: &mut K, buffer: &mut SinkBuffer, history
 
 // Writes the entries of a history.
 fn put_entries<K: Sink>(sink: &mut K, buffer: &mut SinkBuffer, history: &BlockList<Entry>)
-    ensures { Writes (K.taken sink.old) (K.taken sink.new) (K.faults sink.old) (K.faults sink.new)
+    ensures writes { Writes (K.taken sink.old) (K.taken sink.new) (K.faults sink.old) (K.faults sink.new)
         buffer.old buffer.new (flat_map of_entry history.now.items) }
+    ensures can_be { Each HasParts history.now.items }
 {
     for entry in history.iter() {
         entry.put(sink, buffer);
@@ -39,7 +45,10 @@ fn put_entries<K: Sink>(sink: &mut K, buffer: &mut SinkBuffer, history: &BlockLi
 impl Item for Entry {
     ghost text = { λ entry. of_entry entry };
 
+    ghost can_be = { λ entry. HasParts entry };
+
     fn put<K: Sink>(&self, sink: &mut K, buffer: &mut SinkBuffer) {
+        know_byte(self.pass);
         put(sink, buffer, &[self.pass, kind_of(&self.op)]);
         put_op(sink, buffer, &self.op);
         put_reply(sink, buffer, &self.reply);
@@ -81,8 +90,9 @@ fn kind_of(op: &Op) -> u8
 
 // Writes the parts of an operation.
 fn put_op<K: Sink>(sink: &mut K, buffer: &mut SinkBuffer, op: &Op)
-    ensures { Writes (K.taken sink.old) (K.taken sink.new) (K.faults sink.old) (K.faults sink.new)
+    ensures writes { Writes (K.taken sink.old) (K.taken sink.new) (K.faults sink.old) (K.faults sink.new)
         buffer.old buffer.new (of_op op.now) }
+    ensures can_be { IsOp op.now }
 {
     match op {
         Op::Publish { base, edits } => {
@@ -90,7 +100,7 @@ fn put_op<K: Sink>(sink: &mut K, buffer: &mut SinkBuffer, op: &Op)
             put_list(sink, buffer, edits.as_slice());
         }
         Op::Begin { cookie, moment } => {
-            put_bytes(sink, buffer, cookie.as_bytes());
+            put_text(sink, buffer, cookie.as_str());
             put_number(sink, buffer, *moment);
         }
         Op::App { request, step } => {
@@ -99,26 +109,27 @@ fn put_op<K: Sink>(sink: &mut K, buffer: &mut SinkBuffer, op: &Op)
         }
         Op::Fetch { request, path } => {
             put_number(sink, buffer, *request);
-            put_bytes(sink, buffer, path.as_bytes());
+            put_text(sink, buffer, path.as_str());
         }
         Op::Offer { request, path } => {
             put_number(sink, buffer, *request);
-            put_bytes(sink, buffer, path.as_bytes());
+            put_text(sink, buffer, path.as_str());
         }
         Op::End { request, attrs } => {
             put_number(sink, buffer, *request);
             put_attrs(sink, buffer, attrs);
         }
         Op::Fresh { request } | Op::Abandon { request } => put_number(sink, buffer, *request),
-        Op::Snapshot { cookie } => put_bytes(sink, buffer, cookie.as_bytes()),
+        Op::Snapshot { cookie } => put_text(sink, buffer, cookie.as_str()),
         Op::Roll => {}
     }
 }
 
 // Writes the parts of a reply.
 fn put_reply<K: Sink>(sink: &mut K, buffer: &mut SinkBuffer, reply: &Reply)
-    ensures { Writes (K.taken sink.old) (K.taken sink.new) (K.faults sink.old) (K.faults sink.new)
+    ensures writes { Writes (K.taken sink.old) (K.taken sink.new) (K.faults sink.old) (K.faults sink.new)
         buffer.old buffer.new (of_reply reply.now) }
+    ensures can_be { IsReply reply.now }
 {
     match reply {
         Reply::Published { version, dirty } => {
@@ -149,16 +160,18 @@ fn put_reply<K: Sink>(sink: &mut K, buffer: &mut SinkBuffer, reply: &Reply)
 impl Item for Edit {
     ghost text = { λ edit. of_edit edit };
 
+    ghost can_be = { λ edit. IsEdit edit };
+
     fn put<K: Sink>(&self, sink: &mut K, buffer: &mut SinkBuffer) {
         match self {
             Edit::Put(path, text) => {
                 put_byte(sink, buffer, 0);
-                put_bytes(sink, buffer, path.as_bytes());
-                put_bytes(sink, buffer, text.as_bytes());
+                put_text(sink, buffer, path.as_str());
+                put_text(sink, buffer, text.as_str());
             }
             Edit::Delete(path) => {
                 put_byte(sink, buffer, 1);
-                put_bytes(sink, buffer, path.as_bytes());
+                put_text(sink, buffer, path.as_str());
             }
         }
     }
@@ -167,33 +180,36 @@ impl Item for Edit {
 impl Item for Path {
     ghost text = { λ path. of_bytes path };
 
+    ghost can_be = { λ path. IsPath path };
+
     fn put<K: Sink>(&self, sink: &mut K, buffer: &mut SinkBuffer) {
-        put_bytes(sink, buffer, self.as_bytes());
+        put_text(sink, buffer, self.as_str());
     }
 }
 
 // Writes a step on the application's attributes.
 fn put_step<K: Sink>(sink: &mut K, buffer: &mut SinkBuffer, step: &AppStep)
-    ensures { Writes (K.taken sink.old) (K.taken sink.new) (K.faults sink.old) (K.faults sink.new)
+    ensures writes { Writes (K.taken sink.old) (K.taken sink.new) (K.faults sink.old) (K.faults sink.new)
         buffer.old buffer.new (of_step step.now) }
+    ensures can_be { IsStep step.now }
 {
     match step {
         AppStep::Get(name) => {
             put_byte(sink, buffer, 0);
-            put_bytes(sink, buffer, name.as_bytes());
+            put_text(sink, buffer, name.as_str());
         }
         AppStep::Set(name, value) => {
             put_byte(sink, buffer, 1);
-            put_bytes(sink, buffer, name.as_bytes());
+            put_text(sink, buffer, name.as_str());
             put_value(sink, buffer, value);
         }
         AppStep::Remove(name) => {
             put_byte(sink, buffer, 2);
-            put_bytes(sink, buffer, name.as_bytes());
+            put_text(sink, buffer, name.as_str());
         }
         AppStep::Ensure(name, value) => {
             put_byte(sink, buffer, 3);
-            put_bytes(sink, buffer, name.as_bytes());
+            put_text(sink, buffer, name.as_str());
             put_value(sink, buffer, value);
         }
         AppStep::All => put_byte(sink, buffer, 4),
@@ -202,8 +218,9 @@ fn put_step<K: Sink>(sink: &mut K, buffer: &mut SinkBuffer, step: &AppStep)
 
 // Writes what a step is told.
 fn put_answer<K: Sink>(sink: &mut K, buffer: &mut SinkBuffer, answer: &AppReply)
-    ensures { Writes (K.taken sink.old) (K.taken sink.new) (K.faults sink.old) (K.faults sink.new)
+    ensures writes { Writes (K.taken sink.old) (K.taken sink.new) (K.faults sink.old) (K.faults sink.new)
         buffer.old buffer.new (of_answer answer.now) }
+    ensures can_be { IsAnswer answer.now }
 {
     match answer {
         AppReply::Value(value) => {

@@ -2,14 +2,15 @@ ghost use Rattle.std.specs.Prelude.{◌<◌, ◌≤◌, ◌^◌, length, OnErr, 
 ghost use Rattle.std.specs.Option.{option_copied};
 ghost use Rattle.edges.specs.Faults.{Rose};
 ghost use Rattle.http_out.specs.Sent.{Sent};
-ghost use Rattle.site_journal.specs.Codes.{of_option};
+ghost use Rattle.site_journal.specs.Codes.{IsOption, of_option};
 ghost use Rattle.site_journal.specs.Journal.{journal, of_talk, rolled};
+ghost use Rattle.site_journal.specs.Reading.{HasCode, IsTalk};
 ghost use Rattle.sink_buffer.specs.Buffer.{Writes};
 
 use crate::entries::put_rolled;
 use crate::opening::put_opening;
 use crate::talk::Talk;
-use crate::writing::{put, put_byte, put_bytes, put_list};
+use crate::writing::{know_byte, put, put_byte, put_bytes, put_list};
 use block_list::BlockList;
 use edges::{Failed, Sink};
 use sink_buffer::SinkBuffer;
@@ -29,6 +30,7 @@ pub fn write_journal<K: Sink>(
     requires { length history.now.items < 2 ^ 63 }
     ensures sent { Sent (K.taken sink.old) (K.taken sink.new)
         (journal opening.now (rolled history.now.items) (option_copied talk.entry)) (is_err result) }
+    ensures can_be { HasCode opening.now (rolled history.now.items) (option_copied talk.entry) }
     ensures later { K.faults sink.old ≤ K.faults sink.new }
     ensures rose { OnErr result (Rose (K.faults sink.old) (K.faults sink.new)) }
 {
@@ -46,8 +48,9 @@ fn put_journal<K: Sink>(
     talk: Option<&Talk>,
 )
     requires { length history.now.items < 2 ^ 63 }
-    ensures { Writes (K.taken sink.old) (K.taken sink.new) (K.faults sink.old) (K.faults sink.new)
+    ensures writes { Writes (K.taken sink.old) (K.taken sink.new) (K.faults sink.old) (K.faults sink.new)
         buffer.old buffer.new (journal opening.now (rolled history.now.items) (option_copied talk.entry)) }
+    ensures can_be { HasCode opening.now (rolled history.now.items) (option_copied talk.entry) }
 {
     put(sink, buffer, MARK);
     put_opening(sink, buffer, opening);
@@ -57,8 +60,9 @@ fn put_journal<K: Sink>(
 
 // Writes a talk, where there is one.
 fn put_optional<K: Sink>(sink: &mut K, buffer: &mut SinkBuffer, talk: Option<&Talk>)
-    ensures { Writes (K.taken sink.old) (K.taken sink.new) (K.faults sink.old) (K.faults sink.new)
+    ensures writes { Writes (K.taken sink.old) (K.taken sink.new) (K.faults sink.old) (K.faults sink.new)
         buffer.old buffer.new (of_option of_talk (option_copied talk.entry)) }
+    ensures can_be { IsOption IsTalk (option_copied talk.entry) }
 {
     match talk {
         None => put_byte(sink, buffer, 0),
@@ -71,9 +75,11 @@ fn put_optional<K: Sink>(sink: &mut K, buffer: &mut SinkBuffer, talk: Option<&Ta
 
 // Writes a talk.
 fn put_talk<K: Sink>(sink: &mut K, buffer: &mut SinkBuffer, talk: &Talk)
-    ensures { Writes (K.taken sink.old) (K.taken sink.new) (K.faults sink.old) (K.faults sink.new)
+    ensures writes { Writes (K.taken sink.old) (K.taken sink.new) (K.faults sink.old) (K.faults sink.new)
         buffer.old buffer.new (of_talk talk.now) }
+    ensures can_be { IsTalk talk.now }
 {
+    know_byte(talk.ended);
     put_bytes(sink, buffer, talk.bytes.as_slice());
     put_list(sink, buffer, talk.moments.as_slice());
     put_bytes(sink, buffer, talk.answers.as_slice());

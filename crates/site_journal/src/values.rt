@@ -2,9 +2,10 @@ ghost use Rattle.std.specs.Prelude.{map};
 ghost use Rattle.pg_value.specs.Datum.{entries_of, items_of};
 ghost use Rattle.pg_value.specs.Value.{datum_of, entry_of};
 ghost use Rattle.site_journal.specs.Journal.{of_attrs, of_datum, of_entries, of_items};
+ghost use Rattle.site_journal.specs.Reading.{AreAttrs, AreEntries, AreItems, IsDatum};
 ghost use Rattle.sink_buffer.specs.Buffer.{Writes};
 
-use crate::writing::{put_byte, put_bytes, put_int, put_number, put_truth};
+use crate::writing::{put_byte, put_int, put_number, put_text, put_truth};
 use edges::Sink;
 use pg_text::Text;
 use pg_value::{Attrs, Value};
@@ -14,8 +15,9 @@ use sink_buffer::SinkBuffer;
 #[cycle(values)]
 #[tactic(auto, using(pg_value::proofs::Sizes::sizes, pg_value::proofs::Lengths::lengths))]
 pub(crate) fn put_value<K: Sink>(sink: &mut K, buffer: &mut SinkBuffer, value: &Value)
-    ensures { Writes (K.taken sink.old) (K.taken sink.new) (K.faults sink.old) (K.faults sink.new)
+    ensures writes { Writes (K.taken sink.old) (K.taken sink.new) (K.faults sink.old) (K.faults sink.new)
         buffer.old buffer.new (of_datum (datum_of value.now)) }
+    ensures can_be { IsDatum (datum_of value.now) }
 {
     match value {
         Value::Null => put_byte(sink, buffer, 0),
@@ -29,7 +31,7 @@ pub(crate) fn put_value<K: Sink>(sink: &mut K, buffer: &mut SinkBuffer, value: &
         }
         Value::Text(text) => {
             put_byte(sink, buffer, 3);
-            put_bytes(sink, buffer, text.as_bytes());
+            put_text(sink, buffer, text.as_str());
         }
         Value::List(items) => {
             put_byte(sink, buffer, 4);
@@ -48,8 +50,9 @@ pub(crate) fn put_value<K: Sink>(sink: &mut K, buffer: &mut SinkBuffer, value: &
 #[cycle(values)]
 #[tactic(auto, using(pg_value::proofs::Sizes::sizes, pg_value::proofs::Lengths::lengths))]
 fn put_items<K: Sink>(sink: &mut K, buffer: &mut SinkBuffer, items: &[Value])
-    ensures { Writes (K.taken sink.old) (K.taken sink.new) (K.faults sink.old) (K.faults sink.new)
+    ensures writes { Writes (K.taken sink.old) (K.taken sink.new) (K.faults sink.old) (K.faults sink.new)
         buffer.old buffer.new (of_items (items_of (map datum_of items.now))) }
+    ensures can_be { AreItems (items_of (map datum_of items.now)) }
 {
     for item in items {
         put_value(sink, buffer, item);
@@ -60,19 +63,21 @@ fn put_items<K: Sink>(sink: &mut K, buffer: &mut SinkBuffer, items: &[Value])
 #[cycle(values)]
 #[tactic(auto, using(pg_value::proofs::Sizes::sizes, pg_value::proofs::Lengths::lengths))]
 fn put_keys<K: Sink>(sink: &mut K, buffer: &mut SinkBuffer, entries: &[(Text, Value)])
-    ensures { Writes (K.taken sink.old) (K.taken sink.new) (K.faults sink.old) (K.faults sink.new)
+    ensures writes { Writes (K.taken sink.old) (K.taken sink.new) (K.faults sink.old) (K.faults sink.new)
         buffer.old buffer.new (of_entries (entries_of (map entry_of entries.now))) }
+    ensures can_be { AreEntries (entries_of (map entry_of entries.now)) }
 {
     for entry in entries {
-        put_bytes(sink, buffer, entry.0.as_bytes());
+        put_text(sink, buffer, entry.0.as_str());
         put_value(sink, buffer, &entry.1);
     }
 }
 
 /// Writes attributes.
 pub(crate) fn put_attrs<K: Sink>(sink: &mut K, buffer: &mut SinkBuffer, attrs: &Attrs)
-    ensures { Writes (K.taken sink.old) (K.taken sink.new) (K.faults sink.old) (K.faults sink.new)
+    ensures writes { Writes (K.taken sink.old) (K.taken sink.new) (K.faults sink.old) (K.faults sink.new)
         buffer.old buffer.new (of_attrs attrs.now) }
+    ensures can_be { AreAttrs attrs.now }
 {
     put_number(sink, buffer, attrs.len() as u64);
     put_keys(sink, buffer, attrs.as_slice());

@@ -3,6 +3,7 @@ use Rattle.pg_value.specs.Datum.{items_of, entries_of}
 use Rattle.pg_value.specs.Size.{size_of, data_size, entries_size}
 use Rattle.pg_value.specs.Value.{datum_of, entry_of}
 use Rattle.site_journal.specs.Journal.{of_entries, of_items}
+use Rattle.site_journal.specs.Reading.{AreEntries, AreItems}
 use Rattle.sink_buffer.specs.Buffer.{Writes}
 use Rattle.site_journal.proofs.values.+values.Given as goal
 
@@ -17,9 +18,13 @@ decreases-put_keys g l = 2 * entries_size (map entry_of l.entries.now) + 1
 
 -- the first of them are written
 abbrev pub invariant-put_items-loop-item : goal.invariant-put_items-loop-item
-invariant-put_items-loop-item g l =
-    Writes (g.K.Sink.taken l.fn.sink) (g.K.Sink.taken l.sink) (g.K.Sink.faults l.fn.sink) (g.K.Sink.faults l.sink) l.fn.buffer l.buffer (of_items (items_of (map datum_of (take l.item-index l.items))))
+invariant-put_items-loop-item g l = record {
+  written : Writes (g.K.Sink.taken l.fn.sink) (g.K.Sink.taken l.sink) (g.K.Sink.faults l.fn.sink) (g.K.Sink.faults l.sink) l.fn.buffer l.buffer (of_items (items_of (map datum_of (take l.item-index l.items))));
+  can_be : AreItems (items_of (map datum_of (take l.item-index l.items)));
+}
 
 abbrev pub invariant-put_keys-loop-entry : goal.invariant-put_keys-loop-entry
-invariant-put_keys-loop-entry g l =
-    Writes (g.K.Sink.taken l.fn.sink) (g.K.Sink.taken l.sink) (g.K.Sink.faults l.fn.sink) (g.K.Sink.faults l.sink) l.fn.buffer l.buffer (of_entries (entries_of (map entry_of (take l.entry-index l.entries))))
+invariant-put_keys-loop-entry g l = record {
+  written : Writes (g.K.Sink.taken l.fn.sink) (g.K.Sink.taken l.sink) (g.K.Sink.faults l.fn.sink) (g.K.Sink.faults l.sink) l.fn.buffer l.buffer (of_entries (entries_of (map entry_of (take l.entry-index l.entries))));
+  can_be : AreEntries (entries_of (map entry_of (take l.entry-index l.entries)));
+}
