@@ -1,5 +1,4 @@
-//! Tests of values, their coercions, the functions and the scopes; and of the values that a run of a page makes: the status of a round,
-//! properties, and what a page sees of its request. What rows can say of them is in `value_rows`.
+//! Tests of values and their coercions, and of how much a session keeps. What rows can say of them is in `value_rows` and `page_rows`.
 #![tactic(auto)]
 
 #[cfg(test)]
@@ -7,10 +6,6 @@ mod coercion;
 #[cfg(test)]
 mod functions;
 #[cfg(test)]
-mod page_values;
-#[cfg(test)]
-mod rounds;
+mod session;
 #[cfg(test)]
 mod values;
-#[cfg(test)]
-mod variables;
