@@ -22,6 +22,7 @@ use Rattle.std.specs.Io.KnownBytes.{Appends}
 use Rattle.edges.specs.Faults.{Rose}
 use Rattle.http_out.specs.Sent.{Sent}
 use Rattle.site_journal.specs.Journal.{journal, rolled}
+use Rattle.site_journal.specs.Reading.{HasCode}
 use Rattle.site_journal.specs.declared.talk.Talk.{Talk}
 use Rattle.rollover.specs.Roll.{IsCutShort, IsRolled, IsUnrolled, goes_on_as, is_spent}
 
@@ -86,12 +87,13 @@ room_left needs site opening b is spent = ap is_spent (rolled_goes_on needs site
 
 pub comes_to_new : RollsOver → (needs : Needs) (site next : Lived) (opening : Opening) (talk : Option Talk) (old new : Option (List ℕ)) → is_sound site.opening ≡ true → Legal needs site.opening site.history
     → AllRest site.opening site.history → opening ≡ next_opening site.opening (after needs site.opening site.history) → is_spent opening ≡ false → next.opening ≡ opening → next.history ≡ []
-    → Appends old new (journal site.opening (rolled site.history) talk) → IsRolled needs site next talk old new
-comes_to_new law needs site next opening talk old new sound legal rest is room goes empty written =
+    → Appends old new (journal site.opening (rolled site.history) talk) → HasCode site.opening (rolled site.history) talk → IsRolled needs site next talk old new
+comes_to_new law needs site next opening talk old new sound legal rest is room goes empty written has_code =
     let rolled_legal : Legal needs site.opening (rolled site.history) = rolled_is_legal needs site.opening site.history sound legal rest in
     let goes_on : next.opening ≡ goes_on_as needs site = goes ∙ is ∙ sym (rolled_goes_on needs site) in
     record {
       written = written;
+      has_code = has_code;
       is_legal = rolled_legal;
       opening = goes_on;
       history = empty;
@@ -101,11 +103,12 @@ comes_to_new law needs site next opening talk old new sound legal rest is room g
 
 pub comes_to_old : (needs : Needs) (site : Lived) (opening : Opening) (talk : Option Talk) (old new : Option (List ℕ)) (before risen : ℕ) → is_sound site.opening ≡ true → Legal needs site.opening site.history
     → AllRest site.opening site.history → opening ≡ next_opening site.opening (after needs site.opening site.history) → is_spent opening ≡ false
-    → Sent old new (journal site.opening (rolled site.history) talk) true → Rose before risen → IsCutShort needs site site talk old new before risen
-comes_to_old needs site opening talk old new before risen sound legal rest is room sent rose = record {
+    → Sent old new (journal site.opening (rolled site.history) talk) true → HasCode site.opening (rolled site.history) talk → Rose before risen → IsCutShort needs site site talk old new before risen
+comes_to_old needs site opening talk old new before risen sound legal rest is room sent has_code rose = record {
   same = refl;
   is_legal = rolled_is_legal needs site.opening site.history sound legal rest;
   sent = sent;
+  has_code = has_code;
   rose = rose;
   room = room_left needs site opening false is room;
 }

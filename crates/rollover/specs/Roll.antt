@@ -7,6 +7,7 @@ use Rattle.rollover.specs.declared.rolling.Rolled.{Rolled}
 use Rattle.rollover.specs.declared.rolling.Rolled.TheVariants.{Done, NoMemory, Spent, WriteFault}
 use Rattle.site_core.specs.Lived.{Lived}
 use Rattle.site_journal.specs.Journal.{journal, rolled}
+use Rattle.site_journal.specs.Reading.{HasCode}
 use Rattle.site_journal.specs.declared.talk.Talk.{Talk}
 use Rattle.site_words.specs.Law.{Legal}
 use Rattle.site_words.specs.Opening.{next_opening}
@@ -23,9 +24,10 @@ is_spent x = nat_le (2 ^ 63) x.version || (nat_le (2 ^ 63) x.begins || nat_le (2
 abbrev pub goes_on_as : Needs → Lived → Opening
 goes_on_as needs site = next_opening site.opening (after needs site.opening (rolled site.history))
 
--- the journal was written; its history with the Roll is legal, and the new site goes on from the state behind it with an empty history; with what comes to be its history, both are one legal history from the old opening
+-- the journal was written, and all its parts are such as have a code; its history with the Roll is legal, and the new site goes on from the state behind it with an empty history; with what comes to be its history, both are one legal history from the old opening
 pub record IsRolled (needs : Needs) (site next : Lived) (talk : Option Talk) (old new : Option (List ℕ)) : Type 0 where
   pub written : Appends old new (journal site.opening (rolled site.history) talk)
+  pub has_code : HasCode site.opening (rolled site.history) talk
   pub is_legal : Legal needs site.opening (rolled site.history)
   pub opening : next.opening ≡ goes_on_as needs site
   pub history : next.history ≡ []
@@ -37,6 +39,7 @@ pub record IsCutShort (needs : Needs) (site next : Lived) (talk : Option Talk) (
   pub same : next ≡ site
   pub is_legal : Legal needs site.opening (rolled site.history)
   pub sent : Sent old new (journal site.opening (rolled site.history) talk) true
+  pub has_code : HasCode site.opening (rolled site.history) talk
   pub rose : Rose before after_it
   pub room : is_spent (goes_on_as needs site) ≡ false
 

@@ -24,9 +24,10 @@ write_journal-requires g c = subst (λ h. length h < 2 ^ 63) (sym c.history.ensu
 pub returns-in-Err-clause-rolls : goal.returns-in-Err-clause-rolls
 returns-in-Err-clause-rolls g c =
     comes_to_old g.P.Compiled.needs c.args.site c.in-Ok.opening _ _ _ _ _ c.law.ensures.sound c.law.ensures.legal c.requires c.in-Ok.ensures (sym c.is_spent.ensures ∙ c.if-is_spent.false)
-    (rw (c.opening.ensures, c.history.ensures) at c.in-Err.ensures.sent) c.in-Err.ensures.rose
+    (rw (c.opening.ensures, c.history.ensures) at c.in-Err.ensures.sent) (rw (c.opening.ensures, c.history.ensures) at c.write_journal.ensures.can_be) c.in-Err.ensures.rose
 
 pub returns-in-Ok-write_journal-clause-rolls : goal.returns-in-Ok-write_journal-clause-rolls
 returns-in-Ok-write_journal-clause-rolls g c =
     comes_to_new c.rollover.ensures.one g.P.Compiled.needs c.args.site c.in-Ok-resume.next c.in-Ok.opening _ _ _ c.law.ensures.sound c.law.ensures.legal c.requires c.in-Ok.ensures (sym c.is_spent.ensures ∙ c.if-is_spent.false)
     c.in-Ok-resume.ensures.0 c.in-Ok-resume.ensures.1 (rw (c.opening.ensures, c.history.ensures) at c.in-Ok-write_journal.ensures.sent)
+    (rw (c.opening.ensures, c.history.ensures) at c.write_journal.ensures.can_be)
