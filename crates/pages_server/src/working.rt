@@ -1,4 +1,6 @@
 ghost use Rattle.std.specs.Prelude.{◌≡◌, ◌<◌, All, None, length, map, is_some, true, slice_index_or};
+ghost use Rattle.std.specs.List.{AllZip};
+ghost use Rattle.pages_server.specs.Worked.{Leads};
 
 use crate::Handler;
 use edges::{Accept, Accepted};
@@ -27,6 +29,8 @@ pub fn workers<R: Threads + Wait + Sync, A: Accept + Sync, H: Handler + Sync>(
     ensures closed { All (λ served. is_some served.closing ≡ true) tokens.new }
     ensures numbers { map (λ served. H.number served.token) tokens.new
         ≡ map (λ served. H.number served.token) tokens.old }
+    ensures worked { AllZip (λ old new. Leads (H.handled handler.now) old.token new.token) tokens.old
+        tokens.new }
 {
     let count = tokens.len();
     if count == 0 {
@@ -35,7 +39,8 @@ pub fn workers<R: Threads + Wait + Sync, A: Accept + Sync, H: Handler + Sync>(
     let serve = |_place: usize, served: &mut Served<H::Token, A::Closing>|
         requires { H.fits handler.now served.old.token }
         ensures { H.fits handler.entry.now served.new.token × (is_some served.new.closing ≡ true) ×
-            (H.number served.new.token ≡ H.number served.old.token) }
+            (H.number served.new.token ≡ H.number served.old.token)
+            × Leads (H.handled handler.entry.now) served.old.token served.new.token }
     { work(rt, listener, handler, served) };
     thread::for_each_mut(rt, tokens, count, &serve);
 }
@@ -51,6 +56,7 @@ fn work<R: Wait, A: Accept, H: Handler>(
     ensures fits { H.fits handler.now served.new.token }
     ensures closed { is_some served.new.closing ≡ true }
     ensures number { H.number served.new.token ≡ H.number served.old.token }
+    ensures worked { Leads (H.handled handler.now) served.old.token served.new.token }
 {
     let mut faults = 0;
     for _ in rt.forever() {
@@ -84,9 +90,13 @@ pub fn both<R: Threads + Wait + Sync, A: Accept + Sync, H: Handler + Sync>(
     ensures front_fits { All (λ served. H.fits front.entry.1.now served.token) result.0.items }
     ensures front_numbers { map (λ served. H.number served.token) result.0.items
         ≡ map (λ served. H.number served.token) front.entry.2.items }
+    ensures front_worked { AllZip (λ old new. Leads (H.handled front.entry.1.now) old.token new.token)
+        front.entry.2.items result.0.items }
     ensures back_fits { All (λ served. H.fits back.entry.1.now served.token) result.1.items }
     ensures back_numbers { map (λ served. H.number served.token) result.1.items
         ≡ map (λ served. H.number served.token) back.entry.2.items }
+    ensures back_worked { AllZip (λ old new. Leads (H.handled back.entry.1.now) old.token new.token)
+        back.entry.2.items result.1.items }
 {
     let (front_listener, front_handler, front_tokens) = front;
     let (back_listener, back_handler, back_tokens) = back;
@@ -97,14 +107,18 @@ pub fn both<R: Threads + Wait + Sync, A: Accept + Sync, H: Handler + Sync>(
                 (λ served. served.closing ≡ None) front_tokens.items }
             ensures { All (λ served. H.fits front_handler.entry.now served.token) result.items ×
                 (map (λ served. H.number served.token) result.items
-                ≡ map (λ served. H.number served.token) front_tokens.items) }
+                ≡ map (λ served. H.number served.token) front_tokens.items) ×
+                AllZip (λ old new. Leads (H.handled front_handler.entry.now) old.token new.token)
+                front_tokens.items result.items }
         { at_work(rt, front_listener, front_handler, front_tokens) },
         move || -> Vec<Served<H::Token, A::Closing>>
             requires { All (λ served. H.fits back_handler.now served.token) back_tokens.items × All
                 (λ served. served.closing ≡ None) back_tokens.items }
             ensures { All (λ served. H.fits back_handler.entry.now served.token) result.items ×
                 (map (λ served. H.number served.token) result.items
-                ≡ map (λ served. H.number served.token) back_tokens.items) }
+                ≡ map (λ served. H.number served.token) back_tokens.items) ×
+                AllZip (λ old new. Leads (H.handled back_handler.entry.now) old.token new.token)
+                back_tokens.items result.items }
         { at_work(rt, back_listener, back_handler, back_tokens) },
     )
 }
@@ -129,12 +143,18 @@ pub fn three<R: Threads + Wait + Sync, A: Accept + Sync, H: Handler + Sync>(
     ensures front_fits { All (λ served. H.fits front.entry.1.now served.token) result.0.items }
     ensures front_numbers { map (λ served. H.number served.token) result.0.items
         ≡ map (λ served. H.number served.token) front.entry.2.items }
+    ensures front_worked { AllZip (λ old new. Leads (H.handled front.entry.1.now) old.token new.token)
+        front.entry.2.items result.0.items }
     ensures middle_fits { All (λ served. H.fits middle.entry.1.now served.token) result.1.items }
     ensures middle_numbers { map (λ served. H.number served.token) result.1.items
         ≡ map (λ served. H.number served.token) middle.entry.2.items }
+    ensures middle_worked { AllZip (λ old new. Leads (H.handled middle.entry.1.now) old.token new.token)
+        middle.entry.2.items result.1.items }
     ensures back_fits { All (λ served. H.fits back.entry.1.now served.token) result.2.items }
     ensures back_numbers { map (λ served. H.number served.token) result.2.items
         ≡ map (λ served. H.number served.token) back.entry.2.items }
+    ensures back_worked { AllZip (λ old new. Leads (H.handled back.entry.1.now) old.token new.token)
+        back.entry.2.items result.2.items }
 {
     let (front_listener, front_handler, front_tokens) = front;
     let (rest_listener, rest_handler, rest_tokens) = middle;
@@ -146,7 +166,9 @@ pub fn three<R: Threads + Wait + Sync, A: Accept + Sync, H: Handler + Sync>(
                 (λ served. served.closing ≡ None) front_tokens.items }
             ensures { All (λ served. H.fits front_handler.entry.now served.token) result.items ×
                 (map (λ served. H.number served.token) result.items
-                ≡ map (λ served. H.number served.token) front_tokens.items) }
+                ≡ map (λ served. H.number served.token) front_tokens.items) ×
+                AllZip (λ old new. Leads (H.handled front_handler.entry.now) old.token new.token)
+                front_tokens.items result.items }
         { at_work(rt, front_listener, front_handler, front_tokens) },
         move || -> (
             Vec<Served<H::Token, A::Closing>>,
@@ -158,10 +180,14 @@ pub fn three<R: Threads + Wait + Sync, A: Accept + Sync, H: Handler + Sync>(
                 (λ served. served.closing ≡ None) back_tokens.items }
             ensures { All (λ served. H.fits rest_handler.entry.now served.token) result.0.items ×
                 (map (λ served. H.number served.token) result.0.items
-                ≡ map (λ served. H.number served.token) rest_tokens.items) × All
+                ≡ map (λ served. H.number served.token) rest_tokens.items) ×
+                AllZip (λ old new. Leads (H.handled rest_handler.entry.now) old.token new.token)
+                rest_tokens.items result.0.items × All
                 (λ served. H.fits back_handler.entry.now served.token) result.1.items ×
                 (map (λ served. H.number served.token) result.1.items
-                ≡ map (λ served. H.number served.token) back_tokens.items) }
+                ≡ map (λ served. H.number served.token) back_tokens.items) ×
+                AllZip (λ old new. Leads (H.handled back_handler.entry.now) old.token new.token)
+                back_tokens.items result.1.items }
         {
             both(
                 rt,
@@ -185,6 +211,8 @@ fn at_work<R: Threads + Wait + Sync, A: Accept + Sync, H: Handler + Sync>(
     ensures fits { All (λ served. H.fits handler.now served.token) result.items }
     ensures numbers { map (λ served. H.number served.token) result.items
         ≡ map (λ served. H.number served.token) tokens.items }
+    ensures worked { AllZip (λ old new. Leads (H.handled handler.now) old.token new.token) tokens.items
+        result.items }
 {
     workers(rt, listener, handler, tokens.as_mut_slice());
     tokens
