@@ -1,3 +1,4 @@
 pub mod Cross
 pub mod Loops
 pub mod Passes
+pub mod Served

@@ -1,5 +1,6 @@
 ghost use Rattle.std.specs.Prelude.{◌≡◌, ◌<◌, ℕ};
 ghost use Rattle.pass_course.specs.Course.{IsIdle};
+ghost use Rattle.site_rounds.specs.Served.{IsTalk};
 
 use crate::Talk;
 use edges::{Clocks, Gate, Sink, Source};
@@ -31,6 +32,8 @@ impl<
     ghost fits = { λ handler port. (port.actor.site.now ≡ handler.site.now) × IsIdle port.actor.site.now.opening port.actor.pass.number port.actor.pass.seen };
 
     ghost number = { λ port. port.actor.pass.number };
+
+    ghost handled = { λ handler old new. IsTalk (T.talked handler.talk.now handler.site.now.opening) old.actor.pass new.actor.pass };
 
     fn handle<S: Source, K: Sink>(
         &self,

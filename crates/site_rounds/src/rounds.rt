@@ -1,7 +1,12 @@
-ghost use Rattle.std.specs.Prelude.{◌≡◌, ◌≤◌, ◌<◌, ◌+◌, ◌++◌, [], All, IfOk, None, length, map, vec_capacity};
+ghost use Rattle.std.specs.Prelude.{◌≡◌, ◌≤◌, ◌<◌, ◌+◌, ◌++◌, ℕ, List, [], All, IfOk, None, is_some, length, map, vec_capacity};
+ghost use Rattle.std.specs.List.{range_with_len};
+ghost use Rattle.edges.specs.History.{IsFront};
 ghost use Rattle.site_words.specs.Invariants.{AllRest};
+ghost use Rattle.site_words.specs.Law.{Legal};
+ghost use Rattle.site_words.specs.declared.words.Entry.{Entry as TheEntry};
 ghost use Rattle.pass_course.specs.Course.{IsIdle};
 ghost use Rattle.site_rounds.specs.Ready.{IsReady, numbers_of};
+ghost use Rattle.site_rounds.specs.Served.{IsLed, IsServed};
 
 use crate::{PortHandler, Talk};
 use edges::{Accept, Clocks, Gate};
@@ -54,11 +59,22 @@ pub fn round<
     requires rest { AllRest site.opening site.history }
     ensures rest { IfOk result (λ after. AllRest after.opening after.history) }
     ensures opening { IfOk result (λ after. after.opening ≡ site.opening) }
+
+    // One legal history goes on.
+    ensures goes_on { IfOk result (λ after. IsFront site.history after.history) }
+    ensures is_legal { IfOk result (λ after. Legal P.needs after.opening after.history) }
+
+    // Each pass did in it what its connections did, and nothing else.
+    ensures served { IfOk result (λ after. (number : ℕ) → number < site.opening.passes → IsServed
+        (λ talk. T.talked talk site.opening) talks.now (is_some listeners.now.previews) P.needs site.opening
+        number site.history after.history) }
 {
     site.law();
     let (shared, passes) = start(alloc, site, gate)?;
     let passes = served(rt, alloc, &shared, passes, talks, listeners, clocks)?;
-    Ok(shared.close(passes))
+    let site = shared.close(passes);
+    site.law();
+    Ok(site)
 }
 
 // The passes once the round is over for each, in their order. All memory is taken first, so that none is wanted once a worker is
@@ -81,8 +97,12 @@ fn served<
 ) -> Result<SitePasses<P>, AllocError>
     requires some { 0 < length passes.items }
     requires ready { All (IsReady site.now) passes.items }
+    requires in_order { numbers_of passes.items ≡ range_with_len 0 site.now.opening.passes }
     ensures ready { IfOk result (λ after. All (IsReady site.now) after.items) }
     ensures numbers { IfOk result (λ after. numbers_of after.items ≡ numbers_of passes.items) }
+    ensures led { IfOk result (λ after. (history : List TheEntry) → All (λ pass. pass.seen ≡ history) passes.items
+        → All (λ pass. IsLed (λ talk. T.talked talk site.now.opening) talks.now (is_some listeners.now.previews)
+        site.now.opening.passes pass.number history pass.seen) after.items) }
 {
     let previewing = passes.split_off(passes.len() - usize::from(listeners.previews.is_some()))?;
     let editing = passes.split_off(passes.len().saturating_sub(1))?;
@@ -116,7 +136,8 @@ fn handler_of<'a, P: Compiled, G: Gate + Drop, R, T, W>(
     talk: &'a T,
     clocks: &'a W,
 ) -> PortHandler<'a, P, G, R, T, W>
-    ensures { result.site.now ≡ site.now }
+    ensures site { result.site.now ≡ site.now }
+    ensures talk { result.talk.now ≡ talk.now }
 {
     PortHandler {
         site,

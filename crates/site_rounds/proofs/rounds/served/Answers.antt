@@ -1,10 +1,13 @@
 use mir.Syntax.{named}
+use mir.Val.{bool_byte}
 use denote.Exit.{yes}
 use denote.Param.Send.{arg_send, param_send}
-use Rattle.std.proofs.Common.{length, map, ap, arith, refl}
+use Rattle.std.proofs.Common.{◌≡◌, ◌+◌, ◌-◌, length, map, ap, arith, is_some, refl}
 use Rattle.site_rounds.proofs.Loops.{as_many, longer_by}
 use Rattle.site_rounds.proofs.Cross.{handler_sync, port_send}
 use Rattle.site_rounds.proofs.Passes.{at_home, cut_twice, from_home, gathered, kept_numbers}
+use Rattle.site_rounds.proofs.Served.{back_begins, few_for_drafts, front_begins, gathered_all, middle_begins, workers_led}
+use Rattle.site_rounds.specs.Served.{IsLed}
 use Rattle.site_rounds.proofs.rounds.served.Goals as goal
 
 pub three-readers-requires-send-H-Token : goal.three-readers-requires-send-H-Token
@@ -26,22 +29,22 @@ three-readers-requires-sync-H g c κs within =
     record { shared = (handler_sync (record { mir = named 7; lft = _ }) _ _ _ _ _ g.P.Compiled p y s r t w).shared }
 
 pub three-readers-requires-clause-front_fits : goal.three-readers-requires-clause-front_fits
-three-readers-requires-clause-front_fits g c κs within = λ k d low. let ready = c.seat.ensures.ready k d low in at_home c.args.site.now _ _ _ _ c.handler_of-for_readers.ensures ready.0 ready.1.1
+three-readers-requires-clause-front_fits g c κs within = λ k d low. let ready = c.seat.ensures.ready k d low in at_home c.args.site.now _ _ _ _ c.handler_of-for_readers.ensures.site ready.0 ready.1.1
 
 pub three-readers-requires-clause-middle_fits : goal.three-readers-requires-clause-middle_fits
-three-readers-requires-clause-middle_fits g c κs within = λ k d low. let ready = c.seat-2.ensures.ready k d low in at_home c.args.site.now _ _ _ _ c.handler_of-for_editors.ensures ready.0 ready.1.1
+three-readers-requires-clause-middle_fits g c κs within = λ k d low. let ready = c.seat-2.ensures.ready k d low in at_home c.args.site.now _ _ _ _ c.handler_of-for_editors.ensures.site ready.0 ready.1.1
 
 pub three-readers-requires-clause-back_fits : goal.three-readers-requires-clause-back_fits
-three-readers-requires-clause-back_fits g c κs within = λ k d low. let ready = c.seat-3.ensures.ready k d low in at_home c.args.site.now _ _ _ _ c.handler_of-for_previews.ensures ready.0 ready.1.1
+three-readers-requires-clause-back_fits g c κs within = λ k d low. let ready = c.seat-3.ensures.ready k d low in at_home c.args.site.now _ _ _ _ c.handler_of-for_previews.ensures.site ready.0 ready.1.1
 
 pub collect-requires-clause-idle : goal.collect-requires-clause-idle
-collect-requires-clause-idle g c = λ k d low. from_home c.args.site.now _ _ _ _ c.handler_of-for_readers.ensures (c.three-readers.ensures.front_fits k d low)
+collect-requires-clause-idle g c = λ k d low. from_home c.args.site.now _ _ _ _ c.handler_of-for_readers.ensures.site (c.three-readers.ensures.front_fits k d low)
 
 pub collect-requires-2-clause-idle : goal.collect-requires-2-clause-idle
-collect-requires-2-clause-idle g c = λ k d low. from_home c.args.site.now _ _ _ _ c.handler_of-for_editors.ensures (c.three-readers.ensures.middle_fits k d low)
+collect-requires-2-clause-idle g c = λ k d low. from_home c.args.site.now _ _ _ _ c.handler_of-for_editors.ensures.site (c.three-readers.ensures.middle_fits k d low)
 
 pub collect-requires-3-clause-idle : goal.collect-requires-3-clause-idle
-collect-requires-3-clause-idle g c = λ k d low. from_home c.args.site.now _ _ _ _ c.handler_of-for_previews.ensures (c.three-readers.ensures.back_fits k d low)
+collect-requires-3-clause-idle g c = λ k d low. from_home c.args.site.now _ _ _ _ c.handler_of-for_previews.ensures.site (c.three-readers.ensures.back_fits k d low)
 
 pub collect-requires-clause-room : goal.collect-requires-clause-room
 collect-requires-clause-room g c =
@@ -77,3 +80,31 @@ returns-clause-numbers g c =
     (kept_numbers (λ worker. worker.token.actor.pass) c.seat-2.new.workers.items c.three-readers.result.1.items c.in_ok-editing.editing.items (map (λ worker. worker.token.actor.pass) c.three-readers.result.1.items) c.seat-2.ensures.passes c.three-readers.ensures.middle_numbers refl)
     (kept_numbers (λ worker. worker.token.actor.pass) c.seat-3.new.workers.items c.three-readers.result.2.items c.in_ok-previewing.previewing.items (map (λ worker. worker.token.actor.pass) c.three-readers.result.2.items) c.seat-3.ensures.passes c.three-readers.ensures.back_numbers refl)
     (cut_twice c.split_off-2.new.self.items c.in_ok-editing.editing.items c.split_off.new.self.items c.in_ok-previewing.previewing.items c.args.passes.items _ _ c.in_ok-editing.ensures.items c.in_ok-editing.ensures.tail c.in_ok-previewing.ensures.items c.in_ok-previewing.ensures.tail)
+
+pub returns-clause-led : goal.returns-clause-led
+returns-clause-led g c = λ history same.
+    let talks = c.args.talks.now in
+    let drafts = is_some c.args.listeners.now.previews in
+    let drafts_is : bool_byte c.is_some.result ≡ bool_byte drafts = ap bool_byte c.is_some.ensures in
+    let turns = c.args.site.now in
+    let n = turns.opening.passes in
+    let all = c.args.passes.items in
+    let kept = c.split_off.new.self.items in
+    let front = c.split_off-2.new.self.items in
+    let middle = c.in_ok-editing.editing.items in
+    let back = c.in_ok-previewing.previewing.items in
+    let kept_is = c.in_ok-previewing.ensures.items in
+    let back_is = c.in_ok-previewing.ensures.tail in
+    let front_is = c.in_ok-editing.ensures.items in
+    let middle_is = c.in_ok-editing.ensures.tail in
+    let front_led = workers_led g.T.Talk.talked talks drafts n history talks.readers c.handler_of-for_readers.result.talk.now turns c.handler_of-for_readers.result.site.now (λ token. token.actor.pass) (λ worker. worker.token) c.seat.new.workers.items c.three-readers.result.0.items c.split_off-2.new.self.items c.handler_of-for_readers.ensures.talk c.handler_of-for_readers.ensures.site c.seat.ensures.passes
+    (front_begins talks drafts n _ _ history front middle kept back all c.requires.in_order same kept_is back_is front_is middle_is (omega (arith, drafts_is, few_for_drafts drafts)) (omega arith)) c.three-readers.ensures.front_worked in
+    let middle_led = workers_led g.T.Talk.talked talks drafts n history talks.editors c.handler_of-for_editors.result.talk.now turns c.handler_of-for_editors.result.site.now (λ token. token.actor.pass) (λ worker. worker.token) c.seat-2.new.workers.items c.three-readers.result.1.items c.in_ok-editing.editing.items c.handler_of-for_editors.ensures.talk c.handler_of-for_editors.ensures.site c.seat-2.ensures.passes
+    (middle_begins talks drafts n _ _ history front middle kept back all c.requires.in_order same kept_is back_is front_is middle_is (omega (arith, drafts_is, few_for_drafts drafts)) (omega arith)) c.three-readers.ensures.middle_worked in
+    let back_led = workers_led g.T.Talk.talked talks drafts n history talks.previews c.handler_of-for_previews.result.talk.now turns c.handler_of-for_previews.result.site.now (λ token. token.actor.pass) (λ worker. worker.token) c.seat-3.new.workers.items c.three-readers.result.2.items c.in_ok-previewing.previewing.items c.handler_of-for_previews.ensures.talk c.handler_of-for_previews.ensures.site c.seat-3.ensures.passes
+    (back_begins talks drafts n _ _ history front middle kept back all c.requires.in_order same kept_is back_is front_is middle_is (omega (arith, drafts_is, few_for_drafts drafts)) (omega arith)) c.three-readers.ensures.back_worked in
+    gathered_all (λ p. IsLed (λ t. g.T.Talk.talked t turns.opening) talks drafts n p.number history p.seen)
+    (map (λ worker. worker.token.actor.pass) c.three-readers.result.0.items) (map (λ worker. worker.token.actor.pass) c.three-readers.result.1.items) (map (λ worker. worker.token.actor.pass) c.three-readers.result.2.items)
+    c.in_ok-after.after.items c.collect.new.passes.items c.collect-2.new.passes.items c.collect-3.new.passes.items
+    c.in_ok-after.ensures.items c.collect.ensures.passes c.collect-2.ensures.passes c.collect-3.ensures.passes
+    front_led middle_led back_led
