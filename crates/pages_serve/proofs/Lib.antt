@@ -1,1 +1,2 @@
+pub mod Conversed
 pub mod Idle

@@ -1,5 +1,7 @@
 ghost use Rattle.std.specs.Prelude.{◌≡◌, ◌<◌};
+ghost use Rattle.edges.specs.History.{IsFront};
 ghost use Rattle.pass_course.specs.Course.{IsIdle};
+ghost use Rattle.pages_serve.specs.Talked.{HasTalked};
 ghost use Rattle.site_words.specs.Answers.{IsSamePort};
 
 use compiled_pages::Made;
@@ -31,6 +33,8 @@ pub struct Pages {
 }
 
 impl Talk<Made> for Pages {
+    ghost talked = { λ pages. HasTalked pages.audience };
+
     fn talk<Q: Port<Made>, S: Source, K: Sink, C: Clock>(
         &self,
         port: &mut Q,
@@ -67,6 +71,9 @@ fn talk_uncounted<N: ledger::Ledger, P: Port<Made>, S: Source, K: Sink, C: Clock
     ensures same { IsSamePort (P.pass port.old) (P.pass port.new) (P.opening port.old) (P.opening port.new)
         (P.home port.old) (P.home port.new) }
     ensures idle { IsIdle (P.opening port.new) (P.pass port.new) (P.seen port.new) }
+    ensures longer { IsFront (P.seen port.old) (P.seen port.new) }
+    ensures talked { HasTalked audience (P.opening port.old) (P.pass port.old) (P.seen port.old)
+        (P.seen port.new) }
 {
     let mut steps = Steps::<Unseen<N>>::unseen(blank);
     match audience {
