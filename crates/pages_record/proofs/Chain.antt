@@ -19,6 +19,7 @@ use Rattle.pass_course.specs.Course.{IsIdle}
 use Rattle.rollover.specs.Roll.{IsCutShort, IsRolled, IsUnrolled, goes_on_as, is_spent}
 use Rattle.site_core.specs.Lived.{Lived}
 use Rattle.site_journal.specs.Journal.{journal, rolled}
+use Rattle.site_journal.specs.Reading.{HasCode}
 use Rattle.site_journal.specs.declared.talk.Talk.{Talk}
 use Rattle.site_words.specs.Invariants.{AllRest}
 use Rattle.site_words.specs.Law.{Legal, own, run_of}
@@ -74,14 +75,15 @@ talked site before now done talk start still draft bytes gone answers later firs
     }
 
 recorded : (site : Lived) (talk : Talk) (bytes : List ℕ) (steps now : ℕ) → talk.bytes ≡ bytes → IsTalked site.opening site.history talk steps now → Legal needs_at site.opening (rolled site.history)
-    → is_spent (goes_on_as needs_at site) ≡ false → IsRecorded site.opening bytes steps now (goes_on_as needs_at site) (journal site.opening (rolled site.history) (Some talk))
-recorded site talk bytes steps now same talked legal room = record { history = site.history; talk = talk; bytes_are = same; talked = talked; is_legal = legal; goes_on = refl; room = room; text_is = refl }
+    → is_spent (goes_on_as needs_at site) ≡ false → HasCode site.opening (rolled site.history) (Some talk) → IsRecorded site.opening bytes steps now (goes_on_as needs_at site) (journal site.opening (rolled site.history) (Some talk))
+recorded site talk bytes steps now same talked legal room has_code =
+    record { history = site.history; talk = talk; bytes_are = same; talked = talked; is_legal = legal; goes_on = refl; room = room; text_is = refl; has_code = has_code }
 
 goes_on_from : (site next : Lived) (talk : Talk) (bytes : List ℕ) (old new : Option (List ℕ)) (steps now : ℕ) → site.opening.passes ≡ 1 → talk.bytes ≡ bytes → IsTalked site.opening site.history talk steps now
     → IsRolled needs_at site next (Some talk) old new → GoesOn site.opening bytes old new steps now next
 goes_on_from site next talk bytes old new steps now one same talked is = record {
   text = journal site.opening (rolled site.history) (Some talk);
-  recorded = subst (λ x. IsRecorded site.opening bytes steps now x (journal site.opening (rolled site.history) (Some talk))) (sym is.opening) (recorded site talk bytes steps now same talked is.is_legal is.room);
+  recorded = subst (λ x. IsRecorded site.opening bytes steps now x (journal site.opening (rolled site.history) (Some talk))) (sym is.opening) (recorded site talk bytes steps now same talked is.is_legal is.room is.has_code);
   written = is.written;
   one = ap (λ (x : Opening). x.passes) is.opening ∙ one;
   at_start = is.history;
@@ -98,7 +100,7 @@ pub breaks_off : (x : Opening) (site next : Lived) (talk : Talk) (bytes : List �
 breaks_off x site next talk bytes old new before risen steps now here same talked is = record {
   text = journal site.opening (rolled site.history) (Some talk);
   next = goes_on_as needs_at site;
-  recorded = subst (λ y. IsRecorded y bytes steps now (goes_on_as needs_at site) (journal site.opening (rolled site.history) (Some talk))) here (recorded site talk bytes steps now same talked is.is_legal is.room);
+  recorded = subst (λ y. IsRecorded y bytes steps now (goes_on_as needs_at site) (journal site.opening (rolled site.history) (Some talk))) here (recorded site talk bytes steps now same talked is.is_legal is.room is.has_code);
   sent = is.sent;
   rose = is.rose;
 }

@@ -15,6 +15,7 @@ use Rattle.pages_record.specs.declared.recorded.Recorded.TheVariants.{Done, NotL
 use Rattle.pages_talk.specs.Play.{only_connection}
 use Rattle.rollover.specs.Roll.{is_spent}
 use Rattle.site_journal.specs.Journal.{journal, rolled}
+use Rattle.site_journal.specs.Reading.{HasCode}
 use Rattle.site_journal.specs.declared.talk.Talk.{Talk}
 use Rattle.site_words.specs.Law.{Legal}
 use Rattle.site_words.specs.Opening.{next_opening}
@@ -52,7 +53,7 @@ pub record IsTalked (x : Opening) (history : List Entry) (talk : Talk) (steps no
   pub end_is : end_number ended ≡ Some talk.ended
   pub tells : Tells (IsSaid (only_connection x)) (IsLeft (only_connection x)) (stand_of [] (standing_of [] start steps)) (stand_of draft (standing_of history still now)) (Some talk.bytes) later before risen (Some []) (Some talk.answers) ended
 
--- a connection to a site with this opening was recorded as this journal, behind which the site goes on with the next opening, no count of which is spent
+-- a connection to a site with this opening was recorded as this journal, all parts of which are such as have a code, and behind which the site goes on with the next opening, no count of which is spent
 pub record IsRecorded (x : Opening) (bytes : List ℕ) (steps now : ℕ) (next : Opening) (text : List ℕ) : Type 0 where
   pub history : List Entry
   pub talk : Talk
@@ -62,6 +63,7 @@ pub record IsRecorded (x : Opening) (bytes : List ℕ) (steps now : ℕ) (next :
   pub goes_on : next ≡ next_opening x (after needs_at x (rolled history))
   pub room : is_spent next ≡ false
   pub text_is : text ≡ journal x (rolled history) (Some talk)
+  pub has_code : HasCode x (rolled history) (Some talk)
 
 -- connections were recorded one after the other, each to the site that went on from the one before
 abbrev pub Records : (x : Opening) → List (List ℕ) → (steps now : ℕ) → (last : Opening) → (text : List ℕ) → Type 0
