@@ -1,2 +1,3 @@
+pub mod CanBe
 pub mod Counted
 pub mod RightRecords

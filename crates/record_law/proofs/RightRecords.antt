@@ -4,15 +4,14 @@ use Rattle.std.proofs.Math.Seq.{take-append_seam}
 use Rattle.std.proofs.lemmas.List.{length-append}
 use Rattle.std.specs.Prelude.{flat_map, take}
 use Rattle.compiled_pages.specs.Pages.{needs_at}
-use Rattle.conversation.specs.declared.ended.Ended.{Ended}
-use Rattle.conversation.specs.declared.ended.Ended.TheVariants as ended
 use Rattle.page_answers.specs.Standing.{standing_of}
 use Rattle.pages_record.proofs.Chain.{records_next}
-use Rattle.pages_record.specs.Recorded.{IsRecorded, IsTalked, Records, end_number}
+use Rattle.pages_record.specs.Recorded.{IsRecorded, IsTalked, Records}
 use Rattle.pages_talk.specs.Play.{only_connection, opening_of}
+use Rattle.record_law.proofs.CanBe.{can_be, numbered}
 use Rattle.record_law.proofs.Counted.{tells_from}
-use Rattle.record_law.specs.RightRecord.{AllCanBe, AreRightOf, CommandsAreRight, RecordsAreRight}
-use Rattle.right_journal.specs.Right.{GoesOn, HasRightTalk, IsNumberOf, IsRight, Journal, unrolled}
+use Rattle.record_law.specs.RightRecord.{AreRightOf, CommandsAreRight, RecordsAreRight}
+use Rattle.right_journal.specs.Right.{GoesOn, HasRightTalk, IsRight, Journal, unrolled}
 use Rattle.right_journal.specs.Verdict.{AllRight, of_journal}
 use Rattle.rollover.proofs.Rolls.{next_is_sound}
 use Rattle.rollover.specs.Roll.{is_spent}
@@ -24,19 +23,11 @@ use Rattle.site_words.specs.Opening.{is_sound}
 use Rattle.site_words.specs.declared.words.Entry.{Entry}
 use Rattle.site_words.specs.declared.words.Opening.{Opening}
 use Rattle.source_tree.specs.Limits.{tree_fault}
-use Rattle.talk_law.specs.OneTalk.{IsByBytes}
 use Rattle.talk_law.specs.RightTalk.{IsRightTalk, RecordsAreRight as RecordedTalksAreRight}
 use Rattle.talk_words.specs.Connection.{Stand, stand_of}
+use Rattle.talk_words.specs.Uses.{EachOnce}
 
 -- one talk
-
--- an end that has a number came by the bytes, and the number is its own
-numbered : (end : Ended) (number : ℕ) → end_number end ≡ Some number → IsByBytes end × IsNumberOf number end
-numbered ended.Done number is = (tt, (cc))
-numbered (ended.Refused fault) number is = (tt, (cc))
-numbered ended.ReadFault number is = absurd (cc)
-numbered ended.WriteFault number is = absurd (cc)
-numbered ended.NoMemory number is = absurd (cc)
 
 -- without its Roll a history is as it was
 without_roll : (history : List Entry) (last : Entry) → unrolled (history ++ last ∷ []) ≡ history
@@ -77,47 +68,47 @@ record Found (before : Option Journal) (connections : List (List ℕ)) (text : L
   right : AreRightOf before connections journals
   is : text ≡ flat_map of_journal journals
 
-found : NextIsSound → RecordedTalksAreRight → (before : Option Journal) (x : Opening) (connections : List (List ℕ)) (steps now : ℕ) (last : Opening) (text : List ℕ) → is_sound x ≡ true → x.passes ≡ 1 → GoesOn needs_at before x
+found : NextIsSound → RecordedTalksAreRight → EachOnce → (before : Option Journal) (x : Opening) (connections : List (List ℕ)) (steps now : ℕ) (last : Opening) (text : List ℕ) → is_sound x ≡ true → x.passes ≡ 1 → GoesOn needs_at before x
     → Records x connections steps now last text → Found before connections text
-found sounds talks before x [] steps now last text sound one goes_on records = record { journals = []; right = tt; is = records.2 }
-found sounds talks before x (bytes ∷ connections) steps now last text sound one goes_on records =
+found sounds talks once before x [] steps now last text sound one goes_on records = record { journals = []; right = tt; is = records.2 }
+found sounds talks once before x (bytes ∷ connections) steps now last text sound one goes_on records =
     let next = records.0 in
     let mid = records.1 in
     let first = records.2 in
     let is = records.4 in
     let j : Journal = journal_of x bytes steps mid next first is in
     let next_one : next.passes ≡ 1 = ap (λ (y : Opening). y.passes) is.goes_on ∙ one in
-    let rest = found sounds talks (Some j) next connections mid now last records.3 (next_sound sounds x bytes steps mid next first sound is) next_one is.goes_on records.5 in
+    let rest = found sounds talks once (Some j) next connections mid now last records.3 (next_sound sounds x bytes steps mid next first sound is) next_one is.goes_on records.5 in
     record {
       journals = j ∷ rest.journals;
-      right = (is_right talks before x bytes steps mid next first sound one goes_on is, is.bytes_are, rest.right);
+      right = (can_be once x bytes steps mid next first one is, is_right talks before x bytes steps mid next first sound one goes_on is, is.bytes_are, rest.right);
       is = records.6 ∙ (ap (λ t. t ++ records.3) is.text_is ∙ ap (λ t. of_journal j ++ t) rest.is);
     }
 
 -- the verdict
 
-all_right : (before : Option Journal) (connections : List (List ℕ)) (journals : List Journal) → AreRightOf before connections journals → AllCanBe journals → AllRight needs_at before journals
-all_right before [] [] right can = tt
-all_right before [] (j ∷ journals) right can = absurd right
-all_right before (bytes ∷ connections) [] right can = absurd right
-all_right before (bytes ∷ connections) (j ∷ journals) right can = (can.0, right.0, all_right (Some j) connections journals right.2 can.1)
+all_right : (before : Option Journal) (connections : List (List ℕ)) (journals : List Journal) → AreRightOf before connections journals → AllRight needs_at before journals
+all_right before [] [] right = tt
+all_right before [] (j ∷ journals) right = absurd right
+all_right before (bytes ∷ connections) [] right = absurd right
+all_right before (bytes ∷ connections) (j ∷ journals) right = (right.0, right.1, all_right (Some j) connections journals right.3)
 
 as_many : (before : Option Journal) (connections : List (List ℕ)) (journals : List Journal) → AreRightOf before connections journals → length connections ≡ length journals
 as_many before [] [] right = refl
 as_many before [] (j ∷ journals) right = absurd right
 as_many before (bytes ∷ connections) [] right = absurd right
-as_many before (bytes ∷ connections) (j ∷ journals) right = let rest = as_many (Some j) connections journals right.2 in omega (arith, rest)
+as_many before (bytes ∷ connections) (j ∷ journals) right = let rest = as_many (Some j) connections journals right.3 in omega (arith, rest)
 
-pub records_are_right : NextIsSound → RecordedTalksAreRight → RecordsAreRight
-records_are_right sounds talks x connections steps now last text sound one records =
-    let all = found sounds talks None x connections steps now last text sound one tt records in
+pub records_are_right : NextIsSound → RecordedTalksAreRight → EachOnce → RecordsAreRight
+records_are_right sounds talks once x connections steps now last text sound one records =
+    let all = found sounds talks once None x connections steps now last text sound one tt records in
     record {
       journals = all.journals;
       right = all.right;
       is = all.is;
-      verdict = λ can. (
+      verdict = (
         all.journals,
-        record { right = all_right None connections all.journals all.right can; is = all.is ∙ sym (append-nil (flat_map of_journal all.journals)) },
+        record { right = all_right None connections all.journals all.right; is = all.is ∙ sym (append-nil (flat_map of_journal all.journals)) },
         as_many None connections all.journals all.right,
         refl,
       );

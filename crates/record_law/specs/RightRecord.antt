@@ -19,24 +19,19 @@ abbrev pub IsTalkOn : (bytes : List ℕ) → Option Talk → Type 0
 IsTalkOn bytes None = ⊥
 IsTalkOn bytes (Some talk) = talk.bytes ≡ bytes
 
--- a journal for each connection, in order: each is right behind the one before it, and has the talk on its connection
+-- a journal for each connection, in order: each can be a journal, is right behind the one before it, and has the talk on its connection
 abbrev pub AreRightOf : (before : Option Journal) → (connections : List (List ℕ)) → List Journal → Type 0
 AreRightOf before [] [] = ⊤
 AreRightOf before [] (j ∷ journals) = ⊥
 AreRightOf before (bytes ∷ connections) [] = ⊥
-AreRightOf before (bytes ∷ connections) (j ∷ journals) = IsRight needs_at before j × IsTalkOn bytes j.talk × AreRightOf (Some j) connections journals
+AreRightOf before (bytes ∷ connections) (j ∷ journals) = CanBe j × IsRight needs_at before j × IsTalkOn bytes j.talk × AreRightOf (Some j) connections journals
 
--- each can be a journal: its parts are such as have a code, and its last entry alone is a Roll
-abbrev pub AllCanBe : List Journal → Type 0
-AllCanBe [] = ⊤
-AllCanBe (j ∷ journals) = CanBe j × AllCanBe journals
-
--- the text is right journals, one for each connection; where all can be journals, that is the verdict on it
+-- the text is right journals, one for each connection, and that is the verdict on it
 pub record IsRightRecord (connections : List (List ℕ)) (text : List ℕ) : Type 0 where
   pub journals : List Journal
   pub right : AreRightOf None connections journals
   pub is : text ≡ flat_map of_journal journals
-  pub verdict : AllCanBe journals → Holds needs_at text (yes (length connections) (entries_in journals))
+  pub verdict : Holds needs_at text (yes (length connections) (entries_in journals))
 
 -- what was recorded of connections, one after the other, from a sound opening on, with one pass, is right
 abbrev pub RecordsAreRight : Type 0
