@@ -9,22 +9,17 @@ use site_words::Entry;
 use word_equality::same_entries;
 
 /// Whether what was run again came to these answers, this end and this history, and took exactly the moments that were recorded.
+/// Afterwards its clock tells nothing of that any more.
 pub(crate) fn is_same_talk(
-    again: Rerun,
+    again: &mut Rerun,
     answers: &Bytes,
     ended: u8,
     history: &BlockList<Entry>,
 ) -> bool
-    ensures { Decides result (IsSameTalk again answers.now ended history.now.items) }
+    ensures { Decides result (IsSameTalk again.old answers.now ended history.now.items) }
 {
-    let Rerun {
-        number,
-        sink,
-        mut clock,
-        site,
-    } = again;
-    number == ended
-        && sink.taken() == answers.as_slice()
-        && are_left(&mut clock)
-        && same_entries(site.history(), history)
+    again.number == ended
+        && again.sink.taken() == answers.as_slice()
+        && are_left(&mut again.clock)
+        && same_entries(again.site.history(), history)
 }

@@ -53,14 +53,14 @@ pub fn is_right(
         answers,
         ended,
     } = talk;
-    let again = run_again::<Brand>(
+    let mut again = run_again::<Brand>(
         alloc,
         site,
         bytes.into_vec(),
         moments.into_vec(),
         Blank::new(1),
     )?;
-    Ok(is_same_talk(again, &answers, ended, history))
+    Ok(is_same_talk(&mut again, &answers, ended, history))
 }
 
 // Runs the connection again on a site for one pass.
