@@ -5,6 +5,7 @@ pub mod JsonLemmas
 pub mod Lengths
 pub mod Lookups
 pub mod Sizes
+pub mod Falls
 pub mod Order
 mod Worked
 mod WorkedJson

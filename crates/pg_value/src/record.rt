@@ -1,4 +1,4 @@
-ghost use Rattle.std.specs.Prelude.{◌≡◌, ◌==◌, ◌-◌, ◌^◌, min, length, map, option_map, IfOk, OnOk, OnErr};
+ghost use Rattle.std.specs.Prelude.{◌≡◌, ◌==◌, ◌-◌, ◌^◌, min, length, map, option_map, IfOk, IfSome, OnOk, OnErr};
 ghost use Rattle.pg_value.specs.Attrs.{AreInOrder, entry_at, with_entry};
 ghost use Rattle.pg_value.specs.Datum.{rec, entries_of};
 ghost use Rattle.pg_value.specs.Depth.{depth_of};
@@ -122,6 +122,13 @@ impl Record {
         ensures { result ≡ (length self.now == 0) }
     {
         self.entries.is_empty()
+    }
+
+    // The entries, where no copy shares them.
+    pub(crate) fn into_sole(self) -> Option<Vec<(Text, Value)>>
+        ensures { IfSome result (λ entries. map entry_of entries.items ≡ self) }
+    {
+        Arc::into_inner(self.entries)
     }
 
     /// The entries, whose list is copied only where other records share it.

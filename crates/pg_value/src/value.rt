@@ -1,14 +1,14 @@
 ghost use Rattle.std.specs.Prelude.{◌≡◌, IfOk};
 
-use crate::equality;
+use crate::limits::MAX_DEPTH;
 use crate::record::Record;
 use crate::values::Values;
+use crate::{equality, measures};
 use pg_text::Text;
 use std::alloc::AllocError;
 
 /// A value of the page language. Contracts compare two values by `≡`, which is equality of their whole content.
 #[cycle(value)]
-#[derive(Drop)]
 pub enum Value {
     Null,
     Bool(bool),
@@ -17,6 +17,47 @@ pub enum Value {
     List(Values),
     /// A record: values under distinct keys.
     Rec(Record),
+}
+
+impl Drop for Value {
+    // Goes on with the heaviest item in a loop, since a value that was read may be of any depth. Each of
+    // the others is at most half as heavy as the whole, so that dropping them goes down the stack at
+    // most once for each bit of a weight.
+    #[cycle(value)]
+    fn drop(mut self) {
+        loop {
+            match self {
+                Value::List(items) => {
+                    if items.depth() <= MAX_DEPTH {
+                        return;
+                    }
+                    let Some(mut items) = items.into_sole() else {
+                        return;
+                    };
+                    let Some(place) = measures::heaviest_item(&items) else {
+                        return;
+                    };
+                    self = items.swap_remove(place);
+                }
+                Value::Rec(entries) => {
+                    if entries.depth() <= MAX_DEPTH {
+                        return;
+                    }
+                    let Some(mut entries) = entries.into_sole() else {
+                        return;
+                    };
+                    let Some(place) = measures::heaviest_entry(&entries) else {
+                        return;
+                    };
+                    self = entries.swap_remove(place).1;
+                }
+                Value::Null => return,
+                Value::Bool(_truth) => return,
+                Value::Int(_number) => return,
+                Value::Text(_text) => return,
+            }
+        }
+    }
 }
 
 impl PartialEq for Value {

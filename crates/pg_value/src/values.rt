@@ -1,4 +1,4 @@
-ghost use Rattle.std.specs.Prelude.{◌≡◌, ◌==◌, ◌-◌, ◌^◌, min, length, map, IfOk};
+ghost use Rattle.std.specs.Prelude.{◌≡◌, ◌==◌, ◌-◌, ◌^◌, min, length, map, IfOk, IfSome};
 ghost use Rattle.pg_value.specs.Datum.{list, items_of};
 ghost use Rattle.pg_value.specs.Depth.{depth_of};
 ghost use Rattle.pg_value.specs.Value.{datum_of};
@@ -97,6 +97,13 @@ impl Values {
         ensures { result ≡ (length self.now == 0) }
     {
         self.items.is_empty()
+    }
+
+    // The items, where no copy shares them.
+    pub(crate) fn into_sole(self) -> Option<Vec<Value>>
+        ensures { IfSome result (λ items. map datum_of items.items ≡ self) }
+    {
+        Arc::into_inner(self.items)
     }
 
     /// The items, whose list is copied only where other values share it.
