@@ -6,13 +6,12 @@ use percent_encoding::percent_decode;
 use pg_text::{Failure, Path, resolve};
 use std::alloc::{AllocError, Global};
 
-// The path of a target, where it has one.
+// The path of a target, where it has one. A target without escapes isn't copied for it.
 #[tactic(auto, unfolding(crate::specs::Target::path_of))]
 pub fn path_of(alloc: Global, target: &str) -> Result<Option<Path>, AllocError>
     ensures { IfOk result (λ path. path ≡ path_of target.now) }
 {
-    let mut decoded = Vec::new(alloc);
-    percent_decode(before_query(target).as_bytes()).append_to(&mut decoded)?;
+    let decoded = percent_decode(before_query(target).as_bytes()).into_cow(alloc)?;
     path_in(alloc, &decoded)
 }
 
