@@ -1,5 +1,6 @@
 pub mod Answered
 pub mod Cookies
+pub mod EmptyLines
 pub mod FieldLemmas
 pub mod FoundHeads
 pub mod GoodHeads

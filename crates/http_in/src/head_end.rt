@@ -2,6 +2,7 @@ ghost use Rattle.std.specs.Prelude.{◌≡◌, ◌≤◌, length, IfSome};
 ghost use Rattle.http_in.specs.HeadEnd.{skip_pairs, through_empty_line, front_of};
 
 use crate::limits::MAX_HEAD_BYTES;
+use memchr::memmem;
 
 // What ends a head.
 const EMPTY_LINE: &[u8] = b"\r\n\r\n";
@@ -31,12 +32,6 @@ pub fn through_empty_line(bytes: &[u8]) -> Option<usize>
     ensures value { result ≡ through_empty_line bytes.now }
     ensures within { IfSome result (λ len. (4 ≤ len) × (len ≤ length bytes.now)) }
 {
-    let mut rest = bytes;
-    while let [_, after @ ..] = rest {
-        if rest.starts_with(EMPTY_LINE) {
-            return Some(bytes.len() - rest.len() + EMPTY_LINE.len());
-        }
-        rest = after;
-    }
-    None
+    let at = memmem::find(bytes, EMPTY_LINE)?;
+    Some(at + EMPTY_LINE.len())
 }
