@@ -5,5 +5,5 @@ pub fn text_of(bytes: &[u8]) -> &str
     requires { IsUtf8 bytes.now }
     ensures { result.now ≡ bytes.now }
 {
-    str::from_utf8(bytes).unwrap()
+    unsafe { str::from_utf8_unchecked(bytes) }
 }
