@@ -12,8 +12,8 @@ use pg_text::Failure;
 use pg_value::RunFault;
 use std::alloc::AllocError;
 
-/// The most bytes of a buffer's first room: all of a buffer that has the size of those whose page names none.
-const FIRST_ROOM: usize = 8_192;
+/// The most bytes of a buffer's first room: what an allocator has at hand, and enough for most small pages.
+const FIRST_ROOM: usize = 1_024;
 
 /// The buffer of a page, with its settings.
 #[derive(Drop)]
