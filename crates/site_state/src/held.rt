@@ -8,6 +8,7 @@ mod snapshot;
 mod start;
 mod values;
 
+use crate::known_ids::KnownIds;
 use crate::request::Request;
 use crate::session_list::SessionList;
 use pg_value::Attrs;
@@ -25,6 +26,7 @@ pub struct Held<P: Compiled> {
     pub version: u64,
     pub app: Attrs,
     pub sessions: SessionList,
+    pub ids: KnownIds,
     pub runs: Vec<Option<Request>>,
     pub store: Store<P>,
     pub begins: u64,

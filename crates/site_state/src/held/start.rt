@@ -5,6 +5,7 @@ ghost use Rattle.site_state.specs.Parts.{parts_of, state_of};
 ghost use Rattle.site_state.specs.Sources.{AreThere, sessions_of};
 
 use crate::held::Held;
+use crate::known_ids::KnownIds;
 use crate::request::Request;
 use crate::session::{Session, Source};
 use crate::session_list::SessionList;
@@ -31,6 +32,7 @@ impl<P: Compiled> Held<P> {
             version: opening.version,
             app,
             sessions,
+            ids: KnownIds::none(alloc),
             runs,
             store: Store::new(alloc),
             begins: opening.begins,
