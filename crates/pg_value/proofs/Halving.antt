@@ -1,11 +1,15 @@
 -- What a search by halving finds among the entries of a record.
-use Rattle.std.proofs.Common.{◌≡◌, ◌<◌, ℕ, List, [], ◌∷◌, length, get_or, map, Some, None, Result, Ok, Err, Less, Equal, Greater, refl, ap, ◌∙◌, subst, arith}
+use Rattle.std.proofs.Common.{◌≡◌, ◌<◌, ℕ, List, [], ◌∷◌, length, get_or, map, Some, None, Result, Ok, Err, Less, Equal, Greater, true, refl, sym, ap, ◌∙◌, subst, arith}
 use Rattle.std.specs.declared.cmp.Ordering.{Ordering}
 use Rattle.std.specs.Cmp.Lexicographic.{nat_list_cmp_total}
 use Rattle.std.specs.List.{AllByRecursion}
 use Rattle.std.specs.List.Sorted.{IsStrictlySortedBy, IsBinarySearchResult, IsSearchInRange}
 use Rattle.std.specs.Map.{keys_of}
-use Rattle.std.specs.Ordering.{match_ordering}
+use Rattle.std.specs.Ordering.{is_eq, match_ordering}
+use Rattle.std.specs.Str.{bytes_eq}
+use Rattle.std.proofs.lemmas.List.{get_or_default}
+use Rattle.std.proofs.lemmas.Map.Text.{is_eq-slice_cmp}
+use Rattle.std.proofs.lemmas.Slice.Eq.{bytes_eq-Decides}
 use Rattle.pg_text.specs.Names.{next_place}
 use Rattle.pg_text.proofs.Halving.{by_order, order}
 use Rattle.pg_text.proofs.Halving as names
@@ -24,6 +28,21 @@ keys-entry_of (e ∷ es) = ap (λ keys. e.0 ∷ keys) (keys-entry_of es)
 
 pub searched : (key : List ℕ) (es : List Entry) (r : Result ℕ ℕ) → AreInOrder (map entry_of es) → IsSearchInRange r (length es) → IsBinarySearchResult (λ e. order e.0 key) es r → r ≡ place_of key es
 searched key es r sorted within found = names.searched (λ e. e.0) (key, Null) key es r (subst (IsStrictlySortedBy order) (keys-entry_of es) sorted) within found
+
+equal_by : (o : Ordering) → is_eq o ≡ true → o ≡ Equal
+equal_by Less h = cc
+equal_by Equal h = refl
+equal_by Greater h = cc
+
+equal_order : (key other : List ℕ) → bytes_eq key other ≡ true → order other key ≡ Equal
+equal_order key other met =
+    let same : other ≡ key = sym ((bytes_eq-Decides key other).0 met) in
+    equal_by (order other key) (is_eq-slice_cmp other key ∙ (bytes_eq-Decides other key).1 same)
+
+-- a key that was met is found there
+pub met_at : (key : List ℕ) (es : List Entry) (i : ℕ) (e : Entry) → AreInOrder (map entry_of es) → i < length es → bytes_eq key (get_or es i e).0 ≡ true → place_of key es ≡ Ok i
+met_at key es i e sorted within met =
+    sym (searched key es (Ok i) sorted within (λ d. equal_order key (get_or es i d).0 (ap (λ x. bytes_eq key x.0) (get_or_default es i d e within) ∙ met)))
 
 found_by : (o : Ordering) (key : List ℕ) (e : Entry) (es : List Entry) (i : ℕ) (d : Entry) → order key e.0 ≡ o
     → ((j : ℕ) → place_of key es ≡ Ok j → entry_at key (map entry_of es) ≡ Some (datum_of (get_or es j d).1))

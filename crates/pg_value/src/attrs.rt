@@ -1,4 +1,4 @@
-ghost use Rattle.std.specs.Prelude.{◌≡◌, ◌≢◌, ℕ, List, [], Some, None, filter, reverse, not, ◌==◌, ◌-◌, ◌^◌, min, length, map, option_map, IfOk, OnOk, OnErr};
+ghost use Rattle.std.specs.Prelude.{◌≡◌, ◌≢◌, ℕ, List, [], Some, None, filter, reverse, not, ◌==◌, ◌-◌, ◌^◌, min, length, map, option_map, IfOk, IfSome, Ok, OnOk, OnErr};
 ghost use Rattle.std.specs.Cmp.Lexicographic.{slice_cmp};
 ghost use Rattle.std.specs.List.Sorted.{IsStableBy};
 ghost use Rattle.std.specs.Ordering.{nat_cmp, is_lt};
@@ -15,6 +15,10 @@ use pg_text::Text;
 use std::alloc::{AllocError, Global};
 use std::cmp::Ordering;
 use std::marker::Model;
+
+/// Among at most so many entries a key is looked for one entry after the other: most keys differ in their lengths, which
+/// tells sooner than their order.
+const FEW: usize = 16;
 
 /// The entries of a record: values under distinct keys, in rising byte order of the keys. Contracts see the list of each key's
 /// bytes with what stands under it.
@@ -219,7 +223,26 @@ fn place(entries: &[(Text, Value)], key: &str) -> Result<usize, usize>
     requires { AreInOrder (map entry_of entries.now) }
     ensures { result ≡ place_of key.now entries.now }
 {
+    if entries.len() <= FEW {
+        if let Some(at) = place_among(entries, key) {
+            return Ok(at);
+        }
+    }
     entries.binary_search_by(|entry| order(entry, key))
+}
+
+// Where the key stands, one entry after the other.
+#[tactic(auto, using(crate::proofs::Halving::met_at))]
+fn place_among(entries: &[(Text, Value)], key: &str) -> Option<usize>
+    requires { AreInOrder (map entry_of entries.now) }
+    ensures { IfSome result (λ at. place_of key.now entries.now ≡ Ok at) }
+{
+    for (at, entry) in entries.iter().enumerate() {
+        if is_at(entry, key) {
+            return Some(at);
+        }
+    }
+    None
 }
 
 // How the key of the entry stands to this one.
@@ -234,10 +257,25 @@ pub fn find<'a>(entries: &'a [(Text, Value)], key: &str) -> Option<&'a Value>
     requires { AreInOrder (map entry_of entries.now) }
     ensures { option_map (λ value. datum_of value.now) result ≡ entry_at key.now (map entry_of entries.now) }
 {
+    if entries.len() <= FEW {
+        return find_among(entries, key);
+    }
     match place(entries, key) {
         Ok(at) => Some(&entries[at].1),
         Err(_) => None,
     }
+}
+
+// The same, one entry after the other.
+fn find_among<'a>(entries: &'a [(Text, Value)], key: &str) -> Option<&'a Value>
+    ensures { option_map (λ value. datum_of value.now) result ≡ entry_at key.now (map entry_of entries.now) }
+{
+    for entry in entries {
+        if entry.0.as_str() == key {
+            return Some(&entry.1);
+        }
+    }
+    None
 }
 
 fn take_out(entries: &mut Vec<(Text, Value)>, key: &str)
