@@ -89,14 +89,14 @@ impl Attrs {
     pub fn weight(&self) -> u64
         ensures { result ≡ min (weight_of (rec (entries_of self.now))) (2 ^ 64 - 1) }
     {
-        measures::weight_of_entries(&self.entries)
+        measures::measures_of_entries(&self.entries).0
     }
 
     /// The depth of the record.
     pub fn depth(&self) -> u32
         ensures { result ≡ min (depth_of (rec (entries_of self.now))) (2 ^ 32 - 1) }
     {
-        measures::depth_of_entries(&self.entries)
+        measures::measures_of_entries(&self.entries).1
     }
 
     /// What stands under the key.

@@ -55,9 +55,10 @@ impl Record {
         ensures { IfOk result (λ made. made ≡ entries) }
     {
         let entries = entries.into_vec();
+        let (weight, depth) = measures::measures_of_entries(&entries);
         Ok(Record {
-            weight: measures::weight_of_entries(&entries),
-            depth: measures::depth_of_entries(&entries),
+            weight,
+            depth,
             entries: Arc::new(*entries.allocator(), entries)?,
         })
     }
@@ -100,8 +101,9 @@ impl Record {
         ensures err { OnErr result (self.new ≡ self.old) }
     {
         put(&mut self.entries, key, value)?;
-        self.weight = measures::weight_of_entries(self.entries.as_slice());
-        self.depth = measures::depth_of_entries(self.entries.as_slice());
+        let (weight, depth) = measures::measures_of_entries(self.entries.as_slice());
+        self.weight = weight;
+        self.depth = depth;
         Ok(())
     }
 
