@@ -1,3 +1,2 @@
-mod InputLemmas
 mod PageLemmas
 mod ToldLemmas

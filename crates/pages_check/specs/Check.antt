@@ -9,7 +9,7 @@ use Rattle.http_out.specs.Sent.{BreaksOff}
 use Rattle.unit_build.specs.Needs.{bytes_of}
 use Rattle.unit_build.specs.Unit.{unit_of}
 use Rattle.unit_source.specs.Files.{text_in}
-use Rattle.pages_check.specs.Input.{HasCome}
+use Rattle.whole_input.specs.Come.{HasCome}
 use Rattle.pages_check.specs.Page.{alone, page_fault}
 use Rattle.pages_check.specs.declared.checked.Checked.{Checked}
 use Rattle.pages_check.specs.declared.checked.Checked.TheVariants.{Good, Bad, ReadFault, WriteFault, NoMemory}
@@ -35,7 +35,7 @@ check_steps path bytes = if nat_lt MAX_FILE_BYTES (length bytes) then 0 else if 
 -- the page that came was checked, and its report written
 pub record IsReported (path : List ℕ) (left later old new : Option (List ℕ)) (before now : ℕ) (answer : Checked) : Type 0 where
   pub came : List ℕ
-  pub come : HasCome left later came
+  pub come : HasCome MAX_FILE_BYTES left later came
   pub answered : answer ≡ verdict (page_fault path came)
   pub written : Appends old new (report (page_fault path came))
   pub steps : now ≡ before + check_steps path came
@@ -50,7 +50,7 @@ pub record StoppedReading (left later old new : Option (List ℕ)) (before now :
 -- the page that came was checked, and a part of its report written
 pub record StoppedWriting (path : List ℕ) (left later old new : Option (List ℕ)) (before now : ℕ) : Type 0 where
   pub came : List ℕ
-  pub come : HasCome left later came
+  pub come : HasCome MAX_FILE_BYTES left later came
   pub broke : BreaksOff old new [] (report (page_fault path came))
   pub steps : now ≡ before + check_steps path came
 

@@ -7,13 +7,14 @@ ghost use Rattle.pages_check.specs.Page.{page_fault};
 ghost use Rattle.pages_check.specs.Words.{path_asked, path_word};
 
 use crate::checked::Checked;
-use crate::input::read_file;
 use crate::page::page_fault;
 use edges::{Ledger, Sink, Source, Steps};
 use fault_line::page_fault_line;
 use http_out::write;
 use pg_text::{Failure, PageFault, Path, resolve};
+use source_tree::MAX_FILE_BYTES;
 use std::alloc::{AllocError, Global};
+use whole_input::read_up_to;
 
 /// Reads a page from the source, and writes `ok` or the line of its fault to the sink, with a line feed. The words are `check` and
 /// the page's path, which is resolved in the root folder; the page is the only file of its site. The answer is the program's
@@ -91,7 +92,7 @@ fn check_page<S: Source, K: Sink, L: Ledger>(
     ensures write { result ≡ Checked.WriteFault → Rose (K.faults sink.old) (K.faults sink.new) }
     ensures unfailing { S.unfailing source.old → (result ≢ Checked.ReadFault) × S.unfailing source.new }
 {
-    let bytes = match read_file(alloc, source) {
+    let bytes = match read_up_to(alloc, source, MAX_FILE_BYTES) {
         Ok(bytes) => bytes,
         Err(Failure::NoMemory) => return Checked::NoMemory,
         Err(Failure::Fault(_)) => return Checked::ReadFault,

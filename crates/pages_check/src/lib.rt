@@ -3,7 +3,6 @@
 
 mod checked;
 mod command;
-mod input;
 mod page;
 
 pub use command::check;
