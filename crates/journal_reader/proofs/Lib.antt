@@ -7,6 +7,10 @@ pub mod Compounds
 pub mod RisingLemmas
 pub mod TextLemmas
 pub mod ValueLemmas
+pub mod HeadLemmas
+pub mod StepLemmas
+pub mod FrameLemmas
+pub mod TurnLemmas
 pub mod ApplicationLemmas
 pub mod OpeningParts
 pub mod ActParts

@@ -35,7 +35,7 @@ module _ {A B : Type 0} (I : A → Type 0) (k : A → List ℕ) (Q : B → Type 
       let longer : length (g y) ≡ length (k o.0) + length o.1 = ap length o.3 ∙ length-append (k o.0) o.1 in
       subst C (sym longer) (more (length (k o.0)) (length o.1) (only o.0 (o.1 ++ s) o.2 (at ∙ ap (λ z. z ++ s) o.3 ∙ append_assoc (k o.0) o.1 s)))
 
-  stopped_first : (left : Option (List ℕ)) (room before now : ℕ) (failure : Failure Unread) → Opens → Stopped I k left room before now failure → Stopped Q g left room before now failure
+  pub stopped_first : (left : Option (List ℕ)) (room before now : ℕ) (failure : Failure Unread) → Opens → Stopped I k left room before now failure → Stopped Q g left room before now failure
   stopped_first None room before now (Fault NotThere) opens was = tt
   stopped_first (Some bytes) room before now (Fault NotThere) opens was = far bytes (λ _. ⊥) (λ m n no. no) opens was
   stopped_first None room before now (Fault TooLong) opens was = tt

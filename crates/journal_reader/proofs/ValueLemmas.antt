@@ -1,13 +1,10 @@
 -- Values and attributes that are read.
 use Rattle.std.proofs.Common.{◌≡◌, ◌≤◌, ℕ, suc, ◌+◌, List, [], ◌∷◌, ◌++◌, length, map, refl, sym, ap, subst, ◌∙◌, arith, Option, Ok, Err, Bool}
-use Rattle.std.proofs.lemmas.Int.{to_z-of_z}
 use Rattle.std.specs.Cmp.Lexicographic.{slice_cmp}
-use Rattle.std.specs.Int.{w64, cast_signed, cast_unsigned}
 use Rattle.std.specs.List.Sorted.{IsStrictlySortedBy}
 use Rattle.std.specs.Map.{keys_of}
 use Rattle.std.specs.Ordering.{nat_cmp}
 use Rattle.std.specs.Prelude.{Result, flat_map, ⊤, ℤ}
-use Rattle.journal_reader.proofs.Tags.{IsByte, body_read, of_byte}
 use Rattle.journal_reader.proofs.Views.{seen_stops, sorted}
 use Rattle.journal_reader.specs.Reads.{Reads, Sorts}
 use Rattle.journal_reader.specs.Values.{IsPair, IsValue, are_attrs, of_pair}
@@ -136,10 +133,6 @@ entries_counted (e ∷ es) = ap (λ n. n + 1) (entries_counted es) ∙ omega ari
 pub rec_value_is : (es : List (List ℕ × Datum)) → AreAttrs es → IsValue (variant.Rec es)
 rec_value_is es is = (is.0, subst AreInOrder (sym (entry_list-entries_of es)) is.1, is.2)
 
-pub rec_arm : (v : Value) → IsValue v → value_tag v ≡ 5 → (es : List (List ℕ × Datum)) × AreAttrs es × (value_body v ≡ of_attrs es) × (v ≡ variant.Rec es)
-rec_arm (variant.Rec es) is e = (es, (is.0, subst AreInOrder (entry_list-entries_of es) is.1, is.2), refl, refl)
-rec_arm v is e = absurd (omega (arith, e))
-
 pub pairs_back : (es : List (List ℕ × Datum)) → map entry_of (are_attrs es) ≡ es
 pairs_back [] = refl
 pairs_back (e ∷ es) = ap (λ d. (e.0, d) ∷ map entry_of (are_attrs es)) (datum_of-value_of e.1) ∙ ap (λ fs. e ∷ fs) (pairs_back es)
@@ -167,16 +160,16 @@ pairs_flat (e ∷ es) = ap (λ d. of_bytes e.0 ++ of_datum d ++ of_entries (entr
 attrs_count : (es : List (List ℕ × Datum)) → entry_count (entries_of es) ≡ length (are_attrs es)
 attrs_count es = entries_counted es ∙ sym (length_seen (λ (e : List ℕ × Datum). (e.0, value_of e.1)) es)
 
-attrs_text : (es : List (List ℕ × Datum)) → of_attrs es ≡ of_list of_pair (are_attrs es)
+pub attrs_text : (es : List (List ℕ × Datum)) → of_attrs es ≡ of_list of_pair (are_attrs es)
 attrs_text es = ap (λ n. of_number n ++ of_entries (entries_of es)) (attrs_count es) ∙ ap (λ t. of_number (length (are_attrs es)) ++ t) (pairs_flat es)
 
 abbrev pub KeysRise : List (List ℕ × Value) → Type 0
 KeysRise pairs = AreInOrder (map entry_of pairs)
 
-attrs_so : (es : List (List ℕ × Datum)) → AreAttrs es → IsList IsPair (are_attrs es) × KeysRise (are_attrs es)
+pub attrs_so : (es : List (List ℕ × Datum)) → AreAttrs es → IsList IsPair (are_attrs es) × KeysRise (are_attrs es)
 attrs_so es is = ((subst IsNumber (attrs_count es) is.0, pairs_each es is.2), subst AreInOrder (sym (pairs_back es)) is.1)
 
-attrs_are : (es : List (List ℕ × Datum)) → IsList IsPair (are_attrs es) → KeysRise (are_attrs es) → AreAttrs es
+pub attrs_are : (es : List (List ℕ × Datum)) → IsList IsPair (are_attrs es) → KeysRise (are_attrs es) → AreAttrs es
 attrs_are es list rise = (subst IsNumber (sym (attrs_count es)) list.0, subst AreInOrder (pairs_back es) rise, each_entries es list.1)
 
 pub attrs_sorted : {left later : Option (List ℕ)} {room rest before now : ℕ} {pairs : List (List ℕ × Value)} (r : Result (List (List ℕ × Datum)) (Failure Unread)) → Reads (IsList IsPair) (of_list of_pair) left later room rest before now (Ok pairs)
@@ -195,22 +188,3 @@ keys_rise xs ys same rise = subst (IsStrictlySortedBy (slice_cmp nat_cmp)) (sym 
 
 pub rise_keys : (xs ys : List (List ℕ × Value)) → ys ≡ xs → KeysRise xs → IsStrictlySortedBy (slice_cmp nat_cmp) (map first_of ys)
 rise_keys xs ys same rise = subst (λ zs. IsStrictlySortedBy (slice_cmp nat_cmp) (map first_of zs)) (sym same) (subst (IsStrictlySortedBy (slice_cmp nat_cmp)) (pairs_keys xs) rise)
-
--- a list and a record that were made of what was read
-pub list_made : {left mid later : Option (List ℕ)} {room half rest before between now a0 : ℕ} {xs : List Value} (made : List Datum) (values : List Value) → made ≡ map datum_of values → values ≡ xs → a0 ≡ 4
-    → Reads IsByte of_byte left mid room half before between (Ok a0) → Reads (IsList IsValue) (of_list of_value) mid later half rest between now (Ok xs) → Reads IsValue of_value left later room rest before now (Ok (variant.List made))
-list_made {left = left} {later = later} {room = room} {rest = rest} {before = before} {now = now} {xs = xs} made values is same at first second =
-    subst (λ m. Reads IsValue of_value left later room rest before now (Ok (variant.List m))) (sym (is ∙ ap (map datum_of) same))
-    (body_read IsValue of_value value_tag value_body value_text (IsList IsValue) (of_list of_value) as_list 4 list_arm at (list_value_is xs second.answered.is) (list_value_text xs) first second)
-
-pub rec_made : {left mid later : Option (List ℕ)} {room half rest before between now a0 : ℕ} {es : List (List ℕ × Datum)} (made : List (List ℕ × Datum)) → made ≡ es → a0 ≡ 5
-    → Reads IsByte of_byte left mid room half before between (Ok a0) → Reads AreAttrs of_attrs mid later half rest between now (Ok es) → Reads IsValue of_value left later room rest before now (Ok (variant.Rec made))
-rec_made {left = left} {later = later} {room = room} {rest = rest} {before = before} {now = now} {es = es} made is at first second =
-    subst (λ m. Reads IsValue of_value left later room rest before now (Ok (variant.Rec m))) (sym is)
-    (body_read IsValue of_value value_tag value_body value_text AreAttrs of_attrs variant.Rec 5 rec_arm at (rec_value_is es second.answered.is) refl first second)
-
-pub int_made : {left mid later : Option (List ℕ)} {room half rest before between now a0 : ℕ} {n : ℤ} → a0 ≡ 2 → Reads IsByte of_byte left mid room half before between (Ok a0) → Reads IsInt of_int mid later half rest between now (Ok n)
-    → Reads IsValue of_value left later room rest before now (Ok (variant.Int (cast_signed w64 (cast_unsigned w64 n))))
-int_made {left = left} {later = later} {room = room} {rest = rest} {before = before} {now = now} {n = n} at first second =
-    subst (λ m. Reads IsValue of_value left later room rest before now (Ok (variant.Int m))) (sym (to_z-of_z w64 n second.answered.is))
-    (body_read IsValue of_value value_tag value_body value_text IsInt of_int variant.Int 2 int_arm at second.answered.is refl first second)

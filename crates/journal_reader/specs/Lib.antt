@@ -1,4 +1,5 @@
 pub mod Acts
+pub mod Frames
 pub mod Next
 pub mod Reads
 pub mod Values

@@ -26,8 +26,7 @@ pub struct Journal {
 ///
 /// Errors: `NotThere` where bytes come and don't begin with a journal; `TooLong` where more bytes
 /// come than may be read, and those don't begin with one; `Failed` where the source failed; want of
-/// memory, also where a value stands in more than 512 lists and records. After an error the source
-/// has given some of the bytes.
+/// memory. After an error the source has given some of the bytes.
 pub fn next_journal<S: Source>(
     alloc: Global,
     source: &mut S,

@@ -1,7 +1,7 @@
 use crate::{Part, Unread, next_journal};
 use edges::MemSource;
 use pg_text::{Failure, Listed, Names, Text};
-use pg_value::{Attrs, Value};
+use pg_value::{Attrs, Value, depth};
 use std::alloc::Global;
 use std::test::Fail;
 
@@ -32,19 +32,29 @@ fn a_list_of_more_items_than_there_are_is_not_there(rt: HostRuntime) -> Result<(
     Ok(())
 }
 
+// A list of one item, and a record of one entry without a key, each up to what stands in it.
+const LIST: [u8; 9] = [4, 0, 0, 0, 0, 0, 0, 0, 1];
+
+const RECORD: [u8; 17] = [5, 0, 0, 0, 0, 0, 0, 0, 1, 0, 0, 0, 0, 0, 0, 0, 0];
+
 #[test]
-fn a_value_is_as_deep_as_the_stack_is_trusted_to_have_room(rt: HostRuntime) -> Result<(), Fail> {
+fn a_value_of_any_depth_is_read(rt: HostRuntime) -> Result<(), Fail> {
     let alloc = rt.alloc();
-    for &(levels, starved) in &[(500, false), (100_000, true)] {
+    for &(levels, begin) in &[
+        (0, &LIST[..]),
+        (4_096, &LIST[..]),
+        (100_000, &LIST[..]),
+        (100_000, &RECORD[..]),
+    ] {
         let mut bytes = Vec::new(alloc);
         for _ in 0..levels {
-            bytes.extend_from_slice(&[4, 0, 0, 0, 0, 0, 0, 0, 1])?;
+            bytes.extend_from_slice(begin)?;
         }
         bytes.push(0)?;
         let mut source = MemSource::new(bytes, 4_096, Vec::new(alloc));
         let mut room = 4_294_967_296;
-        let failure = Value::read(alloc, &mut source, &mut room).err();
-        assert!(rt; (failure == Some(Failure::NoMemory)) == starved);
+        let read = Value::read(alloc, &mut source, &mut room);
+        assert!(rt; read.is_ok_and(|value| depth(&value) == levels));
     }
     Ok(())
 }
