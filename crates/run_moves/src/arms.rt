@@ -28,6 +28,7 @@ use site_words::{AppReply, AppStep};
 use std::alloc::Global;
 
 // Brings the value that has so many above it to the top.
+#[inline(always)]
 pub(crate) fn take<W: World>(pc: usize, above: usize, open: &mut Open, world: &mut W) -> Flow
     requires covered { W.covered world.old }
     requires within { pc + 1 < 2 ^ 64 }
@@ -58,6 +59,7 @@ pub(crate) fn start_body<W: World>(pc: usize, open: &mut Open, world: &mut W) ->
 }
 
 // Pushes the innermost kept body as a text.
+#[inline(never)]
 pub(crate) fn take_body<W: World>(
     alloc: Global,
     pc: usize,
@@ -84,6 +86,7 @@ pub(crate) fn take_body<W: World>(
 }
 
 // Takes a truth value, and passes over so many cells where it is this one.
+#[inline(always)]
 pub(crate) fn jump_if<W: World>(
     pc: usize,
     holds: bool,
@@ -140,6 +143,7 @@ fn has_null(stack: &Stack) -> bool
 }
 
 // Takes null from the top and passes over so many cells, where it is there.
+#[inline(always)]
 pub(crate) fn jump_null<W: World>(pc: usize, size: usize, open: &mut Open, world: &mut W) -> Flow
     requires covered { W.covered world.old }
     requires within { pc + 1 + size < 2 ^ 64 }
@@ -159,6 +163,7 @@ pub(crate) fn jump_null<W: World>(pc: usize, size: usize, open: &mut Open, world
 }
 
 // A catch opens, whose faults go on behind so many cells.
+#[inline(never)]
 pub(crate) fn catch_start<W: World>(pc: usize, size: usize, open: &mut Open, world: &mut W) -> Flow
     requires covered { W.covered world.old }
     requires within { pc + 1 + size < 2 ^ 64 }
@@ -181,6 +186,7 @@ pub(crate) fn catch_start<W: World>(pc: usize, size: usize, open: &mut Open, wor
 }
 
 // The innermost catch closes.
+#[inline(never)]
 pub(crate) fn catch_end<W: World>(pc: usize, open: &mut Open, world: &mut W) -> Flow
     requires covered { W.covered world.old }
     requires within { pc + 1 < 2 ^ 64 }
@@ -230,6 +236,7 @@ fn make_bean<W: World>(
 }
 
 // A bean is set where its variable is absent; else so many cells are passed over.
+#[inline(never)]
 pub(crate) fn ensure<W: World>(
     alloc: Global,
     pc: usize,

@@ -17,6 +17,7 @@ use run_world::World;
 use std::alloc::Global;
 
 /// Goes on where a part's fault leads; where memory was wanting the run is over.
+#[inline(never)]
 pub fn fail<W: World>(
     alloc: Global,
     failed: Failure<RunFault>,
@@ -38,6 +39,7 @@ pub fn fail<W: World>(
 }
 
 // Goes on behind the instruction with what was made, or where its fault leads.
+#[inline(always)]
 pub(crate) fn land<W: World>(
     alloc: Global,
     pc: usize,
@@ -68,6 +70,7 @@ pub(crate) fn land<W: World>(
 }
 
 // Goes on behind the instruction where it was done, or where its fault leads.
+#[inline(always)]
 pub(crate) fn land_done<W: World>(
     alloc: Global,
     pc: usize,
@@ -91,6 +94,7 @@ pub(crate) fn land_done<W: World>(
 }
 
 // Goes on behind the instruction with the value that was made, or where its fault leads.
+#[inline(always)]
 pub(crate) fn land_value<W: World>(
     alloc: Global,
     pc: usize,

@@ -40,6 +40,7 @@ pub(crate) struct Forward {
 }
 
 // Ends the run of a code: at its end, or with the page that it belongs to.
+#[inline(never)]
 pub(crate) fn leave<W: World>(
     alloc: Global,
     served: &Served,

@@ -27,6 +27,7 @@ use run_world::{Seat, Served, World};
 use std::alloc::Global;
 
 // An operation: its values are taken, and what it made lands on the stack.
+#[inline(always)]
 pub(crate) fn operation<W: World>(
     alloc: Global,
     served: &Served,
@@ -72,6 +73,7 @@ pub(crate) fn operation<W: World>(
 }
 
 // Writes the text on top.
+#[inline(always)]
 fn put_top<W: World>(
     alloc: Global,
     pc: usize,
@@ -97,6 +99,7 @@ fn put_top<W: World>(
 }
 
 // An operation that makes its value of values alone.
+#[inline(always)]
 fn value_at_top<W: World>(
     alloc: Global,
     pc: usize,
@@ -124,6 +127,7 @@ fn value_at_top<W: World>(
 }
 
 // An operation all of whose faults stand at its place.
+#[inline(never)]
 fn at_one_place<W: World>(
     alloc: Global,
     served: &Served,
@@ -164,6 +168,7 @@ fn at_one_place<W: World>(
 }
 
 // Sets a property to the value on top, whose faults stand at a place of their own.
+#[inline(never)]
 fn set_value<W: World>(
     alloc: Global,
     pc: usize,

@@ -30,6 +30,7 @@ use scopes::HeldScope;
 use std::alloc::{AllocError, Global};
 
 // A loop begins with the values that it takes: X7, X8.
+#[inline(never)]
 pub(crate) fn loop_start<W: World>(
     alloc: Global,
     pc: usize,
@@ -99,6 +100,7 @@ fn copied(name: &Option<Name>) -> Result<Option<Name>, AllocError>
 }
 
 // The next round of the innermost loop, so many cells back; behind the last one the loop ends.
+#[inline(never)]
 pub(crate) fn loop_next<W: World>(
     alloc: Global,
     pc: usize,

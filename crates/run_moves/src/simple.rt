@@ -25,6 +25,7 @@ use run_world::{Seat, Served, World};
 use std::alloc::Global;
 
 /// Does one instruction that calls nothing: one move of the instruction table.
+#[inline(always)]
 pub fn step<W: World>(
     alloc: Global,
     served: &Served,
