@@ -2,7 +2,7 @@
 use Rattle.std.proofs.Common.{◌≡◌, ◌≤◌, ◌+◌, ℕ, zero, suc, List, [], ◌∷◌, ◌++◌, length, Result, Ok, Err, refl, sym, ap, ◌∙◌, subst, append_assoc, append-nil, arith}
 use Rattle.std.specs.Prelude.{Option, Some, None, take, drop, reverse}
 use Rattle.std.proofs.lemmas.List.{reverse-append}
-use Rattle.run_moves.specs.Acted.{MoveGrows, Acted}
+use Rattle.run_moves.specs.Acted.{Acted}
 use Rattle.run_world.specs.Origin.{Origin}
 use Rattle.run_world.specs.Part.{Doing}
 use Rattle.run_moves.specs.Landing.{failing, landing}
@@ -13,7 +13,7 @@ use Rattle.run_moves.specs.declared.flow.Flow.TheVariants as flows
 use Rattle.run_moves.proofs.Acts.{acted_behind, acted_fault, acted_on, acted_part_short, acted_short, then_at_grows}
 use Rattle.page_meaning.proofs.Growing.{same}
 use Rattle.page_meaning.specs.State.{State}
-use Rattle.page_meaning.specs.Went.{Went, Well, Raised}
+use Rattle.page_meaning.specs.Went.{Went}
 use Rattle.page_table.specs.Landing.{Running, land}
 use Rattle.page_table.specs.Move.{Move, On, popped_onto, popped_all}
 use Rattle.page_table.specs.Open.{Open}

@@ -10,6 +10,7 @@ pub mod Leavings
 pub mod RoundArms
 pub mod OpExits
 pub mod Openings
+pub mod QuickExits
 pub mod SetValue
 pub mod Stacks
 pub mod Throwing

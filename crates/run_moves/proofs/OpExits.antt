@@ -56,11 +56,11 @@ module _ (serving : Serving) (seat : Seat) (place : Place) (pc : ℕ) (o : Open)
         acted_as (λ s. act serving seat place pc s o (instr.Op op)) (Lands pc place (with_stack stack o) part) old new o2 flow op_is
         (landed pc place (with_stack stack o) old mid new made o2 flow does acted short)
 
-ok_err : {A : Type 0} (a : A) (f : Failure RunFault) → Ok a ≡ Err f → ⊥
+pub ok_err : {A : Type 0} (a : A) (f : Failure RunFault) → Ok a ≡ Err f → ⊥
 ok_err a f h = cc
 
 -- the failure of what failed
-abbrev failure_of : {A : Type 0} → Result A (Failure RunFault) → Failure RunFault
+abbrev pub failure_of : {A : Type 0} → Result A (Failure RunFault) → Failure RunFault
 failure_of (Ok a) = failure.NoMemory
 failure_of (Err f) = f
 

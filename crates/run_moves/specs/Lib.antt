@@ -4,5 +4,6 @@ pub mod Leaving
 pub mod LoopCode
 pub mod Loops
 pub mod Opened
+pub mod Quick
 pub mod Rounds
 pub mod Simple

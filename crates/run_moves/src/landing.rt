@@ -6,7 +6,7 @@ ghost use Rattle.run_moves.specs.Landing.{failing, landing};
 ghost use Rattle.run_moves.specs.Opened.{open_of};
 ghost use Rattle.run_moves.specs.declared.flow.End.TheVariants as end;
 ghost use Rattle.run_moves.specs.declared.flow.Flow.TheVariants as flow;
-ghost use Rattle.run_parts.specs.Answers.{none_of, one_of};
+ghost use Rattle.run_parts.specs.Answers.{none_of};
 
 use crate::flow::{End, Flow};
 use crate::open::Open;
@@ -90,33 +90,5 @@ pub(crate) fn land_done<W: World>(
     match done {
         Ok(()) => Flow::Go(pc + 1),
         Err(failed) => fail(alloc, failed, place, open, world),
-    }
-}
-
-// Goes on behind the instruction with the value that was made, or where its fault leads.
-#[inline(always)]
-pub(crate) fn land_value<W: World>(
-    alloc: Global,
-    pc: usize,
-    place: &Place,
-    made: Result<Value, Failure<RunFault>>,
-    open: &mut Open,
-    world: &mut W,
-) -> Flow
-    requires covered { W.covered world.old }
-    requires within { pc + 1 < 2 ^ 64 }
-    ensures covered { W.covered world.new }
-    ensures acted { Acted W.reached W.replies (landing pc place.now (open_of open.old) (one_of made))
-        world.old world.new (open_of open.new) result }
-    ensures short { made ≡ Err failure.NoMemory → (result ≡ flow.Over end.NoMemory) × (world.new ≡ world.old) }
-    ensures left { open.new.left ≡ open.old.left }
-{
-    let value = match made {
-        Ok(value) => value,
-        Err(failed) => return fail(alloc, failed, place, open, world),
-    };
-    match open.stack.push(value) {
-        Ok(()) => Flow::Go(pc + 1),
-        Err(_) => Flow::Over(End::NoMemory),
     }
 }

@@ -5,6 +5,7 @@
 
 mod arms;
 mod flow;
+mod frequent;
 mod landing;
 mod leave;
 mod loops;
@@ -15,6 +16,7 @@ mod rounds_arm;
 mod simple;
 
 pub use flow::{End, Flow};
+pub use frequent::{is_quick, quick};
 pub use landing::fail;
 pub use leave::named_path;
 pub use open::Open;

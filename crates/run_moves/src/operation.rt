@@ -9,20 +9,19 @@ ghost use Rattle.page_table.specs.Program.{Serving};
 ghost use Rattle.page_table.specs.Seat.{Seat as Seat', page_run_of};
 ghost use Rattle.run_moves.specs.Acted.{Acted, ActedFor};
 ghost use Rattle.run_moves.specs.Opened.{open_of};
-ghost use Rattle.run_parts.specs.Operations.{HasOnePlace, IsComputed};
+ghost use Rattle.run_parts.specs.Operations.{HasOnePlace};
 ghost use Rattle.run_parts.specs.Records.{IsRecordsOf};
 ghost use Rattle.run_world.specs.Known.{ServesSo};
 ghost use Rattle.run_world.specs.Seats.{seat_of};
 
 use crate::flow::Flow;
-use crate::landing::{fail, land, land_done, land_value};
+use crate::frequent::{is_quick, quick};
+use crate::landing::{fail, land, land_done};
 use crate::open::Open;
 use page_code::{Name, Op, PropertyMode};
 use pg_text::{Place, Text};
-use run_parts::{
-    RequestRecords, compute, count_visits, find, find_property, operate, values_taken, write_back,
-};
-use run_values::{replaced, text_of};
+use run_parts::{RequestRecords, find_property, operate, values_taken, write_back};
+use run_values::replaced;
 use run_world::{Seat, Served, World};
 use std::alloc::Global;
 
@@ -50,17 +49,11 @@ pub(crate) fn operation<W: World>(
         (open_of open.new) result }
     ensures left { open.new.left ≡ open.old.left }
 {
+    if is_quick(op) {
+        let done = quick(alloc, seat, op, open, world);
+        return land_done(alloc, pc, place, done, open, world);
+    }
     match op {
-        Op::Write(text) => land_done(alloc, pc, place, world.put(text.as_str()), open, world),
-        Op::Visit(count) => land_done(alloc, pc, place, count_visits(*count, world), open, world),
-        Op::Find(name) => {
-            let found = find(seat.is_strict(), name, world);
-            land_value(alloc, pc, place, found, open, world)
-        }
-        Op::Put => put_top(alloc, pc, place, open, world),
-        Op::Const(_) | Op::Index | Op::Coerce(_) | Op::Unary(_) | Op::Binary(_) => {
-            value_at_top(alloc, pc, place, op, open, world)
-        }
         Op::SetProperty(name, mode) => match mode {
             PropertyMode::Value {
                 property,
@@ -70,60 +63,6 @@ pub(crate) fn operation<W: World>(
         },
         _ => at_one_place(alloc, served, seat, records, pc, place, op, open, world),
     }
-}
-
-// Writes the text on top.
-#[inline(always)]
-fn put_top<W: World>(
-    alloc: Global,
-    pc: usize,
-    place: &Place,
-    open: &mut Open,
-    world: &mut W,
-) -> Flow
-    requires covered { W.covered world.old }
-    requires within { pc + 1 < 2 ^ 64 }
-    requires filled { 1 ≤ length open.old.stack }
-    ensures covered { W.covered world.new }
-    ensures acted { (serving : Serving) (seat : Seat') →
-        Acted W.reached W.replies (λ s. act serving seat place.now pc s (open_of open.old) (instr.Op op.Put))
-        world.old world.new (open_of open.new) result }
-    ensures left { open.new.left ≡ open.old.left }
-{
-    let Some(value) = open.stack.topmost() else {
-        unreachable!()
-    };
-    let done = world.put(text_of(value));
-    open.stack.drop_top(1);
-    land_done(alloc, pc, place, done, open, world)
-}
-
-// An operation that makes its value of values alone.
-#[inline(always)]
-fn value_at_top<W: World>(
-    alloc: Global,
-    pc: usize,
-    place: &Place,
-    op: &Op,
-    open: &mut Open,
-    world: &mut W,
-) -> Flow
-    requires covered { W.covered world.old }
-    requires within { pc + 1 < 2 ^ 64 }
-    requires filled { takes op.now ≤ length open.old.stack }
-    requires computed { IsComputed op.now }
-    ensures covered { W.covered world.new }
-    ensures acted { (serving : Serving) (seat : Seat') →
-        Acted W.reached W.replies (λ s. act serving seat place.now pc s (open_of open.old) (instr.Op op.now))
-        world.old world.new (open_of open.new) result }
-    ensures left { open.new.left ≡ open.old.left }
-{
-    let held = open.stack.len();
-    let count = values_taken(op);
-    prove!(count <= held);
-    let made = compute(alloc, op, open.stack.top(count));
-    open.stack.drop_top(count);
-    land_value(alloc, pc, place, made, open, world)
 }
 
 // An operation all of whose faults stand at its place.

@@ -1,4 +1,3 @@
-use Rattle.std.proofs.Common.{◌≡◌}
 use Rattle.run_moves.specs.Opened.{open_of}
 use Rattle.run_moves.proofs.SetValue.{unfound, unlike, unwritten, value_written}
 use Rattle.run_moves.proofs.operation.set_value.Goals as goal

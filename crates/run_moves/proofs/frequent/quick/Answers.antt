@@ -1,0 +1,52 @@
+use Rattle.std.proofs.Common.{Bool, List, [], ap, refl, rules, subst, sym, ℕ}
+use Rattle.std.specs.Prelude.{drop, reverse, take}
+use Rattle.page_code.specs.Ops.{takes}
+use Rattle.page_code.specs.declared.op.Op.TheVariants as op
+use Rattle.page_meaning.specs.Bodies.{put_text}
+use Rattle.page_meaning.specs.Expressions.{variable_or_step}
+use Rattle.pg_value.specs.Value.{datum_of}
+use Rattle.run_moves.proofs.QuickExits.{done_lands, lands_as, value_lands}
+use Rattle.run_moves.proofs.frequent.quick.Goals as goal
+use Rattle.run_moves.specs.Opened.{open_of}
+use Rattle.run_moves.specs.Quick.{Pushed}
+use Rattle.run_parts.proofs.Operates.{computed_is}
+use Rattle.run_parts.specs.Operations.{IsComputed, computed}
+use Rattle.run_world.proofs.Parts.{result_doing}
+use Rattle.run_world.specs.Part.{Doing}
+use Rattle.run_world.specs.Seats.{seat_of}
+use Rattle.scopes.specs.Scopes.{found}
+
+pub returns-in-Write-clause-lands : goal.returns-in-Write-clause-lands
+returns-in-Write-clause-lands g c = λ serving.
+    done_lands serving (seat_of c.args.seat.now) (open_of c.args.open.now) c.args.op.now (op.Write c.in-Write.text) 0 [] (open_of c.args.open.now).stack c.requires.filled
+    (sym (ap takes c.in-Write.is)) refl refl c.in-Write.is c.args.world.now c.put.new.self c.put.result (λ place s. refl)
+    (subst (λ (t : List ℕ). Doing g.W.World.reached g.W.World.replies (λ (u : Unit {0}). u) (λ place. put_text place t) c.args.world.now c.put.new.self c.put.result) c.as_str.ensures c.put.ensures.does)
+
+pub returns-in-Visit-clause-lands : goal.returns-in-Visit-clause-lands
+returns-in-Visit-clause-lands g c = λ serving.
+    done_lands serving (seat_of c.args.seat.now) (open_of c.args.open.now) c.args.op.now (op.Visit c.in-Visit.count) 0 [] (open_of c.args.open.now).stack c.requires.filled
+    (sym (ap takes c.in-Visit.is)) refl refl c.in-Visit.is c.args.world.now c.count_visits.new.world c.count_visits.result (λ place s. refl) c.count_visits.ensures.does
+
+pub returns-in-Find-clause-lands : goal.returns-in-Find-clause-lands
+returns-in-Find-clause-lands g c = λ serving.
+    value_lands serving (seat_of c.args.seat.now) (open_of c.args.open.now) c.args.op.now (op.Find c.in-Find.name) 0 [] (open_of c.args.open.now).stack c.requires.filled
+    (sym (ap takes c.in-Find.is)) refl refl c.in-Find.is c.args.world.now c.find-found.new.world c.find-found.result c.push_made.result c.push_made.new.stack (λ place s. refl)
+    (subst (λ (b : Bool). Doing g.W.World.reached g.W.World.replies datum_of (λ place s. variable_or_step b place c.in-Find.name (found s.scopes c.in-Find.name) s) c.args.world.now c.find-found.new.world c.find-found.result) c.is_strict.ensures c.find-found.ensures.does)
+    c.push_made.ensures
+
+pub returns-in-Put-clause-lands : goal.returns-in-Put-clause-lands
+returns-in-Put-clause-lands g c = λ serving.
+    lands_as serving (seat_of c.args.seat.now) (open_of c.args.open.now) c.args.op.now op.Put c.args.world.now c.put_top.new.world (open_of c.put_top.new.open) c.put_top.result c.in-Put.is
+    (c.put_top.ensures.lands serving (seat_of c.args.seat.now))
+
+pub returns-in-Const-clause-lands : goal.returns-in-Const-clause-lands
+returns-in-Const-clause-lands g c = λ serving.
+    let this = c.args.op.now in
+    let held = (open_of c.args.open.now).stack in
+    let ds = reverse (take (takes this) held) in
+    let made = c.compute_top-made.result in
+    let is_computed : IsComputed this = search rules in
+    value_lands serving (seat_of c.args.seat.now) (open_of c.args.open.now) this this (takes this) ds (drop (takes this) held) c.requires.filled
+    refl refl refl refl c.args.world.now c.args.world.now made c.push_made-in-Const.result c.push_made-in-Const.new.stack (λ place s. computed_is serving (seat_of c.args.seat.now) place this ds s is_computed)
+    (result_doing c.args.world.now (computed this ds) made c.compute_top-made.ensures.made)
+    (subst (λ stack. Pushed made stack c.push_made-in-Const.result c.push_made-in-Const.new.stack) c.compute_top-made.ensures.taken c.push_made-in-Const.ensures)
