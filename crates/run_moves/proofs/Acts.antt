@@ -1,9 +1,9 @@
 -- How calls that each do a part of a move are joined.
-use Rattle.std.proofs.Common.{◌≡◌, ◌-◌, ℕ, Bool, true, false, List, [], ◌∷◌, ◌++◌, length, Result, Ok, Err, refl, sym, ap, ◌∙◌, subst, append_assoc, append-nil}
+use Rattle.std.proofs.Common.{◌≡◌, ◌-◌, ℕ, Bool, true, false, List, [], ◌∷◌, ◌++◌, length, Ok, Err, refl, sym, ap, ◌∙◌, subst, append_assoc, append-nil}
 use Rattle.std.specs.Prelude.{take, Option, Some, None}
 use Rattle.http_in.specs.declared.params.Param.{Param}
-use Rattle.run_moves.specs.Acted.{MoveGrows, OverSo, LedSo, Moves, Acted}
-use Rattle.run_world.specs.Part.{given, WentSo, Does, Doing, Changes}
+use Rattle.run_moves.specs.Acted.{MoveGrows, LedSo, Acted}
+use Rattle.run_world.specs.Part.{given, Doing, Changes}
 use Rattle.run_moves.specs.declared.flow.End.TheVariants as ends
 use Rattle.run_moves.specs.declared.flow.Flow.{Flow}
 use Rattle.run_moves.specs.declared.flow.Flow.TheVariants as flows
@@ -13,15 +13,13 @@ use Rattle.page_meaning.specs.Core.{is_caught}
 use Rattle.page_meaning.specs.Growth.{state_of, Grows}
 use Rattle.page_meaning.specs.Loops.{without_named}
 use Rattle.page_meaning.specs.State.{State}
-use Rattle.page_meaning.specs.Went.{Did, Went, Well, Raised, Ended, Awaits, forwards, redirects}
-use Rattle.page_table.specs.Landing.{Config, Running, Over, unwound, uncaught, caught_by, cut_bodies, one_of, thrown, then_at, land}
+use Rattle.page_meaning.specs.Went.{Went, Well, Raised, Ended, Awaits, forwards, redirects}
+use Rattle.page_table.specs.Landing.{Config, Running, Over, unwound, uncaught, caught_by, cut_bodies, one_of, thrown, then_at}
 use Rattle.page_table.specs.Move.{Move, On, Into, Stuck}
 use Rattle.page_table.specs.Open.{Loop, OpenCatch, Open}
 use Rattle.page_table.specs.Runs.{config_state}
-use Rattle.pg_text.specs.declared.failure.Failure.{Failure}
 use Rattle.pg_text.specs.declared.failure.Failure.TheVariants as failure
 use Rattle.pg_text.specs.declared.place.Place.{Place}
-use Rattle.pg_value.specs.Datum.{Datum}
 use Rattle.pg_value.specs.declared.fault.RunFault.{RunFault}
 use Rattle.site_words.specs.Law.{Answer}
 

@@ -2,7 +2,6 @@
 use Rattle.std.proofs.Common.{◌≡◌, ◌<◌, ℕ, zero, suc, List, [], ◌∷◌, ◌++◌, length, get_or, refl, sym, ap, ◌∙◌, subst, arith}
 use Rattle.std.specs.Prelude.{map, reverse, slice_set}
 use Rattle.std.proofs.lemmas.List.{reverse-append}
-use Rattle.page_meaning.specs.Rounds.{Round}
 use Rattle.page_table.specs.Open.{Loop}
 use Rattle.run_moves.specs.Loops.{advanced, loop_of}
 use Rattle.run_moves.specs.declared.loops.Loop as machine_loop

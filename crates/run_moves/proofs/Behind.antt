@@ -1,8 +1,8 @@
 -- A part, and what is done behind it.
-use Rattle.std.proofs.Common.{◌≡◌, ℕ, List, [], ◌∷◌, ◌++◌, length, Result, Ok, Err, refl, sym, ap, ◌∙◌, subst, append-nil}
-use Rattle.run_moves.specs.Acted.{MoveGrows, Moves, Acted, ActedFor}
+use Rattle.std.proofs.Common.{◌≡◌, ℕ, List, [], ◌++◌, Ok, Err, refl, sym, ap, ◌∙◌, subst, append-nil}
+use Rattle.run_moves.specs.Acted.{MoveGrows, Acted, ActedFor}
 use Rattle.run_world.specs.Origin.{Origin}
-use Rattle.run_world.specs.Part.{given, Does, Doing, Changes}
+use Rattle.run_world.specs.Part.{given, Doing, Changes}
 use Rattle.run_moves.specs.Landing.{failing}
 use Rattle.run_moves.specs.declared.flow.End.TheVariants as ends
 use Rattle.run_moves.specs.declared.flow.Flow.{Flow}
@@ -14,7 +14,7 @@ use Rattle.page_meaning.specs.State.{State}
 use Rattle.page_meaning.specs.Went.{Went, Well, Raised, Ended, Awaits}
 use Rattle.page_code.specs.declared.instr.Instr.{Instr}
 use Rattle.page_table.specs.Act.{act}
-use Rattle.page_table.specs.Landing.{Config, Running, Over, thrown, then_at}
+use Rattle.page_table.specs.Landing.{Config, Running, Over, then_at}
 use Rattle.page_table.specs.Move.{Move, On, then_move}
 use Rattle.page_table.specs.Open.{Open}
 use Rattle.page_table.specs.Program.{Serving}

@@ -1,10 +1,10 @@
 -- What is asked before a page goes over to another.
-use Rattle.std.proofs.Common.{◌≡◌, ℕ, zero, suc, Bool, true, false, List, [], ◌∷◌, Result, Ok, Err, refl, sym, ap, ◌∙◌, append-nil, subst}
+use Rattle.std.proofs.Common.{◌≡◌, ℕ, zero, suc, Bool, true, false, List, Result, Ok, Err, refl, sym, ap, ◌∙◌, subst}
 use Rattle.std.specs.Prelude.{◌&&◌}
 use Rattle.http_in.specs.declared.params.Param.{Param}
 use Rattle.out_buffer.specs.Writer.{has_committed}
 use Rattle.page_meaning.specs.Context.{Run, Served, Paged, absent, plain, bad, good}
-use Rattle.page_meaning.specs.Growth.{state_of, Grows}
+use Rattle.page_meaning.specs.Growth.{Grows}
 use Rattle.page_meaning.specs.Includes.{ask_page, fetched_or_fault, is_page_path, target_params, target_path}
 use Rattle.page_meaning.specs.State.{State}
 use Rattle.page_meaning.specs.Went.{Went, Well, Raised, then_do, either, result_of}

@@ -1,5 +1,5 @@
 -- The exits of an instruction that leaves a page.
-use Rattle.std.proofs.Common.{◌≡◌, ◌≤◌, ℕ, List, [], ◌∷◌, ◌++◌, length, Result, Ok, Err, refl, sym, ap, ◌∙◌, subst}
+use Rattle.std.proofs.Common.{◌≡◌, ◌≤◌, ℕ, List, length, Ok, Err, refl, sym, ap, ◌∙◌, subst}
 use Rattle.std.specs.Prelude.{take, drop, reverse}
 use Rattle.out_buffer.specs.Writer.{cleared}
 use Rattle.page_code.specs.Ops.{address_with}
@@ -9,7 +9,7 @@ use Rattle.run_moves.specs.Acted.{Acted, ActedFor}
 use Rattle.run_world.specs.Origin.{Origin}
 use Rattle.run_world.specs.Part.{Doing, Changes}
 use Rattle.run_moves.specs.Landing.{failing}
-use Rattle.run_moves.specs.Leaving.{Goal, forward_asked, goal_of, redirect_asked}
+use Rattle.run_moves.specs.Leaving.{forward_asked, goal_of, redirect_asked}
 use Rattle.run_moves.specs.declared.flow.End.TheVariants as ends
 use Rattle.run_moves.specs.declared.flow.Flow.{Flow}
 use Rattle.run_moves.specs.declared.flow.Flow.TheVariants as flows
@@ -22,10 +22,10 @@ use Rattle.run_moves.proofs.Leavings.{forward_is, leaves_for, redirect_is}
 use Rattle.page_meaning.specs.Addresses.{redirect_mean}
 use Rattle.page_meaning.specs.Includes.{forward_mean}
 use Rattle.page_meaning.specs.State.{State, in_writer}
-use Rattle.page_meaning.specs.Went.{Did, Went, Well, Raised, Ended, Awaits, forwards, redirects, then_do}
+use Rattle.page_meaning.specs.Went.{Did, Went, Well, Raised, Ended, Awaits, redirects, then_do}
 use Rattle.page_table.specs.Act.{leaving, with_stack}
 use Rattle.page_table.specs.Landing.{Config, Over, then_at}
-use Rattle.page_table.specs.Move.{Move, On}
+use Rattle.page_table.specs.Move.{On}
 use Rattle.page_table.specs.Open.{Open}
 use Rattle.page_table.specs.Operations.{behind_first, levels, params_in, text_at}
 use Rattle.page_table.specs.Program.{Serving, served_of}

@@ -1,5 +1,5 @@
 -- The loop that values open, as an answer.
-use Rattle.std.proofs.Common.{◌≡◌, ℕ, List, Option, Result, Ok, Err, refl, sym, ap, ◌∙◌, subst}
+use Rattle.std.proofs.Common.{◌≡◌, ℕ, List, Option, Result, Ok, Err, sym, ap, ◌∙◌, subst}
 use Rattle.std.specs.Prelude.{IsErrAnd}
 use Rattle.jstl_functions.specs.Functions.{and_then}
 use Rattle.page_code.specs.declared.operands.LoopKind.{LoopKind}

@@ -1,5 +1,5 @@
 -- The beginning of a loop, and of its rounds.
-use Rattle.std.proofs.Common.{◌≡◌, ◌≤◌, ◌+◌, ℕ, Bool, true, false, List, [], ◌∷◌, ◌++◌, length, Option, Some, None, Result, Ok, Err, refl, sym, ap, ◌∙◌, subst, nat_lt, append-nil}
+use Rattle.std.proofs.Common.{◌≡◌, ◌≤◌, ◌+◌, ℕ, Bool, true, false, List, [], ◌∷◌, length, Option, Some, None, Result, Ok, Err, refl, sym, ap, ◌∙◌, subst, nat_lt, append-nil}
 use Rattle.std.specs.Prelude.{drop, if◌then◌else◌, reverse, take}
 use Rattle.jstl_functions.specs.Functions.{and_then, measured}
 use Rattle.page_code.specs.declared.operands.LoopKind.{LoopKind}
@@ -26,13 +26,12 @@ use Rattle.page_meaning.specs.Loops.{round_begun, set_status, with_named, withou
 use Rattle.page_meaning.specs.Rounds.{Round, status_record}
 use Rattle.page_meaning.specs.State.{State}
 use Rattle.page_meaning.specs.Variables.{set_held, with_page_variable}
-use Rattle.page_meaning.specs.Went.{Did, Went, Well, Raised, then_do, result_of}
+use Rattle.page_meaning.specs.Went.{Did, Well, Raised, then_do, result_of}
 use Rattle.page_meaning.specs.Work.{visit, visit_limit}
-use Rattle.page_table.specs.Landing.{Config, Running, then_at}
+use Rattle.page_table.specs.Landing.{Running, then_at}
 use Rattle.page_table.specs.LoopMoves.{loop_next, loop_opened, loop_rounds, with_loop}
 use Rattle.page_table.specs.Move.{Move, On, popped_all}
 use Rattle.page_table.specs.Open.{Loop, Open}
-use Rattle.page_table.specs.Runs.{config_state}
 use Rattle.pg_text.specs.Failure.{AnswersAs}
 use Rattle.pg_text.specs.declared.failure.Failure.{Failure}
 use Rattle.pg_text.specs.declared.failure.Failure.TheVariants as failure

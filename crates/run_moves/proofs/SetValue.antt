@@ -1,5 +1,5 @@
 -- A property that is set to the value on top, whose faults stand at a place of their own.
-use Rattle.std.proofs.Common.{◌≡◌, ◌+◌, ℕ, List, [], ◌∷◌, ◌++◌, Option, Some, None, Result, Ok, Err, refl, sym, ap, ◌∙◌}
+use Rattle.std.proofs.Common.{◌≡◌, ◌+◌, ℕ, List, [], ◌∷◌, ◌++◌, Some, Result, Ok, Err, refl, sym, ap, ◌∙◌}
 use Rattle.std.specs.Prelude.{codes}
 use Rattle.http_in.specs.declared.params.Param.{Param}
 use Rattle.page_code.specs.declared.instr.Instr.TheVariants as instr
@@ -27,7 +27,7 @@ use Rattle.pg_text.specs.declared.failure.Failure.TheVariants as failure
 use Rattle.pg_text.specs.declared.place.Place.{Place}
 use Rattle.pg_value.proofs.Inverses.{entries_of-entry_list}
 use Rattle.pg_value.specs.Attrs.{entry_at, with_entry}
-use Rattle.pg_value.specs.Datum.{Datum, null, truth, number, text, list, rec, entries_of, entry_list}
+use Rattle.pg_value.specs.Datum.{Datum, null, truth, number, text, list, rec, entry_list}
 use Rattle.pg_value.specs.Value.{datum_of}
 use Rattle.pg_value.specs.declared.fault.RunFault.{RunFault}
 use Rattle.pg_value.specs.declared.scope.Scope.{Scope}

@@ -14,8 +14,7 @@ use Rattle.page_meaning.specs.Core.{is_caught}
 use Rattle.page_meaning.specs.Faults.{fault_record}
 use Rattle.page_meaning.specs.Loops.{without_named}
 use Rattle.page_meaning.specs.State.{State, in_writer}
-use Rattle.page_meaning.specs.Went.{Raised}
-use Rattle.page_table.specs.Landing.{Config, Running, Over, unwound, uncaught, caught_by, cut_bodies, one_of, thrown}
+use Rattle.page_table.specs.Landing.{Config, Running, unwound, uncaught, caught_by, cut_bodies, one_of, thrown}
 use Rattle.page_table.specs.Move.{On}
 use Rattle.page_table.specs.Open.{Loop, OpenCatch, Open}
 use Rattle.pg_text.specs.declared.place.Place.{Place}

@@ -1,4 +1,4 @@
-use Rattle.std.proofs.Common.{◌+◌, ◌∷◌, ◌≡◌, sym, ap, ◌∙◌, length}
+use Rattle.std.proofs.Common.{◌+◌, ◌∷◌, ap, ◌∙◌, length}
 use Rattle.std.specs.Prelude.{map}
 use Rattle.run_moves.specs.Opened.{catch_of, open_of}
 use Rattle.run_moves.proofs.Acts.{acted_short}

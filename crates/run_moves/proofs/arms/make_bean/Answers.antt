@@ -1,4 +1,4 @@
-use Rattle.std.proofs.Common.{◌≡◌, ◌∙◌, Err, List, None, Ok, Option, Some, ap, subst, sym, ℕ, true, false, Bool}
+use Rattle.std.proofs.Common.{◌≡◌, ◌∙◌, Err, List, Ok, ap, subst, sym, ℕ, true, false, Bool}
 use Rattle.std.specs.Prelude.{is_some}
 use Rattle.run_moves.proofs.AskLemmas.{is_some_map, bean_adds, bean_asked, bean_set, bean_there, bean_unasked, bean_unset}
 use Rattle.run_world.proofs.Exits.{err_as}

@@ -1,6 +1,5 @@
-use Rattle.std.proofs.Common.{◌≡◌, ◌∙◌, Err, Ok, ap, arith, sym}
+use Rattle.std.proofs.Common.{◌∙◌, Err, Ok, ap, arith, sym}
 use Rattle.std.specs.Prelude.{map}
-use Rattle.run_moves.specs.Leaving.{goal_of}
 use Rattle.run_world.specs.Seats.{seat_of}
 use Rattle.run_moves.proofs.AskLemmas.{first_text, rest_seen}
 use Rattle.run_moves.proofs.Forwards.{forward_adds, forward_committed, forward_deep, forward_read, forward_unasked, forward_unnamed, forward_well}

@@ -1,4 +1,4 @@
-use Rattle.std.proofs.Common.{◌≡◌, Ok, Err, sym, ap, subst}
+use Rattle.std.proofs.Common.{ap, subst}
 use Rattle.std.specs.Prelude.{map}
 use Rattle.run_world.specs.Part.{Doing}
 use Rattle.run_moves.specs.Leaving.{redirect_asked}

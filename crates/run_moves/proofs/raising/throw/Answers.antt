@@ -1,4 +1,4 @@
-use Rattle.std.proofs.Common.{◌≤◌, ◌<◌, ◌∷◌, sym, ap, ◌∙◌, subst}
+use Rattle.std.proofs.Common.{◌≤◌, ◌<◌, ◌∷◌, ap, ◌∙◌, subst}
 use Rattle.std.specs.Prelude.{map}
 use Rattle.run_moves.specs.Opened.{catch_of, open_of}
 use Rattle.run_moves.proofs.Acts.{acted_as, acted_short, thrown_grows}
@@ -7,7 +7,6 @@ use Rattle.run_moves.proofs.raising.throw.Goals as goal
 use Rattle.page_meaning.specs.Faults.{fault_record}
 use Rattle.page_table.specs.Landing.{thrown, uncaught}
 use Rattle.page_table.specs.Move.{On}
-use Rattle.pg_value.specs.RunFault.{number_of}
 
 pub returns-then-number-gt16-clause-acted : goal.returns-then-number-gt16-clause-acted
 returns-then-number-gt16-clause-acted g c =

@@ -1,4 +1,4 @@
-use Rattle.std.proofs.Common.{◌≡◌, subst}
+use Rattle.std.proofs.Common.{subst}
 use Rattle.std.specs.Prelude.{map}
 use Rattle.run_moves.proofs.RoundArms.{round_failed, round_unnamed, round_unvisited, round_well}
 use Rattle.run_world.proofs.Exits.{err_as}

@@ -1,4 +1,4 @@
-use Rattle.std.proofs.Common.{◌≡◌, ◌∙◌, sym}
+use Rattle.std.proofs.Common.{◌∙◌, sym}
 use Rattle.run_moves.proofs.RoundArms.{visit_counted, visit_refused}
 use Rattle.run_moves.proofs.rounds_arm.count_visit.Goals as goal
 

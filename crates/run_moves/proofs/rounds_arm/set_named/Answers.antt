@@ -1,5 +1,5 @@
-use Rattle.std.proofs.Common.{◌≡◌, ◌∙◌, List, ℕ, subst}
-use Rattle.run_moves.proofs.RoundArms.{Naming, named_none, named_set, naming_adds}
+use Rattle.std.proofs.Common.{List, ℕ, subst}
+use Rattle.run_moves.proofs.RoundArms.{named_none, named_set, naming_adds}
 use Rattle.run_world.proofs.Parts.{short_at}
 use Rattle.run_world.specs.Part.{Doing}
 use Rattle.run_moves.proofs.rounds_arm.set_named.Goals as goal

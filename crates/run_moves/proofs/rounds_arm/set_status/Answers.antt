@@ -1,4 +1,4 @@
-use Rattle.std.proofs.Common.{◌≡◌, ◌∙◌, List, Ok, Err, ap, subst, sym, ℕ}
+use Rattle.std.proofs.Common.{◌∙◌, List, Err, ap, subst, sym, ℕ}
 use Rattle.std.specs.Prelude.{map}
 use Rattle.jstl_functions.specs.Functions.{measured}
 use Rattle.run_moves.proofs.RoundArms.{status_adds, status_failed, status_none, status_set}

@@ -1,4 +1,4 @@
-use Rattle.std.proofs.Common.{◌≡◌, length, ap, ◌∙◌, arith}
+use Rattle.std.proofs.Common.{◌≡◌, length, ap, ◌∙◌}
 use Rattle.std.specs.Prelude.{map, reverse}
 use Rattle.run_moves.proofs.Stacks.{dropped_of}
 use Rattle.run_moves.proofs.open.Stack.drop_top.Goals as goal

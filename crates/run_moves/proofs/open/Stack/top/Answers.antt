@@ -1,4 +1,4 @@
-use Rattle.std.proofs.Common.{◌≡◌, length, sym, ◌∙◌, arith}
+use Rattle.std.proofs.Common.{◌≡◌, length, ◌∙◌}
 use Rattle.run_moves.proofs.Stacks.{top_of}
 use Rattle.run_moves.proofs.open.Stack.top.Goals as goal
 use Rattle.pg_value.specs.Value.{datum_of}
