@@ -14,9 +14,9 @@ ghost use Rattle.run_world.specs.Seats.{seat_of};
 
 use crate::calls::{given_call, tag_call};
 use crate::pages::{import_call, include_call};
-use page_code::{CallOut, Instr};
+use page_code::{CallOut, Code, Instr};
 use pg_text::Place;
-use run_moves::{End, Flow, Open, step};
+use run_moves::{End, Flow, Open, fail, is_quick, quick, step};
 use run_parts::RequestRecords;
 use run_world::{Seat, Served, World};
 use std::alloc::Global;
@@ -43,10 +43,11 @@ pub(crate) fn run_code<W: World>(
     ensures ran { Ran W.reached W.replies (ServesSo W.stores served.now) (CodeRuns (seat_of seat.now) at left)
         world.old world.new result }
 {
+    let code = seat.code();
     let mut open = Open::fresh(alloc, left);
     let mut pc = at;
     loop {
-        match turn(alloc, served, seat, records, pc, &mut open, world) {
+        match turn(alloc, served, seat, code, records, pc, &mut open, world) {
             Flow::Go(to) => pc = to,
             Flow::Over(end) => return end,
         }
@@ -55,10 +56,12 @@ pub(crate) fn run_code<W: World>(
 
 // One instruction, with the run that it calls.
 #[cycle(machine)]
+#[inline(always)]
 fn turn<W: World>(
     alloc: Global,
     served: &Served,
     seat: &Seat,
+    code: &Code,
     records: &mut RequestRecords,
     pc: usize,
     open: &mut Open,
@@ -69,6 +72,7 @@ fn turn<W: World>(
     requires known { Known W.reached W.stores served.now world.old }
     requires seat { SeatFits (seat_of seat.now) }
     requires holds { SeatHolds (seat_of seat.now) (length (W.variables world.old).frames) }
+    requires code { code.now ≡ code_of (seat_of seat.now) }
     requires standing { Standing (seat_of seat.now) pc (W.kept world.old) (open_of open.old) }
     ensures covered { W.covered world.new }
     ensures records { IsRecordsOf served.now.request.now (page_run_of (seat_of seat.now)).params records.new }
@@ -77,13 +81,20 @@ fn turn<W: World>(
         (open_of open.new) result }
     ensures left { open.new.left ≡ open.old.left }
 {
-    let code = seat.code();
     if pc >= code.len() {
         unreachable!()
     }
     let Some(cell) = code.get(pc) else {
         unreachable!()
     };
+    if let Instr::Op(op) = &cell.instr
+        && is_quick(op)
+    {
+        match quick(alloc, seat, op, open, world) {
+            Ok(()) => return Flow::Go(pc + 1),
+            Err(failed) => return fail(alloc, failed, &cell.place, open, world),
+        }
+    }
     match &cell.instr {
         Instr::CallOut(what) => call_out(
             alloc,
@@ -112,6 +123,7 @@ fn turn<W: World>(
 
 // One call, with the run that it goes into.
 #[cycle(machine)]
+#[inline(never)]
 fn call_out<W: World>(
     alloc: Global,
     served: &Served,

@@ -36,6 +36,7 @@ use Rattle.pg_value.specs.Value.{datum_of}
 use Rattle.pg_value.specs.declared.fault.RunFault.TheVariants as fault
 use Rattle.run_moves.proofs.Acts.{acted_as, acted_on, acted_short}
 use Rattle.run_moves.proofs.Behind.{acted_spent}
+use Rattle.run_moves.proofs.QuickExits.{led_off, led_on}
 use Rattle.run_moves.specs.Landing.{failing}
 use Rattle.run_moves.specs.Opened.{open_of}
 use Rattle.run_moves.specs.declared.flow.End.TheVariants as ends
@@ -119,8 +120,8 @@ turn::turn-call_out-requires g t c κs within =
     let seat = seat_of c.args.seat.now in
     let o = open_of c.args.open.now in
     let cell = c.in-Some.cell.now in
-    let e = cell_at (code_of seat) c.code-code.result.now c.args.pc (option_map (λ x. x.now) c.get.result) cell c.code-code.ensures c.get.ensures (ap (option_map (λ x. x.now)) c.in-Some.is) in
-    let counted = c.len.ensures ∙ ap length c.code-code.ensures in
+    let e = cell_at (code_of seat) c.args.code.now c.args.pc (option_map (λ x. x.now) c.get.result) cell c.requires.code c.get.ensures (ap (option_map (λ x. x.now)) c.in-Some.is) in
+    let counted = c.len.ensures ∙ ap length c.requires.code in
     let begins = begins_at seat c.requires.seat c.args.pc cell c.in-CallOut.what e c.in-CallOut.is in
     let finds = subst (Finds (length (code_of seat)) c.args.pc (g.W.World.kept c.args.world.now) o) c.in-CallOut.is
     (finds_at g.met.W.World.tells c.args.served.now seat c.requires.seat c.args.pc o c.args.world.now c.requires.known c.requires.standing cell e) in
@@ -131,17 +132,54 @@ turn::turn-returns-in-CallOut-clause-stepped g t c =
     let seat = seat_of c.args.seat.now in
     let o = open_of c.args.open.now in
     let cell = c.in-Some.cell.now in
-    let e = cell_at (code_of seat) c.code-code.result.now c.args.pc (option_map (λ x. x.now) c.get.result) cell c.code-code.ensures c.get.ensures (ap (option_map (λ x. x.now)) c.in-Some.is) in
+    let e = cell_at (code_of seat) c.args.code.now c.args.pc (option_map (λ x. x.now) c.get.result) cell c.requires.code c.get.ensures (ap (option_map (λ x. x.now)) c.in-Some.is) in
     stepped_as seat (λ serving s. move_of serving seat c.args.pc s o) (λ serving s. called_out serving seat cell.place (c.args.pc + 1) c.in-CallOut.what s o) c.args.world.now c.call_out.new.world
     (open_of c.call_out.new.open) c.call_out.result (λ serving h s. move_is serving seat c.args.pc s o cell (instr.CallOut c.in-CallOut.what) e c.in-CallOut.is) c.call_out.ensures.stepped
+
+pub turn::turn-quick-requires : goal.turn::turn-quick-requires
+turn::turn-quick-requires g t c =
+    let seat = seat_of c.args.seat.now in
+    let o = open_of c.args.open.now in
+    let cell = c.in-Some.cell.now in
+    let e = cell_at (code_of seat) c.args.code.now c.args.pc (option_map (λ x. x.now) c.get.result) cell c.requires.code c.get.ensures (ap (option_map (λ x. x.now)) c.in-Some.is) in
+    let finds = subst (Finds (length (code_of seat)) c.args.pc (g.W.World.kept c.args.world.now) o) c.in-Op.is
+    (finds_at g.met.W.World.tells c.args.served.now seat c.requires.seat c.args.pc o c.args.world.now c.requires.known c.requires.standing cell e) in
+    search rules
+
+pub turn::turn-returns-in-Ok-clause-stepped : goal.turn::turn-returns-in-Ok-clause-stepped
+turn::turn-returns-in-Ok-clause-stepped g t c =
+    let seat = seat_of c.args.seat.now in
+    let o = open_of c.args.open.now in
+    let cell = c.in-Some.cell.now in
+    let e = cell_at (code_of seat) c.args.code.now c.args.pc (option_map (λ x. x.now) c.get.result) cell c.requires.code c.get.ensures (ap (option_map (λ x. x.now)) c.in-Some.is) in
+    let this = instr.Op c.in-Op.op in
+    acted_stepped seat (λ serving s. move_of serving seat c.args.pc s o) c.args.world.now c.quick.new.world (open_of c.quick.new.open) (flows.Go (c.args.pc + 1))
+    (λ serving h.
+    acted_as (λ s. move_of serving seat c.args.pc s o) (λ s. act serving seat cell.place c.args.pc s o this) c.args.world.now c.quick.new.world (open_of c.quick.new.open) (flows.Go (c.args.pc + 1))
+    (λ s. move_is serving seat c.args.pc s o cell this e c.in-Op.is)
+    (led_on (λ place pc s. act serving seat place pc s o this) c.args.world.now c.quick.new.world (open_of c.quick.new.open) tt cell.place c.args.pc (c.in-Ok.ensures.lands serving)))
+
+pub turn::turn-returns-in-Err-clause-stepped : goal.turn::turn-returns-in-Err-clause-stepped
+turn::turn-returns-in-Err-clause-stepped g t c =
+    let seat = seat_of c.args.seat.now in
+    let o = open_of c.args.open.now in
+    let cell = c.in-Some.cell.now in
+    let e = cell_at (code_of seat) c.args.code.now c.args.pc (option_map (λ x. x.now) c.get.result) cell c.requires.code c.get.ensures (ap (option_map (λ x. x.now)) c.in-Some.is) in
+    let this = instr.Op c.in-Op.op in
+    acted_stepped seat (λ serving s. move_of serving seat c.args.pc s o) c.args.world.now c.fail.new.world (open_of c.fail.new.open) c.fail.result
+    (λ serving h.
+    acted_as (λ s. move_of serving seat c.args.pc s o) (λ s. act serving seat cell.place c.args.pc s o this) c.args.world.now c.fail.new.world (open_of c.fail.new.open) c.fail.result
+    (λ s. move_is serving seat c.args.pc s o cell this e c.in-Op.is)
+    (led_off (λ place pc s. act serving seat place pc s o this) c.args.world.now c.quick.new.world c.fail.new.world (open_of c.quick.new.open) (open_of c.fail.new.open) c.in-Err.failed c.fail.result cell.place c.args.pc
+    (c.in-Err.ensures.lands serving) c.fail.ensures.acted c.fail.ensures.short))
 
 pub turn::turn-step-requires : goal.turn::turn-step-requires
 turn::turn-step-requires g t c =
     let seat = seat_of c.args.seat.now in
     let o = open_of c.args.open.now in
     let cell = c.in-Some.cell.now in
-    let e = cell_at (code_of seat) c.code-code.result.now c.args.pc (option_map (λ x. x.now) c.get.result) cell c.code-code.ensures c.get.ensures (ap (option_map (λ x. x.now)) c.in-Some.is) in
-    let counted = c.len.ensures ∙ ap length c.code-code.ensures in
+    let e = cell_at (code_of seat) c.args.code.now c.args.pc (option_map (λ x. x.now) c.get.result) cell c.requires.code c.get.ensures (ap (option_map (λ x. x.now)) c.in-Some.is) in
+    let counted = c.len.ensures ∙ ap length c.requires.code in
     let finds = finds_at g.met.W.World.tells c.args.served.now seat c.requires.seat c.args.pc o c.args.world.now c.requires.known c.requires.standing cell e in
     let simple = simple_of cell.instr c.in_default-instr.not-CallOut in
     search rules
@@ -151,7 +189,7 @@ turn::turn-returns-in_default-instr-clause-stepped g t c =
     let seat = seat_of c.args.seat.now in
     let o = open_of c.args.open.now in
     let cell = c.in-Some.cell.now in
-    let e = cell_at (code_of seat) c.code-code.result.now c.args.pc (option_map (λ x. x.now) c.get.result) cell c.code-code.ensures c.get.ensures (ap (option_map (λ x. x.now)) c.in-Some.is) in
+    let e = cell_at (code_of seat) c.args.code.now c.args.pc (option_map (λ x. x.now) c.get.result) cell c.requires.code c.get.ensures (ap (option_map (λ x. x.now)) c.in-Some.is) in
     acted_stepped seat (λ serving s. move_of serving seat c.args.pc s o) c.args.world.now c.step.new.world (open_of c.step.new.open) c.step.result
     (λ serving h.
     acted_as (λ s. move_of serving seat c.args.pc s o) (λ s. act serving seat cell.place c.args.pc s o cell.instr) c.args.world.now c.step.new.world (open_of c.step.new.open) c.step.result
