@@ -44,12 +44,7 @@ round_at mark = record { item = Ok null; index = mark.index; count = mark.count;
 abbrev pub status_keys : List (List ℕ)
 status_keys = codes "begin" ∷ codes "count" ∷ codes "current" ∷ codes "end" ∷ codes "first" ∷ codes "index" ∷ codes "last" ∷ codes "step" ∷ []
 
--- the first entries of a round's status
-abbrev pub status_front : Values → Round → Datum → Values
-status_front vs r current =
-    (codes "begin", or_null (value_at (codes "begin") vs)) ∷ (codes "count", number (pos r.count)) ∷ (codes "current", current) ∷ (codes "end", or_null (value_at (codes "end") vs)) ∷ []
-
--- all entries of a round's status
+-- the entries of a round's status
 abbrev pub status_entries : Values → Round → Datum → Values
 status_entries vs r current =
     (codes "begin", or_null (value_at (codes "begin") vs)) ∷ (codes "count", number (pos r.count)) ∷ (codes "current", current) ∷ (codes "end", or_null (value_at (codes "end") vs))

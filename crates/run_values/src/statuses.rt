@@ -1,10 +1,10 @@
-ghost use Rattle.std.specs.Prelude.{◌≡◌, ◌∷◌, ◌++◌, [], map, pos, IfOk, OnOk};
+ghost use Rattle.std.specs.Prelude.{◌≡◌, map, pos, IfOk};
 ghost use Rattle.el_ops.specs.Indexing.{or_null};
 ghost use Rattle.page_meaning.specs.Attributes.{value_at};
 ghost use Rattle.page_meaning.specs.Rounds.{status_record};
 ghost use Rattle.pg_value.specs.Datum.{number};
 ghost use Rattle.pg_value.specs.Value.{datum_of, entry_of};
-ghost use Rattle.run_values.specs.Rounds.{round_at, status_entries, status_front};
+ghost use Rattle.run_values.specs.Rounds.{round_at, status_entries};
 
 use crate::loop_values::value_at;
 use crate::records::record;
@@ -13,9 +13,6 @@ use pg_text::Text;
 use pg_value::{Attrs, Value};
 use std::alloc::{AllocError, Global};
 use std::marker::Model;
-
-// How many entries a status has.
-const ENTRIES: usize = 8;
 
 /// The keys of a status, made once for all rounds of a loop. Contracts see the list of them, which
 /// is the same of all loops.
@@ -56,25 +53,6 @@ impl StatusKeys {
         })
     }
 
-    // The first entries of a status: those up to `end`.
-    fn front(
-        &self,
-        alloc: Global,
-        table: &[(Text, Value)],
-        mark: &Mark,
-        current: &Value,
-    ) -> Result<Vec<(Text, Value)>, AllocError>
-        ensures { IfOk result (λ made. map entry_of made.items ≡ status_front (map entry_of table.now)
-            (round_at mark.now) (datum_of current.now)) }
-    {
-        let mut entries = Vec::with_capacity(alloc, ENTRIES)?;
-        put(&mut entries, &self.begin, given(table, "begin")?)?;
-        put(&mut entries, &self.count, number(mark.count)?)?;
-        put(&mut entries, &self.current, current.copy()?)?;
-        put(&mut entries, &self.end, given(table, "end")?)?;
-        Ok(entries)
-    }
-
     // The entries of a status, in the order of their keys.
     fn entries(
         &self,
@@ -86,11 +64,16 @@ impl StatusKeys {
         ensures { IfOk result (λ made. map entry_of made.items ≡ status_entries (map entry_of table.now)
             (round_at mark.now) (datum_of current.now)) }
     {
-        let mut entries = self.front(alloc, table, mark, current)?;
-        put(&mut entries, &self.first, Value::Bool(mark.count == 1))?;
-        put(&mut entries, &self.index, number(mark.index)?)?;
-        put(&mut entries, &self.last, Value::Bool(mark.is_last))?;
-        put(&mut entries, &self.step, given(table, "step")?)?;
+        let entries = vec![in alloc;
+            given_entry(&self.begin, table, "begin")?,
+            number_entry(&self.count, mark.count)?,
+            copied_entry(&self.current, current)?,
+            given_entry(&self.end, table, "end")?,
+            entry(&self.first, Value::Bool(mark.count == 1))?,
+            number_entry(&self.index, mark.index)?,
+            entry(&self.last, Value::Bool(mark.is_last))?,
+            given_entry(&self.step, table, "step")?,
+        ]?;
         Ok(entries)
     }
 
@@ -111,30 +94,36 @@ impl StatusKeys {
     }
 }
 
-// Puts an entry behind the others.
-fn put(entries: &mut Vec<(Text, Value)>, key: &Text, value: Value) -> Result<(), AllocError>
-    ensures { OnOk result (entries.new.items ≡ entries.old.items ++ (key.now, value) ∷ []) }
+// An entry under this key.
+fn entry(key: &Text, value: Value) -> Result<(Text, Value), AllocError>
+    ensures { IfOk result (λ made. entry_of made ≡ (key.now, datum_of value)) }
 {
-    entries.push((key.copy()?, value))?;
-    Ok(())
+    Ok((key.copy()?, value))
 }
 
-// A place or a count as a value. One past the largest number is answered as want of memory.
-fn number(count: u64) -> Result<Value, AllocError>
-    ensures { IfOk result (λ value. datum_of value ≡ number (pos count)) }
+// A copy of a value under this key.
+fn copied_entry(key: &Text, value: &Value) -> Result<(Text, Value), AllocError>
+    ensures { IfOk result (λ made. entry_of made ≡ (key.now, datum_of value.now)) }
+{
+    entry(key, value.copy()?)
+}
+
+// A place or a count under this key. One past the largest number is answered as want of memory.
+fn number_entry(key: &Text, count: u64) -> Result<(Text, Value), AllocError>
+    ensures { IfOk result (λ made. entry_of made ≡ (key.now, number (pos count))) }
 {
     if count > i64::MAX as u64 {
         return Err(AllocError);
     }
-    Ok(Value::Int(count as i64))
+    entry(key, Value::Int(count as i64))
 }
 
-// The value of a name, or null.
-fn given(table: &[(Text, Value)], name: &str) -> Result<Value, AllocError>
-    ensures { IfOk result (λ value. datum_of value ≡ or_null (value_at name.now (map entry_of table.now))) }
+// The value of a name, or null, under this key.
+fn given_entry(key: &Text, table: &[(Text, Value)], name: &str) -> Result<(Text, Value), AllocError>
+    ensures { IfOk result (λ made. entry_of made ≡ (key.now, or_null (value_at name.now (map entry_of table.now)))) }
 {
     match value_at(table, name) {
-        Some(value) => value.copy(),
-        None => Ok(Value::Null),
+        Some(value) => copied_entry(key, value),
+        None => entry(key, Value::Null),
     }
 }
