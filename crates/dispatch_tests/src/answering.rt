@@ -7,8 +7,8 @@ use compiled_pages::Made;
 use conversation::Outcome;
 use dispatch::respond;
 use edges::{Clock, Counting, MemClock, MemSink, Steps};
+use packed_entries::OpRef;
 use site_core::{SoloPort, into_site};
-use site_words::Op;
 use std::alloc::{AllocError, Global};
 use std::marker::Brand;
 use std::sync::ledger::{Blank, Ledger};
@@ -83,7 +83,7 @@ impl<N: Ledger> Answering<N> {
         let Answering { port, .. } = self;
         let mut text = String::new(alloc);
         for entry in into_site(port).history().iter() {
-            text.push(letter(&entry.op))?;
+            text.push(letter(entry.op()))?;
         }
         Ok(text)
     }
@@ -135,15 +135,15 @@ pub fn come(
     come_of::<Brand>(alloc, Blank::new(1), files, limit, asked, fails)
 }
 
-fn letter(op: &Op) -> char {
+fn letter(op: OpRef<'_>) -> char {
     match op {
-        Op::Begin { .. } => 'B',
-        Op::App { .. } => 'A',
-        Op::Fresh { .. } => 'S',
-        Op::Fetch { .. } => 'F',
-        Op::Offer { .. } => 'O',
-        Op::End { .. } => 'E',
-        Op::Abandon { .. } => 'D',
+        OpRef::Begin { .. } => 'B',
+        OpRef::App { .. } => 'A',
+        OpRef::Fresh { .. } => 'S',
+        OpRef::Fetch { .. } => 'F',
+        OpRef::Offer { .. } => 'O',
+        OpRef::End { .. } => 'E',
+        OpRef::Abandon { .. } => 'D',
         _ => '?',
     }
 }

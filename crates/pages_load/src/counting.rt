@@ -2,13 +2,12 @@ ghost use Rattle.std.specs.Prelude.{◌≡◌, ◌≤◌, nat_eq, if◌then◌el
 ghost use Rattle.std.specs.List.{slice_get, starts_with};
 ghost use Rattle.pages_load.specs.Load.{count, good_mark, is_hit, is_publishing, one_if, places};
 
-use block_list::BlockList;
-use site_words::{Entry, Op, Reply};
+use packed_entries::{History, OpRef, PackedEntry, ReplyRef};
 
 const GOOD_MARK: &[u8] = b"HTTP/1.1 200 OK\r\nContent-Type: text/html";
 
 /// How many entries publish.
-pub(crate) fn publishings(history: &BlockList<Entry>) -> usize
+pub(crate) fn publishings(history: &History) -> usize
     ensures { result ≡ count is_publishing history.now.items }
 {
     let mut count = 0;
@@ -19,7 +18,7 @@ pub(crate) fn publishings(history: &BlockList<Entry>) -> usize
 }
 
 // One where the entry at a place publishes, else none.
-fn publishing_at(history: &BlockList<Entry>, place: usize) -> usize
+fn publishing_at(history: &History, place: usize) -> usize
     ensures value { result ≡ one_if is_publishing (slice_get history.now.items place) }
     ensures small { result ≤ 1 }
 {
@@ -29,14 +28,14 @@ fn publishing_at(history: &BlockList<Entry>, place: usize) -> usize
     }
 }
 
-fn is_publishing(entry: &Entry) -> bool
+fn is_publishing(entry: &PackedEntry) -> bool
     ensures { result ≡ is_publishing entry.now }
 {
-    matches!(entry.op, Op::Publish { .. })
+    matches!(entry.op(), OpRef::Publish { .. })
 }
 
 /// How many entries fetch a page of which what is kept was taken.
-pub(crate) fn hits(history: &BlockList<Entry>) -> usize
+pub(crate) fn hits(history: &History) -> usize
     ensures { result ≡ count is_hit history.now.items }
 {
     let mut count = 0;
@@ -47,7 +46,7 @@ pub(crate) fn hits(history: &BlockList<Entry>) -> usize
 }
 
 // One where the entry at a place is such, else none.
-fn hit_at(history: &BlockList<Entry>, place: usize) -> usize
+fn hit_at(history: &History, place: usize) -> usize
     ensures value { result ≡ one_if is_hit (slice_get history.now.items place) }
     ensures small { result ≤ 1 }
 {
@@ -57,11 +56,11 @@ fn hit_at(history: &BlockList<Entry>, place: usize) -> usize
     }
 }
 
-fn is_hit(entry: &Entry) -> bool
+fn is_hit(entry: &PackedEntry) -> bool
     ensures { result ≡ is_hit entry.now }
 {
-    match entry.reply {
-        Reply::Fetched { hit } => hit,
+    match entry.reply() {
+        ReplyRef::Fetched { hit } => hit,
         _ => false,
     }
 }

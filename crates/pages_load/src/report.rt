@@ -2,16 +2,15 @@ ghost use Rattle.std.specs.Prelude.{◌≡◌, ◌≤◌, ◌++◌, IfOk, OnOk};
 ghost use Rattle.pages_load.specs.Load.{line, report};
 
 use crate::counting::{good_answers, hits, publishings};
-use block_list::BlockList;
 use load_gen::{MAX_PAGES, counted};
-use site_words::Entry;
+use packed_entries::History;
 use std::alloc::{AllocError, Global};
 
 /// The five lines that tell of a site of so many pages, by its history and the answers.
 pub(crate) fn report(
     alloc: Global,
     number: u32,
-    history: &BlockList<Entry>,
+    history: &History,
     answers: &[u8],
 ) -> Result<Vec<u8>, AllocError>
     requires few { number ≤ MAX_PAGES }

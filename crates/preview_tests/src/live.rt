@@ -3,11 +3,12 @@ ghost use Rattle.std.specs.Prelude.{◌≡◌, ◌<◌, IfOk};
 
 use compiled_pages::Made;
 use edges::{MemSink, MemSource, Steps, Unseen};
+use packed_entries::OpRef;
 use pg_text::Text;
 use pg_value::{Attrs, Value};
 use preview::preview;
 use site_core::{Site, SoloPort, into_site, solo, sound};
-use site_words::{KeptSession, KeptSessions, Op, Opening};
+use site_words::{KeptSession, KeptSessions, Opening};
 use source_tree::Tree;
 use std::alloc::{AllocError, Global};
 use std::marker::Brand;
@@ -125,7 +126,7 @@ fn a_preview_changes_nothing_of_the_site(rt: HostRuntime) -> Result<(), Fail> {
         assert_eq!(rt; text.as_slice(), answered.as_bytes());
         assert_eq!(rt; site.len(), pictures);
         for entry in site.history().iter() {
-            assert!(rt; matches!(entry.op, Op::Snapshot { .. }));
+            assert!(rt; matches!(entry.op(), OpRef::Snapshot { .. }));
         }
         let next = site.next_opening()?;
         assert_eq!(rt; next.version, version);

@@ -6,14 +6,13 @@ ghost use Rattle.recorded_talk.specs.Talked.{HasTalk, IsByNumber};
 
 use crate::comparing::is_same_talk;
 use crate::waiting::with_two;
-use block_list::BlockList;
 use compiled_pages::Made;
 use conversation::Ended;
 use edges::{MemClock, MemSink, MemSource, Steps, Unseen};
+use packed_entries::History;
 use pages_talk::{Role, talk};
 use site_core::{Site, into_site, solo};
 use site_journal::Talk;
-use site_words::Entry;
 use std::alloc::{AllocError, Global};
 use std::marker::Brand;
 use std::sync::ledger::{Blank, Ledger};
@@ -37,7 +36,7 @@ pub fn is_right(
     alloc: Global,
     site: Site<Made>,
     talk: Talk,
-    history: &BlockList<Entry>,
+    history: &History,
 ) -> Result<bool, AllocError>
     requires { site.history ≡ [] }
     ensures { IfOk result (λ right. Decides right (HasTalk needs_at site.opening history.now.items talk)) }

@@ -9,3 +9,4 @@ pub mod ReplyLemmas
 pub mod Items
 pub mod SiteCross
 pub mod Resting
+pub mod Packing

@@ -12,11 +12,11 @@ ghost use Rattle.site_core.specs.Lived.{first_opening};
 
 use crate::condition;
 use crate::opening::know_limit;
-use block_list::BlockList;
+use packed_entries::{History, PackedEntry, Room};
 use pg_text::Text;
 use pg_value::Attrs;
 use site_state::{Act, Done, Given, Held, session_id};
-use site_words::{Acted, Compiled, Entry, KeptSessions, Op, Opening, Refusal};
+use site_words::{Acted, Compiled, KeptSessions, Op, Opening, Refusal};
 use source_tree::Tree;
 use std::alloc::{AllocError, Global};
 use std::marker::Model;
@@ -26,7 +26,7 @@ use std::marker::Model;
 pub struct Site<P: Compiled> {
     alloc: Global,
     opening: Opening,
-    history: BlockList<Entry>,
+    history: History,
     held: Held<P>,
 }
 
@@ -88,7 +88,7 @@ impl<P: Compiled> Site<P> {
     {
         know_limit(&opening);
         let held = Held::start(alloc, &opening)?;
-        let history = BlockList::new(alloc)?;
+        let history = History::new(alloc)?;
         Ok(Site {
             alloc,
             opening,
@@ -119,7 +119,7 @@ impl<P: Compiled> Site<P> {
         self.history.is_empty()
     }
 
-    pub fn history(&self) -> &BlockList<Entry>
+    pub fn history(&self) -> &History
         ensures { result.now.items ≡ self.now.history }
     {
         &self.history
@@ -174,14 +174,24 @@ impl<P: Compiled> Site<P> {
         let Ok(()) = self.held.reserve(&mut self.history, &op) else {
             return Acted::NoMemory;
         };
+        let Ok(room) = Room::new(self.alloc, &op) else {
+            return Acted::NoMemory;
+        };
         match self.held.act(&self.opening, &self.history, pass, &op, made) {
             Acted::Did(done) => {
                 let Done { reply, given } = done;
-                self.history.push_reserved(Entry { pass, op, reply });
+                let entry = PackedEntry::new(pass, op, reply, room);
+                self.history.push_reserved(entry);
                 Acted::Did(given)
             }
-            Acted::Refused(refusal) => Acted::Refused(refusal),
-            Acted::NoMemory => Acted::NoMemory,
+            Acted::Refused(refusal) => {
+                drop(room);
+                Acted::Refused(refusal)
+            }
+            Acted::NoMemory => {
+                drop(room);
+                Acted::NoMemory
+            }
         }
     }
 }

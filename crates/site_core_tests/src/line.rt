@@ -1,8 +1,9 @@
 use crate::word::Word;
+use packed_entries::{OpRef, PackedEntry, ReplyRef};
 use pg_text::Path;
 use pg_value::{Attrs, Value};
 use site_core::{Gift, Given};
-use site_words::{Acted, AppReply, AppStep, Entry, Op, Refusal, Reply};
+use site_words::{Acted, AppReply, AppStep, Refusal};
 use source_tree::Tree;
 use std::alloc::{AllocError, Global};
 
@@ -31,7 +32,7 @@ fn refused(alloc: Global, refusal: &Refusal) -> Result<String, AllocError> {
 }
 
 fn done(alloc: Global, given: &Given<Word>) -> Result<String, AllocError> {
-    let mut line = replied(alloc, &given.reply)?;
+    let mut line = replied(alloc, ReplyRef::of(&given.reply))?;
     match &given.gift {
         Gift::Nothing | Gift::Old(_, _) => {}
         Gift::Made(_) => line.push_str(" made")?,
@@ -66,31 +67,31 @@ fn number(alloc: Global, value: &Value) -> Result<String, AllocError> {
 }
 
 /// What a reply says.
-pub fn replied(alloc: Global, reply: &Reply) -> Result<String, AllocError> {
+pub fn replied(alloc: Global, reply: ReplyRef<'_>) -> Result<String, AllocError> {
     match reply {
-        Reply::Published { version, dirty } => {
+        ReplyRef::Published { version, dirty } => {
             let count = dirty.len();
             format!(in alloc; "version {version}, {count} dirty")
         }
-        Reply::Begun {
+        ReplyRef::Begun {
             request,
             version,
             session,
         } => {
-            let session = session_text(alloc, *session)?;
+            let session = session_text(alloc, session)?;
             format!(in alloc; "begun {request} {version} {session}")
         }
-        Reply::App(reply) => app_told(alloc, reply),
-        Reply::Made { session } => format!(in alloc; "made {session}"),
-        Reply::Fetched { hit } => format!(in alloc; "hit {hit}"),
-        Reply::Offered { kept } => format!(in alloc; "kept {kept}"),
-        Reply::Ended => String::from_str(alloc, "ended"),
-        Reply::Dropped => String::from_str(alloc, "dropped"),
-        Reply::Snapped { version, session } => {
-            let session = session_text(alloc, *session)?;
+        ReplyRef::App(reply) => app_told(alloc, reply),
+        ReplyRef::Made { session } => format!(in alloc; "made {session}"),
+        ReplyRef::Fetched { hit } => format!(in alloc; "hit {hit}"),
+        ReplyRef::Offered { kept } => format!(in alloc; "kept {kept}"),
+        ReplyRef::Ended => String::from_str(alloc, "ended"),
+        ReplyRef::Dropped => String::from_str(alloc, "dropped"),
+        ReplyRef::Snapped { version, session } => {
+            let session = session_text(alloc, session)?;
             format!(in alloc; "snapped {version} {session}")
         }
-        Reply::Rolled => String::from_str(alloc, "rolled"),
+        ReplyRef::Rolled => String::from_str(alloc, "rolled"),
     }
 }
 
@@ -137,24 +138,24 @@ fn stamped(alloc: Global, tree: &Tree, path: &Path) -> Result<String, AllocError
 }
 
 /// The pass, the operation and the reply of an entry.
-pub fn entry_text(alloc: Global, entry: &Entry) -> Result<String, AllocError> {
-    let (pass, verb) = (entry.pass, verb(&entry.op));
-    let reply = replied(alloc, &entry.reply)?;
+pub fn entry_text(alloc: Global, entry: &PackedEntry) -> Result<String, AllocError> {
+    let (pass, verb) = (entry.pass(), verb(entry.op()));
+    let reply = replied(alloc, entry.reply())?;
     format!(in alloc; "{pass} {verb} {reply}")
 }
 
-fn verb(op: &Op) -> &'static str {
+fn verb(op: OpRef<'_>) -> &'static str {
     match op {
-        Op::Publish { .. } => "publish",
-        Op::Begin { .. } => "begin",
-        Op::App { step, .. } => step_verb(step),
-        Op::Fresh { .. } => "fresh",
-        Op::Fetch { .. } => "fetch",
-        Op::Offer { .. } => "offer",
-        Op::End { .. } => "end",
-        Op::Abandon { .. } => "abandon",
-        Op::Snapshot { .. } => "picture",
-        Op::Roll => "roll",
+        OpRef::Publish { .. } => "publish",
+        OpRef::Begin { .. } => "begin",
+        OpRef::App { step, .. } => step_verb(step),
+        OpRef::Fresh { .. } => "fresh",
+        OpRef::Fetch { .. } => "fetch",
+        OpRef::Offer { .. } => "offer",
+        OpRef::End { .. } => "end",
+        OpRef::Abandon { .. } => "abandon",
+        OpRef::Snapshot { .. } => "picture",
+        OpRef::Roll => "roll",
     }
 }
 

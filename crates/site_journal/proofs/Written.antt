@@ -9,7 +9,9 @@ use Rattle.pg_value.specs.declared.value.Value.{Value}
 use Rattle.site_journal.specs.Codes.{of_bytes, of_list, of_number}
 use Rattle.site_journal.specs.Journal.{entry_count, item_count, of_attrs, of_datum, of_entries, of_entry, of_items, rolled}
 use Rattle.site_words.specs.declared.words.Entry.{Entry as TheEntry}
+use Rattle.site_words.specs.declared.words.Op.{Op}
 use Rattle.site_words.specs.declared.words.Op.TheVariants as op
+use Rattle.site_words.specs.declared.words.Reply.{Reply}
 use Rattle.site_words.specs.declared.words.Reply.TheVariants as reply
 use Rattle.sink_buffer.proofs.Writing.{writes_both, writes_same}
 use Rattle.sink_buffer.specs.Buffer.{Buffer, Writes}
@@ -93,3 +95,7 @@ attrs_text n attrs es count same =
 
 pub rec_text : (n : ℕ) (attrs es : List (List ℕ × Datum)) → n ≡ length attrs → es ≡ attrs → ((5 ∷ []) ++ of_number n) ++ of_entries (entries_of es) ≡ of_datum (rec (entries_of attrs))
 rec_text n attrs es count same = ap (λ t. 5 ∷ t) (attrs_text n attrs es count same)
+
+-- an entry of these parts
+pub same_entry : (e : TheEntry) (pass : ℕ) (o : Op) (r : Reply) → pass ≡ e.pass → o ≡ e.op → r ≡ e.reply → let read : TheEntry = record { pass = pass; op = o; reply = r } in read ≡ e
+same_entry e pass o r same_pass same_op same_reply = λ i. record { pass = same_pass i; op = same_op i; reply = same_reply i }

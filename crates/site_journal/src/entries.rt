@@ -1,4 +1,5 @@
 ghost use Rattle.std.specs.Prelude.{◌≡◌, ◌<◌, ◌^◌, flat_map, length};
+ghost use Rattle.packed_entries.specs.Refs.{op_in, reply_in};
 ghost use Rattle.site_journal.specs.Codes.{IsList, of_bytes, of_list};
 ghost use Rattle.site_journal.specs.Journal.{kind_of, of_answer, of_edit, of_entry, of_op, of_reply, of_step, rolled};
 ghost use Rattle.site_journal.specs.Reading.{HasParts, IsAnswer, IsEdit, IsOp, IsPath, IsReply, IsStep};
@@ -9,18 +10,18 @@ use crate::values::{put_attrs, put_value};
 use crate::writing::{
     Item, know_byte, put, put_byte, put_list, put_number, put_option, put_text, put_truth,
 };
-use block_list::BlockList;
 use edges::Sink;
+use packed_entries::{History, OpRef, PackedEntry, ReplyRef};
 use pg_text::Path;
 use sink_buffer::SinkBuffer;
-use site_words::{AppReply, AppStep, Entry, Op, Reply};
+use site_words::{AppReply, AppStep};
 use source_tree::Edit;
 
 /// The entry of a Roll of pass 0.
 const ROLL: [u8; 2] = [0, 10];
 
 /// Writes a history with a Roll behind it.
-pub(crate) fn put_rolled<K: Sink>(sink: &mut K, buffer: &mut SinkBuffer, history: &BlockList<Entry>)
+pub(crate) fn put_rolled<K: Sink>(sink: &mut K, buffer: &mut SinkBuffer, history: &History)
     requires { length history.now.items < 2 ^ 63 }
     ensures writes { Writes (K.taken sink.old) (K.taken sink.new) (K.faults sink.old) (K.faults sink.new)
         buffer.old buffer.new (of_list of_entry (rolled history.now.items)) }
@@ -32,7 +33,7 @@ pub(crate) fn put_rolled<K: Sink>(sink: &mut K, buffer: &mut SinkBuffer, history
 }
 
 // Writes the entries of a history.
-fn put_entries<K: Sink>(sink: &mut K, buffer: &mut SinkBuffer, history: &BlockList<Entry>)
+fn put_entries<K: Sink>(sink: &mut K, buffer: &mut SinkBuffer, history: &History)
     ensures writes { Writes (K.taken sink.old) (K.taken sink.new) (K.faults sink.old) (K.faults sink.new)
         buffer.old buffer.new (flat_map of_entry history.now.items) }
     ensures can_be { Each HasParts history.now.items }
@@ -42,118 +43,120 @@ fn put_entries<K: Sink>(sink: &mut K, buffer: &mut SinkBuffer, history: &BlockLi
     }
 }
 
-impl Item for Entry {
+impl Item for PackedEntry {
     ghost text = { λ entry. of_entry entry };
 
     ghost can_be = { λ entry. HasParts entry };
 
     fn put<K: Sink>(&self, sink: &mut K, buffer: &mut SinkBuffer) {
-        know_byte(self.pass);
-        put(sink, buffer, &[self.pass, kind_of(&self.op)]);
-        put_op(sink, buffer, &self.op);
-        put_reply(sink, buffer, &self.reply);
+        let pass = self.pass();
+        let op = self.op();
+        know_byte(pass);
+        put(sink, buffer, &[pass, kind_of(op)]);
+        put_op(sink, buffer, op);
+        put_reply(sink, buffer, self.reply());
     }
 }
 
 // The kind of an operation.
-fn kind_of(op: &Op) -> u8
-    ensures { result ≡ kind_of op.now }
+fn kind_of(op: OpRef<'_>) -> u8
+    ensures { result ≡ kind_of (op_in op.entry) }
 {
     match op {
-        Op::Publish { base: _, edits: _ } => 1,
-        Op::Begin {
+        OpRef::Publish { base: _, edits: _ } => 1,
+        OpRef::Begin {
             cookie: _,
             moment: _,
         } => 2,
-        Op::App {
+        OpRef::App {
             request: _,
             step: _,
         } => 3,
-        Op::Fresh { request: _ } => 4,
-        Op::Fetch {
+        OpRef::Fresh { request: _ } => 4,
+        OpRef::Fetch {
             request: _,
             path: _,
         } => 5,
-        Op::Offer {
+        OpRef::Offer {
             request: _,
             path: _,
         } => 6,
-        Op::End {
+        OpRef::End {
             request: _,
             attrs: _,
         } => 7,
-        Op::Abandon { request: _ } => 8,
-        Op::Snapshot { cookie: _ } => 9,
-        Op::Roll => 10,
+        OpRef::Abandon { request: _ } => 8,
+        OpRef::Snapshot { cookie: _ } => 9,
+        OpRef::Roll => 10,
     }
 }
 
 // Writes the parts of an operation.
-fn put_op<K: Sink>(sink: &mut K, buffer: &mut SinkBuffer, op: &Op)
+fn put_op<K: Sink>(sink: &mut K, buffer: &mut SinkBuffer, op: OpRef<'_>)
     ensures writes { Writes (K.taken sink.old) (K.taken sink.new) (K.faults sink.old) (K.faults sink.new)
-        buffer.old buffer.new (of_op op.now) }
-    ensures can_be { IsOp op.now }
+        buffer.old buffer.new (of_op (op_in op.entry)) }
+    ensures can_be { IsOp (op_in op.entry) }
 {
     match op {
-        Op::Publish { base, edits } => {
-            put_option(sink, buffer, *base);
+        OpRef::Publish { base, edits } => {
+            put_option(sink, buffer, base);
             put_list(sink, buffer, edits.as_slice());
         }
-        Op::Begin { cookie, moment } => {
-            put_text(sink, buffer, cookie.as_str());
-            put_number(sink, buffer, *moment);
+        OpRef::Begin { cookie, moment } => {
+            put_text(sink, buffer, cookie);
+            put_number(sink, buffer, moment);
         }
-        Op::App { request, step } => {
-            put_number(sink, buffer, *request);
+        OpRef::App { request, step } => {
+            put_number(sink, buffer, request);
             put_step(sink, buffer, step);
         }
-        Op::Fetch { request, path } => {
-            put_number(sink, buffer, *request);
+        OpRef::Fetch { request, path } => {
+            put_number(sink, buffer, request);
             put_text(sink, buffer, path.as_str());
         }
-        Op::Offer { request, path } => {
-            put_number(sink, buffer, *request);
+        OpRef::Offer { request, path } => {
+            put_number(sink, buffer, request);
             put_text(sink, buffer, path.as_str());
         }
-        Op::End { request, attrs } => {
-            put_number(sink, buffer, *request);
+        OpRef::End { request, attrs } => {
+            put_number(sink, buffer, request);
             put_attrs(sink, buffer, attrs);
         }
-        Op::Fresh { request } | Op::Abandon { request } => put_number(sink, buffer, *request),
-        Op::Snapshot { cookie } => put_text(sink, buffer, cookie.as_str()),
-        Op::Roll => {}
+        OpRef::Fresh { request } | OpRef::Abandon { request } => put_number(sink, buffer, request),
+        OpRef::Snapshot { cookie } => put_text(sink, buffer, cookie),
+        OpRef::Roll => {}
     }
 }
 
 // Writes the parts of a reply.
-fn put_reply<K: Sink>(sink: &mut K, buffer: &mut SinkBuffer, reply: &Reply)
+fn put_reply<K: Sink>(sink: &mut K, buffer: &mut SinkBuffer, reply: ReplyRef<'_>)
     ensures writes { Writes (K.taken sink.old) (K.taken sink.new) (K.faults sink.old) (K.faults sink.new)
-        buffer.old buffer.new (of_reply reply.now) }
-    ensures can_be { IsReply reply.now }
+        buffer.old buffer.new (of_reply (reply_in reply.entry)) }
+    ensures can_be { IsReply (reply_in reply.entry) }
 {
     match reply {
-        Reply::Published { version, dirty } => {
-            put_number(sink, buffer, *version);
+        ReplyRef::Published { version, dirty } => {
+            put_number(sink, buffer, version);
             put_list(sink, buffer, dirty.as_slice());
         }
-        Reply::Begun {
+        ReplyRef::Begun {
             request,
             version,
             session,
         } => {
-            put_number(sink, buffer, *request);
-            put_number(sink, buffer, *version);
-            put_option(sink, buffer, *session);
+            put_number(sink, buffer, request);
+            put_number(sink, buffer, version);
+            put_option(sink, buffer, session);
         }
-        Reply::App(answer) => put_answer(sink, buffer, answer),
-        Reply::Made { session } => put_number(sink, buffer, *session),
-        Reply::Fetched { hit } => put_truth(sink, buffer, *hit),
-        Reply::Offered { kept } => put_truth(sink, buffer, *kept),
-        Reply::Snapped { version, session } => {
-            put_number(sink, buffer, *version);
-            put_option(sink, buffer, *session);
+        ReplyRef::App(answer) => put_answer(sink, buffer, answer),
+        ReplyRef::Made { session } => put_number(sink, buffer, session),
+        ReplyRef::Fetched { hit } => put_truth(sink, buffer, hit),
+        ReplyRef::Offered { kept } => put_truth(sink, buffer, kept),
+        ReplyRef::Snapped { version, session } => {
+            put_number(sink, buffer, version);
+            put_option(sink, buffer, session);
         }
-        Reply::Ended | Reply::Dropped | Reply::Rolled => {}
+        ReplyRef::Ended | ReplyRef::Dropped | ReplyRef::Rolled => {}
     }
 }
 

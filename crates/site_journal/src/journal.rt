@@ -11,10 +11,10 @@ use crate::entries::put_rolled;
 use crate::opening::put_opening;
 use crate::talk::Talk;
 use crate::writing::{know_byte, put, put_byte, put_bytes, put_list};
-use block_list::BlockList;
 use edges::{Failed, Sink};
+use packed_entries::History;
 use sink_buffer::SinkBuffer;
-use site_words::{Entry, Opening};
+use site_words::Opening;
 
 /// The mark at the beginning of a journal.
 const MARK: &[u8] = b"PGJRNL1\n";
@@ -24,7 +24,7 @@ const MARK: &[u8] = b"PGJRNL1\n";
 pub fn write_journal<K: Sink>(
     sink: &mut K,
     opening: &Opening,
-    history: &BlockList<Entry>,
+    history: &History,
     talk: Option<&Talk>,
 ) -> Result<(), Failed>
     requires { length history.now.items < 2 ^ 63 }
@@ -44,7 +44,7 @@ fn put_journal<K: Sink>(
     sink: &mut K,
     buffer: &mut SinkBuffer,
     opening: &Opening,
-    history: &BlockList<Entry>,
+    history: &History,
     talk: Option<&Talk>,
 )
     requires { length history.now.items < 2 ^ 63 }

@@ -1,10 +1,10 @@
 //! The journal of a site, and the site that does it again.
 use crate::visiting::Errand;
-use block_list::BlockList;
+use packed_entries::{History, OpRef, PackedEntry, ReplyRef};
 use pg_text::{BadPath, Failure, Text, resolve};
 use site_core::{Given, Site};
 use site_core_tests::{Word, put, replied, step, told};
-use site_words::{Acted, Entry, Refusal, copy_op};
+use site_words::{Acted, Op, Refusal, copy_step};
 use std::alloc::{AllocError, Global};
 
 /// The id of the first session.
@@ -32,11 +32,7 @@ pub fn errand(alloc: Global, cookie: &str) -> Result<Errand, Failure<BadPath>> {
 }
 
 /// A line for each entry from this place on: its pass and what it was answered.
-pub fn entries(
-    alloc: Global,
-    history: &BlockList<Entry>,
-    from: usize,
-) -> Result<String, AllocError> {
+pub fn entries(alloc: Global, history: &History, from: usize) -> Result<String, AllocError> {
     let mut lines = String::new(alloc);
     for entry in history.iter().skip(from) {
         add_entry(alloc, &mut lines, entry)?;
@@ -44,9 +40,9 @@ pub fn entries(
     Ok(lines)
 }
 
-fn add_entry(alloc: Global, lines: &mut String, entry: &Entry) -> Result<(), AllocError> {
-    let pass = entry.pass;
-    let reply = replied(alloc, &entry.reply)?;
+fn add_entry(alloc: Global, lines: &mut String, entry: &PackedEntry) -> Result<(), AllocError> {
+    let pass = entry.pass();
+    let reply = replied(alloc, entry.reply())?;
     let line = format!(in alloc; "{pass} {reply}\n")?;
     lines.push_str(line.as_str())
 }
@@ -55,7 +51,7 @@ fn add_entry(alloc: Global, lines: &mut String, entry: &Entry) -> Result<(), All
 pub fn agreeing(
     alloc: Global,
     again: &mut Site<Word>,
-    history: &BlockList<Entry>,
+    history: &History,
 ) -> Result<u64, AllocError> {
     let mut count: u64 = 0;
     for entry in history.iter() {
@@ -66,12 +62,48 @@ pub fn agreeing(
     Ok(count)
 }
 
-fn agrees(alloc: Global, again: &mut Site<Word>, entry: &Entry) -> Result<bool, AllocError> {
-    let op = copy_op(&entry.op)?;
-    let outcome = step(alloc, again, entry.pass, op)?;
-    let wanted = replied(alloc, &entry.reply)?;
+fn agrees(alloc: Global, again: &mut Site<Word>, entry: &PackedEntry) -> Result<bool, AllocError> {
+    let op = op_of(alloc, entry.op())?;
+    let outcome = step(alloc, again, entry.pass(), op)?;
+    let wanted = replied(alloc, entry.reply())?;
     let given = given_text(alloc, &outcome)?;
     Ok(given.as_str() == wanted.as_str())
+}
+
+// The operation, to be done again.
+fn op_of(alloc: Global, op: OpRef<'_>) -> Result<Op, AllocError> {
+    Ok(match op {
+        OpRef::Publish { base, edits } => Op::Publish {
+            base,
+            edits: edits.copy()?,
+        },
+        OpRef::Begin { cookie, moment } => Op::Begin {
+            cookie: Text::copy_of(alloc, cookie)?,
+            moment,
+        },
+        OpRef::App { request, step } => Op::App {
+            request,
+            step: copy_step(step)?,
+        },
+        OpRef::Fresh { request } => Op::Fresh { request },
+        OpRef::Fetch { request, path } => Op::Fetch {
+            request,
+            path: path.copy()?,
+        },
+        OpRef::Offer { request, path } => Op::Offer {
+            request,
+            path: path.copy()?,
+        },
+        OpRef::End { request, attrs } => Op::End {
+            request,
+            attrs: attrs.copy()?,
+        },
+        OpRef::Abandon { request } => Op::Abandon { request },
+        OpRef::Snapshot { cookie } => Op::Snapshot {
+            cookie: Text::copy_of(alloc, cookie)?,
+        },
+        OpRef::Roll => Op::Roll,
+    })
 }
 
 fn given_text(
@@ -79,13 +111,13 @@ fn given_text(
     outcome: &Option<Acted<Given<Word>, Refusal>>,
 ) -> Result<String, AllocError> {
     match outcome {
-        Some(Acted::Did(given)) => replied(alloc, &given.reply),
+        Some(Acted::Did(given)) => replied(alloc, ReplyRef::of(&given.reply)),
         _ => String::from_str(alloc, "not done"),
     }
 }
 
 /// How many fetches of the history found something.
-pub fn hits(alloc: Global, history: &BlockList<Entry>) -> Result<u64, AllocError> {
+pub fn hits(alloc: Global, history: &History) -> Result<u64, AllocError> {
     let mut count: u64 = 0;
     for entry in history.iter() {
         if is_hit(alloc, entry)? {
@@ -95,7 +127,7 @@ pub fn hits(alloc: Global, history: &BlockList<Entry>) -> Result<u64, AllocError
     Ok(count)
 }
 
-fn is_hit(alloc: Global, entry: &Entry) -> Result<bool, AllocError> {
-    let reply = replied(alloc, &entry.reply)?;
+fn is_hit(alloc: Global, entry: &PackedEntry) -> Result<bool, AllocError> {
+    let reply = replied(alloc, entry.reply())?;
     Ok(reply.as_str() == "hit true")
 }

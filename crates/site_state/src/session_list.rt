@@ -8,9 +8,9 @@ use crate::attributes::attributes;
 use crate::request::Request;
 use crate::session::{LastUse, Session};
 use crate::sessions::holder_of;
-use block_list::BlockList;
 use lru::LruCache;
-use site_words::{Entry, KeptSession, MAX_SESSIONS};
+use packed_entries::History;
+use site_words::{KeptSession, MAX_SESSIONS};
 use std::alloc::{AllocError, Global};
 use std::marker::Model;
 
@@ -60,7 +60,7 @@ impl SessionList {
         &self,
         alloc: Global,
         opened: &[KeptSession],
-        history: &BlockList<Entry>,
+        history: &History,
     ) -> Result<Vec<KeptSession>, AllocError>
         ensures { IfOk result (λ kept. kept.items ≡ sessions_of opened.now history.now.items self.now) }
     {
@@ -161,7 +161,7 @@ fn first_free(runs: &[Option<Request>], uses: &LruCache<u64, LastUse>) -> Option
 fn kept_of(
     alloc: Global,
     opened: &[KeptSession],
-    history: &BlockList<Entry>,
+    history: &History,
     uses: &LruCache<u64, LastUse>,
 ) -> Result<Vec<KeptSession>, AllocError>
     ensures { IfOk result (λ kept. kept.items ≡ sessions_of opened.now history.now.items

@@ -2,11 +2,10 @@ ghost use Rattle.std.specs.Prelude.{◌≡◌};
 ghost use Rattle.std.specs.Bool.{Decides};
 
 use crate::same::Same;
-use block_list::BlockList;
-use site_words::Entry;
+use packed_entries::History;
 
 /// Whether two histories have the same entries, in the same order.
-pub fn same_entries(one: &BlockList<Entry>, other: &BlockList<Entry>) -> bool
+pub fn same_entries(one: &History, other: &History) -> bool
     ensures { Decides result (one.now.items ≡ other.now.items) }
 {
     if one.len() != other.len() {

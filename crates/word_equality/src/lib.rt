@@ -6,6 +6,7 @@ mod entries;
 mod histories;
 mod lists;
 mod openings;
+mod read;
 mod same;
 
 pub use histories::same_entries;

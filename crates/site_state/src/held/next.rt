@@ -3,17 +3,13 @@ ghost use Rattle.site_words.specs.Opening.{next_opening};
 ghost use Rattle.site_state.specs.Parts.{parts_of, state_of};
 
 use crate::held::Held;
-use block_list::BlockList;
-use site_words::{Compiled, Entry, KeptSessions, Opening};
+use packed_entries::History;
+use site_words::{Compiled, KeptSessions, Opening};
 use std::alloc::AllocError;
 
 impl<P: Compiled> Held<P> {
     /// The opening that goes on from what is held.
-    pub fn next_opening(
-        &self,
-        opening: &Opening,
-        history: &BlockList<Entry>,
-    ) -> Result<Opening, AllocError>
+    pub fn next_opening(&self, opening: &Opening, history: &History) -> Result<Opening, AllocError>
         ensures { IfOk result (λ next. next ≡ next_opening opening.now
             (state_of opening.now history.now.items (parts_of self.now))) }
     {
