@@ -1,5 +1,6 @@
 pub mod AroundLemmas
 pub mod NameLemmas
 pub mod NamesFaults
+pub mod PartLemmas
 pub mod RowLemmas
 pub mod StandingLemmas

@@ -8,5 +8,6 @@ pub mod Elements
 pub mod Given
 pub mod Check
 pub mod ReadStanding
+pub mod ReadParts
 pub mod ReadSorts
 pub mod ReadCheck

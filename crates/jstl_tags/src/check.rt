@@ -18,6 +18,7 @@ use crate::host::Host;
 use crate::place::place_faults;
 use crate::rows::{Holds, Row};
 use crate::standing::{Body, Standing};
+use crate::standings::Standings;
 use page_directives::Faults;
 use page_pieces::Prefixes;
 use page_reader::{Closing, Element};
@@ -45,14 +46,14 @@ fn given_faults(row: &Row, closing: Closing, given: Given) -> Faults
 }
 
 // The faults of parts and what stands beside them.
-fn split_faults_by(split: bool, standing: &[Standing]) -> Faults
+fn split_faults_by(split: bool, standing: &Standings) -> Faults
     ensures { result ≡ in_order (split_by split (map standing_made standing.now)) }
 {
     if !split {
         return Faults::none();
     }
-    let other = other_stands(Sort::Part, standing);
-    let two = two_stand(Sort::PartBody, standing);
+    let other = other_stands(Sort::Part, standing.as_slice());
+    let two = two_stand(Sort::PartBody, standing.as_slice());
     Faults::one_if(other, TranslationFault::BadBody).and(Faults::one_if(
         two,
         TranslationFault::BadNesting,
@@ -60,13 +61,13 @@ fn split_faults_by(split: bool, standing: &[Standing]) -> Faults
 }
 
 // Whether there is a body, where there may be none.
-fn stands_as_body(split: bool, standing: &[Standing]) -> bool
+fn stands_as_body(split: bool, standing: &Standings) -> bool
     ensures { result ≡ stands_as_body split (map standing_made standing.now) }
 {
     if split {
-        element_stands(Sort::PartBody, standing)
+        element_stands(Sort::PartBody, standing.as_slice())
     } else {
-        !standing.is_empty()
+        !standing.as_slice().is_empty()
     }
 }
 
@@ -76,7 +77,7 @@ fn body_faults(
     holds: Holds,
     closing: Closing,
     split: bool,
-    standing: &[Standing],
+    standing: &Standings,
     body: &[Standing],
 ) -> Faults
     ensures { result ≡ in_order (holds_by (λ prefix. contains_text prefix library.now) holds closing split
@@ -97,7 +98,7 @@ fn row_faults_by(
     row: &Row,
     closing: Closing,
     split: bool,
-    standing: &[Standing],
+    standing: &Standings,
     body: &[Standing],
     given: Given,
 ) -> Faults
@@ -157,10 +158,10 @@ fn own_faults_by(core: CoreName, closing: Closing, body: &[Standing], given: Giv
 }
 
 // Whether the attributes or the body of an element are given by parts.
-fn is_split(element: &Element, standing: &[Standing]) -> bool
+fn is_split(element: &Element, standing: &Standings) -> bool
     ensures { result ≡ split_in (opened_of element.now).tag (map standing_made standing.now) }
 {
-    takes_parts(element) && element_stands(Sort::Part, standing)
+    takes_parts(element) && element_stands(Sort::Part, standing.as_slice())
 }
 
 // What stands in the body of an element, which may be given by `jsp:body`.
@@ -171,7 +172,7 @@ fn body_in<'a>(element: &Element, body: Body<'a>) -> &'a [Standing<'a>]
     if is_split(element, body.standing) {
         body.inner
     } else {
-        body.standing
+        body.standing.as_slice()
     }
 }
 

@@ -9,32 +9,48 @@ ghost use Rattle.page_directives.specs.Rows.{words};
 ghost use Rattle.jstl_tags.specs.Check.{lacks, name_faults, names_faults, repeats};
 ghost use Rattle.jstl_tags.specs.Content.{attribute_names, given_names, takes_parts};
 ghost use Rattle.jstl_tags.specs.Elements.{opened_of};
-ghost use Rattle.jstl_tags.specs.Given.{names_made};
+ghost use Rattle.jstl_tags.specs.Given.{names_made, part_names_made};
 ghost use Rattle.jstl_tags.specs.Rows.{row_made};
 ghost use Rattle.jstl_tags.specs.ReadCheck.{names_in};
 ghost use Rattle.jstl_tags.specs.Standing.{IsBody, part_names_in, standing_made};
 
 use crate::rows::{Row, Takes};
 use crate::standing::{Body, Standing};
-use page_directives::{Faults, is_value};
-use page_pieces::{Attribute, Attributes, has_name};
+use crate::standings::Standings;
+use page_directives::Faults;
+use page_pieces::{Attribute, Attributes};
 use page_reader::Element;
 use pg_text::TranslationFault;
 
-/// The attributes that are given to an element: those written, and what stands in its body, where `jsp:attribute` gives others.
+/// The attributes that are given to an element: those written, and those that `jsp:attribute` gives
+/// in its body, where it takes parts.
 #[derive(Clone, Copy)]
 pub struct Given<'a> {
     pub attributes: &'a Attributes,
-    pub parts: &'a [Standing<'a>],
+    pub body: &'a Standings<'a>,
+    pub takes_parts: bool,
 }
 
 impl<'a> Given<'a> {
     /// The attributes that are given to an element with this body.
     pub fn of(element: &'a Element, body: Body<'a>) -> Self
-        ensures { (tree : Tree) → IsBody body.entry tree → names_made result
+        ensures attributes { result.attributes.now ≡ element.now.attributes }
+        ensures names { (tree : Tree) → IsBody body.entry tree → names_made result
             ≡ given_names (opened_of element.now).tag tree }
     {
         given_to(element, body.standing)
+    }
+
+    /// What stands in the body of an element that takes parts, and nothing of another.
+    pub fn parts(self) -> &'a [Standing<'a>]
+        ensures { part_names_in (map standing_made result.now) ≡ part_names_made self.entry }
+    {
+        let standing = self.body.as_slice();
+        if self.takes_parts {
+            standing
+        } else {
+            &standing[..0]
+        }
     }
 
     /// Whether that name is given.
@@ -42,7 +58,7 @@ impl<'a> Given<'a> {
     pub fn contains(self, name: &str) -> bool
         ensures { result ≡ contains_text name.now (names_made self.entry) }
     {
-        has_name(self.attributes.as_slice(), name) || is_part(name, self.parts)
+        self.attributes.has_name(name) || is_part(self, name)
     }
 
     /// Whether a name is given twice.
@@ -50,7 +66,7 @@ impl<'a> Given<'a> {
     pub fn repeats(self) -> bool
         ensures { result ≡ repeats (names_made self.entry) }
     {
-        self.attributes.repeats() || are_shared(self) || part_repeats(self.parts)
+        self.attributes.repeats() || are_shared(self) || part_repeats(self)
     }
 }
 
@@ -62,30 +78,20 @@ pub(crate) fn takes_parts(element: &Element) -> bool
     !(element.prefix.as_str() == "jsp" && (name == "attribute" || name == "body" || name == "text"))
 }
 
-// What stands in the body of an element, where parts may stand there.
-fn parts_in<'a>(element: &Element, standing: &'a [Standing<'a>]) -> &'a [Standing<'a>]
-    ensures { map standing_made result.now ≡ (if takes_parts (opened_of element.now).tag then map
-        standing_made standing.now else []) }
-{
-    if takes_parts(element) {
-        standing
-    } else {
-        &standing[..0]
-    }
-}
-
 // The attributes that are given to an element, by what stands in its body.
-pub(crate) fn given_to<'a>(element: &'a Element, standing: &'a [Standing<'a>]) -> Given<'a>
-    ensures { names_made result ≡ names_in (opened_of element.now).tag (map standing_made standing.now) }
+pub(crate) fn given_to<'a>(element: &'a Element, standing: &'a Standings<'a>) -> Given<'a>
+    ensures attributes { result.attributes.now ≡ element.now.attributes }
+    ensures names { names_made result ≡ names_in (opened_of element.now).tag (map standing_made standing.now) }
 {
     Given {
         attributes: &element.attributes,
-        parts: parts_in(element, standing),
+        body: standing,
+        takes_parts: takes_parts(element),
     }
 }
 
 // The name that `jsp:attribute` gives, if it is plain.
-fn part_name<'a>(thing: Standing<'a>) -> Option<&'a str>
+pub(crate) fn part_name<'a>(thing: Standing<'a>) -> Option<&'a str>
     ensures { option_to_list (option_map (λ name. name.now) result)
         ≡ part_names_in (standing_made thing.entry ∷ []) }
 {
@@ -100,15 +106,11 @@ fn part_name<'a>(thing: Standing<'a>) -> Option<&'a str>
 }
 
 // Whether `jsp:attribute` gives that name.
-fn is_part(name: &str, parts: &[Standing]) -> bool
-    ensures { result ≡ contains_text name.now (part_names_in (map standing_made parts.now)) }
+#[tactic(auto, using(crate::proofs::PartLemmas::names_are))]
+fn is_part(given: Given, name: &str) -> bool
+    ensures { result ≡ contains_text name.now (part_names_made given.entry) }
 {
-    for thing in parts {
-        if is_value(name, part_name(*thing)) {
-            return true;
-        }
-    }
-    false
+    given.takes_parts && given.body.gives(name)
 }
 
 // Whether one of these names isn't given.
@@ -125,11 +127,11 @@ pub(crate) fn lacks(wanted: &[&str], given: Given) -> bool
 
 // Whether `jsp:attribute` gives a name that is written, too.
 fn are_shared(given: Given) -> bool
-    ensures { result ≡ list_any (λ name. contains_text name
-        (part_names_in (map standing_made given.entry.parts.now))) (attribute_names given.entry.attributes.now) }
+    ensures { result ≡ list_any (λ name. contains_text name (part_names_made given.entry))
+        (attribute_names given.entry.attributes.now) }
 {
     for attribute in given.attributes.as_slice() {
-        if is_part(attribute.name.as_str(), given.parts) {
+        if is_part(given, attribute.name.as_str()) {
             return true;
         }
     }
@@ -137,26 +139,11 @@ fn are_shared(given: Given) -> bool
 }
 
 // Whether `jsp:attribute` gives a name twice.
-fn part_repeats(parts: &[Standing]) -> bool
-    ensures { result ≡ repeats (part_names_in (map standing_made parts.now)) }
+#[tactic(auto, using(crate::proofs::PartLemmas::names_are))]
+fn part_repeats(given: Given) -> bool
+    ensures { result ≡ repeats (part_names_made given.entry) }
 {
-    for (i, thing) in parts.iter().enumerate() {
-        if is_repeated(part_name(*thing), &parts[i + 1..]) {
-            return true;
-        }
-    }
-    false
-}
-
-// Whether a name is given again.
-fn is_repeated(name: Option<&str>, behind: &[Standing]) -> bool
-    ensures { result ≡ list_any (λ name. contains_text name (part_names_in (map standing_made behind.now)))
-        (option_to_list (option_map (λ name. name.now) name.entry)) }
-{
-    match name {
-        Some(name) => is_part(name, behind),
-        None => false,
-    }
+    given.takes_parts && given.body.gives_twice()
 }
 
 /// What the attribute of a name takes, by the attributes of a row.
@@ -218,5 +205,5 @@ fn part_faults(row: &Row, parts: &[Standing]) -> Faults
 pub(crate) fn names_faults(row: &Row, given: Given) -> Faults
     ensures { result ≡ in_order (names_faults (row_made row.now) (names_made given.entry)) }
 {
-    written_faults(row, given.attributes.as_slice()).and(part_faults(row, given.parts))
+    written_faults(row, given.attributes.as_slice()).and(part_faults(row, given.parts()))
 }

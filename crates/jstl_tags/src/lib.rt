@@ -10,6 +10,7 @@ mod host;
 mod place;
 mod rows;
 mod standing;
+mod standings;
 mod values;
 
 pub use check::{core_faults, is_bodiless, row_faults, split_faults};
@@ -20,4 +21,5 @@ pub use host::Host;
 pub use place::{child_faults, place_faults};
 pub use rows::{Holds, Row, Stands, Takes};
 pub use standing::{Body, Standing};
+pub use standings::Standings;
 pub use values::taken_faults;

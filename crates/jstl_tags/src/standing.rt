@@ -1,3 +1,4 @@
+use crate::standings::Standings;
 use page_pieces::Attributes;
 
 /// One thing that stands in the body of an element with static includes in place. Comments and directives are nothing there.
@@ -17,6 +18,6 @@ pub enum Standing<'a> {
 /// The body of an element: what stands there, and what stands in the `jsp:body` elements there.
 #[derive(Clone, Copy)]
 pub struct Body<'a> {
-    pub standing: &'a [Standing<'a>],
+    pub standing: &'a Standings<'a>,
     pub inner: &'a [Standing<'a>],
 }

@@ -1,5 +1,5 @@
 -- The faults of names that are given to a call.
-use Rattle.std.proofs.Common.{◌≡◌, ℕ, Bool, true, false, cond, List, [], ◌∷◌, ◌++◌, map, refl, sym, ap, ◌∙◌, append_assoc, append-nil}
+use Rattle.std.proofs.Common.{◌≡◌, ℕ, List, [], ◌∷◌, ◌++◌, map, refl, sym, ap, ◌∙◌, append_assoc, append-nil}
 use Rattle.std.specs.Prelude.{◌||◌}
 use Rattle.std.specs.Option.{is_some}
 use Rattle.std.specs.Str.{bytes_eq}
@@ -9,10 +9,8 @@ use Rattle.page_pieces.specs.Settings.{contains_text}
 use Rattle.tag_decl.specs.declared.declaration.TagDecl.{TagDecl}
 use Rattle.tag_decl.specs.Declare.{declared}
 use Rattle.jstl_tags.specs.declared.standing.Standing.{Standing as Made}
-use Rattle.jstl_tags.specs.Content.{attribute_names, part_names}
-use Rattle.jstl_tags.specs.Standing.{Standing, part_names_in, standing_in, standing_made}
-use Rattle.jstl_tags.proofs.StandingLemmas.{part_names_are}
-use Rattle.page_reader.specs.Trees.{Tree}
+use Rattle.jstl_tags.specs.Content.{attribute_names}
+use Rattle.jstl_tags.specs.Standing.{Standing, part_names_in, standing_made}
 use Rattle.jstl_tags.specs.Standing as standing
 use Rattle.unit_build.specs.Calls.{name_faults, names_faults}
 
@@ -51,8 +49,3 @@ part_names_joined (x ∷ xs) ys =
 pub parts_joined : (decl : TagDecl) (all : List (List ℕ)) (xs ys : List Made)
     → names_faults decl all (part_names_in (map standing_made (xs ++ ys))) ≡ names_faults decl all (part_names_in (map standing_made xs)) ++ names_faults decl all (part_names_in (map standing_made ys))
 parts_joined decl all xs ys = ap (names_faults decl all) (part_names_joined xs ys) ∙ names_joined decl all (part_names_in (map standing_made xs)) (part_names_in (map standing_made ys))
-
--- the names that `jsp:attribute` gives, where parts may stand
-pub given_parts : (takes : Bool) (tree : Tree) → part_names_in (cond takes (standing_in tree) []) ≡ cond takes (part_names tree) []
-given_parts true tree = sym (part_names_are tree)
-given_parts false tree = refl

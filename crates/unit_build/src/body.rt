@@ -1,4 +1,4 @@
-ghost use Rattle.std.specs.Prelude.{◌≡◌, ◌++◌, codes, map, OnOk};
+ghost use Rattle.std.specs.Prelude.{◌≡◌, ◌++◌, codes, map, IfOk, OnOk};
 ghost use Rattle.std.specs.List.{list_all};
 ghost use Rattle.page_pieces.specs.Names.{is_white};
 ghost use Rattle.jstl_tags.specs.Elements.{opened_of};
@@ -9,10 +9,10 @@ ghost use Rattle.unit_source.specs.InPlace.{flat};
 ghost use Rattle.unit_source.specs.Placed.{in_place, node_in_place};
 ghost use Rattle.unit_build.specs.Elements.{has_open_body};
 
-use jstl_tags::Standing;
+use jstl_tags::{Standing, Standings};
 use page_pieces::Leaf;
 use page_reader::{Closing, Element};
-use std::alloc::AllocError;
+use std::alloc::{AllocError, Global};
 use unit_source::PlacedNode;
 
 // Adds what a leaf is among what stands there.
@@ -52,10 +52,22 @@ fn standing_of<'n>(head: &'n Element) -> Standing<'n>
     }
 }
 
-/// Adds what stands directly among nodes in place.
+/// What stands directly among nodes in place.
+pub(crate) fn standings_of<'n>(
+    alloc: Global,
+    nodes: &'n [PlacedNode],
+) -> Result<Standings<'n>, AllocError>
+    ensures { IfOk result (λ standings. map standing_made standings ≡ standing_in (flat (in_place nodes.now))) }
+{
+    let mut found = Vec::new(alloc);
+    push_standing(nodes, &mut found)?;
+    Standings::new(alloc, found)
+}
+
+// Adds what stands directly among nodes in place.
 #[cycle(standing)]
 #[tactic(auto, using(crate::proofs::PlacedLemmas::one_standing, crate::proofs::PlacedLemmas::element_standing, crate::proofs::PlacedLemmas::include_standing))]
-pub(crate) fn push_standing<'n>(
+fn push_standing<'n>(
     nodes: &'n [PlacedNode],
     found: &mut Vec<Standing<'n>>,
 ) -> Result<(), AllocError>

@@ -1,17 +1,16 @@
-ghost use Rattle.std.specs.Prelude.{◌≡◌, ◌∷◌, [], map, Some, if◌then◌else◌};
+ghost use Rattle.std.specs.Prelude.{◌≡◌, ◌∷◌, [], map, Some};
 ghost use Rattle.std.specs.Option.{is_some, option_map, option_to_list};
 ghost use Rattle.page_pieces.specs.Settings.{contains_text, plain_text};
 ghost use Rattle.page_reader.specs.Trees.{Tree};
 ghost use Rattle.page_directives.specs.Faults.{in_order};
 ghost use Rattle.tag_decl.specs.Declare.{declared};
-ghost use Rattle.jstl_tags.specs.Content.{attribute_names, given_names, takes_parts};
+ghost use Rattle.jstl_tags.specs.Content.{attribute_names, given_names};
 ghost use Rattle.jstl_tags.specs.Elements.{opened_of};
 ghost use Rattle.jstl_tags.specs.Given.{names_made};
 ghost use Rattle.jstl_tags.specs.Standing.{IsBody, part_names_in, standing_made};
 ghost use Rattle.unit_build.specs.Calls.{call_faults, call_value_faults, declared_faults, is_empty_kind, lacks_required, name_faults, names_faults, takes_none};
 
 use crate::body::is_whole;
-use crate::here::takes_parts;
 use jstl_tags::{Body, Given, Standing, is_bodiless, split_faults};
 use page_directives::Faults;
 use page_pieces::{Attribute, Attributes, plain_text};
@@ -98,7 +97,8 @@ fn names_faults(decl: &TagDecl, given: Given) -> Faults
         (names_made given.entry)) }
 {
     let written = given.attributes;
-    written_faults(decl, written, written.as_slice()).and(parts_faults(decl, written, given.parts))
+    let parts = parts_faults(decl, written, given.parts());
+    written_faults(decl, written, written.as_slice()).and(parts)
 }
 
 // Whether a declared attribute is required and not given.
@@ -119,38 +119,13 @@ fn is_empty_kind(kind: BodyKind) -> bool
     kind == BodyKind::Empty
 }
 
-// What stands in the body of an element, where parts may stand there.
-fn parts_in<'b>(head: &Element, standing: &'b [Standing<'b>]) -> &'b [Standing<'b>]
-    ensures { map standing_made result.now ≡ (if takes_parts (opened_of head.now).tag then map standing_made
-        standing.now else []) }
-{
-    if takes_parts(head) {
-        standing
-    } else {
-        &standing[..0]
-    }
-}
-
-// The attributes that are given to an element with this body.
-#[tactic(auto, using(crate::proofs::CallLemmas::given_parts))]
-fn given_to<'b>(head: &'b Element, body: Body<'b>) -> Given<'b>
-    ensures attributes { result.attributes.now ≡ head.now.attributes }
-    ensures names { (tree : Tree) → IsBody body.entry tree → names_made result
-        ≡ given_names (opened_of head.now).tag tree }
-{
-    Given {
-        attributes: &head.attributes,
-        parts: parts_in(head, body.standing),
-    }
-}
-
 // The faults of a call by what the tag file declares.
 fn declared_faults(decl: &TagDecl, head: &Element, body: Body) -> Faults
     ensures { (tree : Tree) → IsBody body.entry tree →
         result ≡ in_order (declared_faults (Some decl.now) (opened_of head.now) tree
         (given_names (opened_of head.now).tag tree)) }
 {
-    let given = given_to(head, body);
+    let given = Given::of(head, body);
     let lacks = is_whole(head.closing) && lacks_required(decl.attributes.as_slice(), given);
     let bad_body = is_empty_kind(decl.body) && !is_bodiless(head, body);
     names_faults(decl, given).and(Faults::one_if(lacks, TranslationFault::BadAttribute).and(

@@ -7,19 +7,20 @@ ghost use Rattle.page_directives.specs.Faults.{in_order};
 ghost use Rattle.jstl_tags.specs.Elements.{opened_of};
 ghost use Rattle.jstl_tags.specs.Hosts.{host_made};
 ghost use Rattle.jstl_tags.specs.Rows.{row_made};
-ghost use Rattle.jstl_tags.specs.Standing.{IsBody};
+ghost use Rattle.jstl_tags.specs.Content.{inner};
+ghost use Rattle.jstl_tags.specs.Standing.{IsBody, standing_in, standing_made};
 ghost use Rattle.unit_source.specs.InPlace.{flat};
 ghost use Rattle.unit_source.specs.Placed.{in_place};
 ghost use Rattle.unit_build.specs.Elements.{Here as Around, asked, element_faults, is_text_alone, kind_faults, own_faults, takes_text_alone, value_faults};
 ghost use Rattle.unit_build.specs.Made.{around_made, here_made, kind_made};
 
-use crate::body::{has_open_body, push_inner, push_standing};
+use crate::body::{has_open_body, push_inner, standings_of};
 use crate::calls::{call_faults, call_value_faults};
 use crate::here::Here;
 use crate::kind::Kind;
 use jstl_tags::{
-    Body, Given, Holds, Host, Row, Takes, child_faults, core_faults, place_faults, row_faults,
-    taken_faults, takes_of,
+    Body, Given, Holds, Host, Row, Standing, Standings, Takes, child_faults, core_faults,
+    place_faults, row_faults, taken_faults, takes_of,
 };
 use page_directives::Faults;
 use page_pieces::{Attribute, Prefixes};
@@ -121,6 +122,32 @@ fn kind_faults(
     }
 }
 
+// The same, by what stands in its body, and in the `jsp:body` elements there.
+fn faults_by_body(
+    core: &Prefixes,
+    in_tag: bool,
+    decl: Option<&TagDecl>,
+    kind: &Kind,
+    hosts: &[Host],
+    row: Option<Row>,
+    element: &PlacedElement,
+    standing: &Standings,
+    within: &[Standing],
+) -> Faults
+    ensures { (here : Around) → map standing_made standing.now ≡ standing_in (flat (in_place element.now.body.items)) →
+        map standing_made within.now ≡ standing_in (inner (flat (in_place element.now.body.items))) →
+        here.around ≡ map host_made hosts.now → here.row ≡ option_map row_made row
+        → result ≡ in_order (kind_faults (λ prefix. contains_text prefix core.now) in_tag
+        (option_map (λ decl. decl.now) decl.entry) (kind_made kind.now) here
+        (opened_of element.now.head) (flat (in_place element.now.body.items))) }
+{
+    let body = Body {
+        standing,
+        inner: within,
+    };
+    kind_faults(core, in_tag, decl, kind, hosts, row, element, body)
+}
+
 /// The faults of an element at its beginning. `core` are the prefixes of the core library.
 pub(crate) fn element_faults(
     alloc: Global,
@@ -136,17 +163,15 @@ pub(crate) fn element_faults(
         (kind_made kind.now) (here_made here.entry) (opened_of element.now.head)
         (flat (in_place element.now.body.items)))) }
 {
-    let mut standing = Vec::new(alloc);
-    push_standing(&element.body, &mut standing)?;
+    let standing = standings_of(alloc, &element.body)?;
     let mut inner = Vec::new(alloc);
     push_inner(&element.body, &mut inner)?;
-    let body = Body {
-        standing: &standing,
-        inner: &inner,
-    };
     let hosts = here.around.hosts(alloc)?;
     let deep = Faults::one_if(here.deep >= MAX_NESTING, TranslationFault::TooLarge);
-    Ok(deep.and(kind_faults(core, in_tag, decl, kind, &hosts, here.row, element, body)))
+    let by_kind = faults_by_body(
+        core, in_tag, decl, kind, &hosts, here.row, element, &standing, &inner,
+    );
+    Ok(deep.and(by_kind))
 }
 
 /// The faults of a value by its element's kind.

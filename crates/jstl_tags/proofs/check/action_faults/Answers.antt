@@ -15,4 +15,4 @@ returns c =
     ∙ ap in_order (action_parts (λ prefix. contains_text prefix c.args.library.now) (row_made c.args.row.now) (opened_of c.args.element.now)
     (map standing_made c.args.body.standing.now) (map standing_made c.args.body.inner.now)
     c.is_split-split.result (map standing_made c.body_in-within.result.now) (names_made c.given_to-given.result)
-    c.is_split-split.ensures c.body_in-within.ensures c.given_to-given.ensures)
+    c.is_split-split.ensures c.body_in-within.ensures c.given_to-given.ensures.names)
