@@ -134,7 +134,8 @@ fn faults_by_body(
     standing: &Standings,
     within: &[Standing],
 ) -> Faults
-    ensures { (here : Around) → map standing_made standing.now ≡ standing_in (flat (in_place element.now.body.items)) →
+    ensures { (here : Around) →
+        map standing_made standing.now ≡ standing_in (flat (in_place element.now.body.items)) →
         map standing_made within.now ≡ standing_in (inner (flat (in_place element.now.body.items))) →
         here.around ≡ map host_made hosts.now → here.row ≡ option_map row_made row
         → result ≡ in_order (kind_faults (λ prefix. contains_text prefix core.now) in_tag
