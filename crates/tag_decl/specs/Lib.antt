@@ -1,4 +1,5 @@
 pub mod Declare
 pub mod Faults
 pub mod Names
+pub mod ReadFirsts
 pub mod ReadNames

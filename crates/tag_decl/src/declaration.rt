@@ -2,6 +2,7 @@ ghost use Rattle.std.specs.Prelude.{◌≡◌};
 ghost use Rattle.std.specs.Option.{option_map};
 ghost use Rattle.tag_decl.specs.Declare.{declared};
 
+use crate::attr_decls::AttrDecls;
 use pg_text::{Listed, Text};
 
 /// The type of an attribute of a tag file.
@@ -50,9 +51,6 @@ pub struct VarDecl {
     pub scope: VarScope,
 }
 
-/// Declarations of attributes, in the order written.
-pub type AttrDecls = Listed<AttrDecl>;
-
 /// Declarations of variables, in the order written.
 pub type VarDecls = Listed<VarDecl>;
 
@@ -70,10 +68,5 @@ pub struct TagDecl {
 pub fn declared<'a>(decls: &'a AttrDecls, name: &str) -> Option<&'a AttrDecl>
     ensures { option_map (λ decl. decl.now) result ≡ declared name.now decls.now }
 {
-    for decl in decls.as_slice() {
-        if decl.name.as_str() == name {
-            return Some(decl);
-        }
-    }
-    None
+    decls.first(name)
 }

@@ -5,7 +5,8 @@ ghost use Rattle.page_directives.specs.Settings.{decided, given};
 ghost use Rattle.page_directives.specs.Tables.{tag_table};
 ghost use Rattle.tag_decl.specs.Declare.{attribute_in, attribute_named, attributes_of, declaration, variable_in, variable_name, variables_of};
 
-use crate::declaration::{AttrDecl, AttrDecls, TagDecl, VarDecl, VarDecls};
+use crate::attr_decls::AttrDecls;
+use crate::declaration::{AttrDecl, TagDecl, VarDecl, VarDecls};
 use crate::named::{body_or_scriptless, kind_in, scope_or_nested};
 use page_directives::{Directive, decided, is_value, tag_table, truth_or};
 use page_pieces::Attributes;
@@ -42,7 +43,7 @@ fn attribute_named(
 // Adds the attribute that an `attribute` directive declares.
 fn push_attribute(
     alloc: Global,
-    decls: &mut AttrDecls,
+    decls: &mut Listed<AttrDecl>,
     attributes: &Attributes,
 ) -> Result<(), AllocError>
     ensures { OnOk result (decls.new ≡ decls.old ++ attribute_in attributes.now
@@ -55,7 +56,7 @@ fn push_attribute(
 }
 
 // The attributes that directives declare, in the order written.
-fn attributes_of(alloc: Global, directives: &[Directive]) -> Result<AttrDecls, AllocError>
+fn attributes_of(alloc: Global, directives: &[Directive]) -> Result<Listed<AttrDecl>, AllocError>
     ensures { IfOk result (λ decls. decls ≡ attributes_of directives.now) }
 {
     let mut decls = Listed::empty(alloc);
@@ -124,7 +125,7 @@ pub fn declare(alloc: Global, directives: &[Directive]) -> Result<TagDecl, Alloc
     let body = decided_by_tag(directives, "body-content");
     let dynamic = decided_by_tag(directives, "dynamic-attributes");
     Ok(TagDecl {
-        attributes: attributes_of(alloc, directives)?,
+        attributes: AttrDecls::new(alloc, attributes_of(alloc, directives)?)?,
         variables: variables_of(alloc, directives)?,
         body: body_or_scriptless(body),
         dynamic: text_of(alloc, dynamic)?,

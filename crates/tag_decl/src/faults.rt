@@ -10,7 +10,8 @@ ghost use Rattle.tag_decl.specs.Faults.{any_faults, are_good, attribute_directiv
 ghost use Rattle.tag_decl.specs.Faults.{declaring_faults, has_one_name, is_named_well, is_text, may_name, variable_directive_faults};
 ghost use Rattle.tag_decl.specs.Faults.{variable_table};
 
-use crate::declaration::{AttrDecl, AttrDecls, AttrKind, declared};
+use crate::attr_decls::AttrDecls;
+use crate::declaration::{AttrDecl, AttrKind, declared};
 use crate::declared_before::DeclaredBefore;
 use crate::names::declared_name;
 use page_directives::{

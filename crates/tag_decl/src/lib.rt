@@ -2,6 +2,7 @@
 //! that declare it.
 #![tactic(auto)]
 
+mod attr_decls;
 mod declaration;
 mod declared_before;
 mod declaring;
@@ -9,8 +10,9 @@ mod faults;
 mod named;
 mod names;
 
+pub use attr_decls::AttrDecls;
 pub use declaration::{
-    AttrDecl, AttrDecls, AttrKind, BodyKind, TagDecl, VarDecl, VarDecls, VarScope, declared,
+    AttrDecl, AttrKind, BodyKind, TagDecl, VarDecl, VarDecls, VarScope, declared,
 };
 pub use declared_before::DeclaredBefore;
 pub use declaring::declare;

@@ -3,7 +3,7 @@ ghost use Rattle.std.specs.Prelude.{◌≡◌, IfOk};
 
 use pg_text::{Listed, Text};
 use std::alloc::{AllocError, Global};
-use tag_decl::{AttrDecl, TagDecl, VarDecl};
+use tag_decl::{AttrDecl, AttrDecls, TagDecl, VarDecl};
 
 /// What a tag file declares.
 pub(crate) fn copied_decl(alloc: Global, decl: &TagDecl) -> Result<TagDecl, AllocError>
@@ -17,7 +17,7 @@ pub(crate) fn copied_decl(alloc: Global, decl: &TagDecl) -> Result<TagDecl, Allo
     })
 }
 
-fn copied_attributes(alloc: Global, decls: &[AttrDecl]) -> Result<Listed<AttrDecl>, AllocError>
+fn copied_attributes(alloc: Global, decls: &[AttrDecl]) -> Result<AttrDecls, AllocError>
     ensures { IfOk result (λ copy. copy ≡ decls.now) }
 {
     let mut copies = Listed::empty(alloc);
@@ -30,7 +30,7 @@ fn copied_attributes(alloc: Global, decls: &[AttrDecl]) -> Result<Listed<AttrDec
             kind: decl.kind,
         })?;
     }
-    Ok(copies)
+    AttrDecls::new(alloc, copies)
 }
 
 fn copied_variables(alloc: Global, decls: &[VarDecl]) -> Result<Listed<VarDecl>, AllocError>
