@@ -45,7 +45,8 @@ fn a_copy_is_equal(rt: HostRuntime) -> Result<(), Fail> {
 
 // How many entries the record of a JSON text has, and what the value under a key weighs.
 fn entry(alloc: Global, json: &str, key: &str) -> Result<(usize, Option<u64>), Fail> {
-    let Value::Rec(entries) = from_json(alloc, json.as_bytes())? else {
+    let value = from_json(alloc, json.as_bytes())?;
+    let Value::Rec(entries) = &value else {
         return Err("a record".into());
     };
     Ok((entries.len(), entries.get(key).map(|value| weight(value))))

@@ -75,9 +75,9 @@ pub fn find<W: World>(strict: bool, name: &Name, world: &mut W) -> Result<Value,
 fn nowhere(strict: bool, value: Value) -> Result<Value, Failure<RunFault>>
     ensures { AnswersAs datum_of (nowhere_answer strict (datum_of value)) result }
 {
-    match value {
+    match &value {
         Value::Null if strict => Err(Failure::Fault(RunFault::NotFound)),
-        value => Ok(value),
+        _ => Ok(value),
     }
 }
 

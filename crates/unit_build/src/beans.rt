@@ -24,8 +24,10 @@ pub(crate) fn bean_of(alloc: Global, text: &[u8]) -> Result<Bean, AllocError>
     ensures { IfOk result (λ bean. bean_made bean ≡ bean_of text.now) }
 {
     match from_json(alloc, text) {
-        Ok(Value::Rec(record)) => Ok(Ok(Value::Rec(record))),
-        Ok(_) => Ok(Err(TranslationFault::BadAttribute)),
+        Ok(value) => match &value {
+            Value::Rec(_) => Ok(Ok(value)),
+            _ => Ok(Err(TranslationFault::BadAttribute)),
+        },
         Err(Failure::Fault(fault)) => Ok(Err(json_fault(fault))),
         Err(Failure::NoMemory) => Err(AllocError),
     }
