@@ -1,12 +1,14 @@
 #!/usr/bin/env python3
 """Measures `pages serve` by wrk: `tools/serve/measure.py [PROGRAM]`. A line for each page and number of connections: requests a second,
-and the processor time of the server for each in microseconds, of which the kernel's. Ends by itself in five minutes at the most."""
+and the processor time of the server for each in microseconds, of which the kernel's. The counter's connections have a session each.
+Ends by itself in five minutes at the most."""
 
 import os
 import re
 import signal
 import subprocess
 import sys
+import tempfile
 import time
 
 HERE = os.path.dirname(os.path.abspath(__file__))
@@ -27,16 +29,40 @@ FILES = {
     "/counter.jsp": CORE + '<c:set var="n" value="${sessionScope.n + 1}" scope="session"/>${n}',
     "/small.txt": "a small file\n",
 }
-PAGES = ["/hello.jsp?n=Bo", "/list.jsp?q=z", "/counter.jsp", "/small.txt"]
+COUNTER = "/counter.jsp"
+PAGES = ["/hello.jsp?n=Bo", "/list.jsp?q=z", COUNTER, "/small.txt"]
+SESSIONS = """local cookies = {%s}
+local place = 0
+function setup(thread)
+  place = place + 1
+  thread:set("cookie", cookies[place])
+end
+function init()
+  wrk.headers["Cookie"] = cookie
+end
+"""
 
 
-def measured(server, target, connections):
+def cookie_of(server):
+    """The cookie of a new session."""
+    with Connection(server.port) as connection:
+        return connection.ask("GET", COUNTER).fields["set-cookie"].split(";")[0]
+
+
+def script(folder, cookies):
+    """What gives each thread of wrk a session of its own."""
+    path = os.path.join(folder, "sessions.lua")
+    with open(path, "w") as out:
+        out.write(SESSIONS % ", ".join(f'"{cookie}"' for cookie in cookies))
+    return path
+
+
+def measured(server, target, connections, folder):
     """Requests a second, and the processor seconds for each in user and in system mode."""
-    words = ["wrk", f"-t{min(connections, 2)}", f"-c{connections}", f"-d{SECONDS}s", "--latency"]
-    if target == "/counter.jsp":
-        with Connection(server.port) as connection:
-            cookie = connection.ask("GET", target).fields["set-cookie"].split(";")[0]
-        words += ["-H", f"Cookie: {cookie}"]
+    threads = connections if target == COUNTER else min(connections, 2)
+    words = ["wrk", f"-t{threads}", f"-c{connections}", f"-d{SECONDS}s", "--latency"]
+    if target == COUNTER:
+        words += ["-s", script(folder, [cookie_of(server) for _ in range(connections)])]
     before = server.processor_seconds()
     said = subprocess.run([*words, f"http://{HOST}:{server.port}{target}"], capture_output=True, text=True).stdout
     after = server.processor_seconds()
@@ -50,7 +76,8 @@ def main():
     program = os.path.abspath(sys.argv[1] if len(sys.argv) > 1 else BUILT)
     signal.alarm(MOST_SECONDS)
     for connections in (1, 4, 16, 60):
-        with Server(program, workers=connections + 1 if connections < 60 else 63) as server:
+        workers = connections + 1 if connections < 60 else 63
+        with Server(program, workers=workers) as server, tempfile.TemporaryDirectory() as folder:
             publish(server.editor_port, FILES)
             begun = time.perf_counter()
             with Connection(server.port) as connection:
@@ -58,7 +85,7 @@ def main():
             first = time.perf_counter() - begun
             print(f"{connections} connections: {server.seconds_to_start * 1e3:.1f} ms to its line, {first * 1e3:.1f} ms to the first page, {server.memory()} KiB")
             for target in PAGES:
-                rate, (user, system), wrong = measured(server, target, connections)
+                rate, (user, system), wrong = measured(server, target, connections, folder)
                 print(f"  {target:18} {rate:9.0f} a second, {user + system:7.1f} us each, {system:7.1f} of them the kernel's {wrong}", flush=True)
             print(f"  behind them {server.memory()} KiB; load {os.getloadavg()[0]:.1f}", flush=True)
     return 0
