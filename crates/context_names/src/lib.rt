@@ -6,7 +6,9 @@ mod names;
 mod ports;
 mod reading;
 mod targets;
+mod telling;
 
 pub use limits::{MAX_CONTEXT_NAME_BYTES, MAX_CONTEXTS};
 pub use names::{ContextNames, read_names};
 pub use ports::PortList;
+pub use telling::tells_names;

@@ -23,8 +23,8 @@ pub(crate) fn words_of(alloc: Global, list: &str) -> Result<Vec<Text>, AllocErro
     Ok(words)
 }
 
-// The text before the first comma, and the text behind it, where there is one.
-fn cut(text: &str) -> (&str, Option<&str>)
+/// The text before the first comma, and the text behind it, where there is one.
+pub(crate) fn cut(text: &str) -> (&str, Option<&str>)
     ensures words { slice_split is_comma text.entry.now
         ≡ result.0.now ∷ words_in (option_map (λ behind. behind.now) result.1) }
     ensures shorter { IfSome result.1 (λ behind. length behind.now < length text.entry.now) }
@@ -57,8 +57,8 @@ fn all_named(words: &[Text]) -> bool
     true
 }
 
-// Whether a text can be a name.
-fn is_name(text: &[u8]) -> bool
+/// Whether a text can be a name.
+pub(crate) fn is_name(text: &[u8]) -> bool
     ensures { result ≡ is_name text.now }
 {
     text.len() >= 1 && text.len() <= MAX_CONTEXT_NAME_BYTES && are_signs(text)
