@@ -24,12 +24,13 @@ def free_ports(count):
 class Server:
     """The program while it serves: `with Server(program, workers=16) as server`."""
 
-    def __init__(self, program, workers=16, ports=None, files=None, shows_drafts=False):
+    def __init__(self, program, workers=16, ports=None, files=None, shows_drafts=False, contexts=None):
         self.program = program
         self.workers = workers
         self.port, self.editor_port = ports or free_ports(2)
         self.preview_port = free_ports(1)[0] if shows_drafts else None
         self.files = files
+        self.contexts = contexts
 
     def __enter__(self):
         self.start()
@@ -40,6 +41,7 @@ class Server:
 
     def words(self):
         previews = [f"--preview-port={self.preview_port}"] if self.preview_port else []
+        contexts = ["--contexts", self.contexts] if self.contexts else []
         return [
             "serve",
             f"--port={self.port}",
@@ -47,6 +49,7 @@ class Server:
             str(self.editor_port),
             f"--workers={self.workers}",
             *previews,
+            *contexts,
         ]
 
     def start(self):

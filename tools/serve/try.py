@@ -13,6 +13,7 @@ HERE = os.path.dirname(os.path.abspath(__file__))
 sys.path.insert(0, HERE)
 sys.dont_write_bytecode = True
 
+from by_contexts import NAMES, try_contexts  # noqa: E402
 from by_curl import try_curl  # noqa: E402
 from by_hard_clients import try_hard_clients  # noqa: E402
 from by_many import try_large_publishing, try_many  # noqa: E402
@@ -57,6 +58,9 @@ def main():
     print("drafts")
     with Server(program, workers=2, shows_drafts=True) as server:
         try_previews(server, tally)
+    print("two sites in one")
+    with Server(program, workers=4, contexts=NAMES) as server:
+        try_contexts(server, tally)
     print("sixty readers and an editor")
     with Server(program, workers=60) as server:
         try_many(server, tally)

@@ -1,10 +1,11 @@
 //! The program `pages`: a page container, over standard input and output and over ports of this machine.
 //!
 //! `pages serve --port P --editor-port E --workers W [--seed HEX] [--idle SECONDS] [--round N --editor-round M]
-//! [--preview-port V]` serves a site without files at 127.0.0.1: W workers answer readers on P, one answers editors on E, and one shows
-//! drafts on V. An option and its value may also stand in one word, as `--port=80`. With rounds it writes a journal behind each and goes on
-//! with an empty one. Its status is 7 where a port can't be had, and 8 where the workers can't have a thread each; otherwise it isn't meant
-//! to end.
+//! [--preview-port V] [--contexts NAMES]` serves a site without files at 127.0.0.1: W workers answer readers on P, one answers editors on
+//! E, and one shows drafts on V. An option and its value may also stand in one word, as `--port=80`. With rounds it writes a journal behind
+//! each and goes on with an empty one. With names it serves a site for each, as `contexts` does, without rounds, drafts that are shown, or
+//! an idle time. Its status is 7 where a port can't be had, and 8 where the workers can't have a thread each; otherwise it isn't meant to
+//! end.
 //! `pages play [--seed HEX]` answers the requests that it reads from standard input, and writes the answers to standard output. Its
 //! status is 0 where the input ended between requests, a request asked to close, a response broke off or 65,536 requests were answered, 2 where
 //! the input shows a fault. `pages contexts NAMES [--seed HEX]` does the same over several sites, whose names, joined by commas, begin the

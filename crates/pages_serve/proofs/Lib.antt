@@ -1,2 +1,5 @@
 pub mod Conversed
+pub mod Cross
 pub mod Idle
+pub mod Ports
+pub mod Started

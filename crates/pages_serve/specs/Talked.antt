@@ -1,6 +1,8 @@
 -- What a connection does to what a pass has seen of a site, by whom it is for.
-use Rattle.std.specs.Prelude.{ℕ, List, [], Option}
+use Rattle.std.specs.Prelude.{◌≡◌, ℕ, List, [], Option, map}
 use Rattle.compiled_pages.specs.Pages.{needs_at}
+use Rattle.context_talk.specs.Among.{TalkedAmong, connections_of}
+use Rattle.context_words.specs.Parts.{Lent}
 use Rattle.conversation.specs.Conversation.{Tells}
 use Rattle.conversation.specs.declared.ended.Ended.{Ended}
 use Rattle.edges.specs.Clock.{Moments}
@@ -52,3 +54,17 @@ abbrev pub HasTalked : Audience → Opening → ℕ → List Entry → List Entr
 HasTalked Readers x pass old new = IsConversed Reader x pass old new
 HasTalked Editors x pass old new = IsConversed Both x pass old new
 HasTalked Previews x pass old new = IsPreviewing x pass old new
+
+-- requests of a connection to several contexts were answered so, each over the port of its context, and each port is the same one still
+pub record IsConversedAmong {P H : Type 0} (names : List (List ℕ)) (role : Role) (opening : P → Opening) (pass : P → ℕ) (home : P → H) (seen : P → List Entry) (old new : List P) : Type 0 where
+  pub same : connections_of opening pass home role new ≡ connections_of opening pass home role old
+  pub lent : Lent
+  pub further : Lent
+  pub left : Option (List ℕ)
+  pub later : Option (List ℕ)
+  pub before : ℕ
+  pub after : ℕ
+  pub taken : Option (List ℕ)
+  pub has : Option (List ℕ)
+  pub ended : Ended
+  pub talk : TalkedAmong names (connections_of opening pass home role old) (map seen old) (map seen new) lent further left later before after taken has ended

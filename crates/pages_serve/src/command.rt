@@ -1,4 +1,5 @@
-ghost use Rattle.std.specs.Prelude.{◌≡◌, ◌≢◌, ◌≤◌, ◌+◌, None, OnErr, IfOk, map, string_bytes};
+ghost use Rattle.std.specs.Prelude.{◌≡◌, ◌≢◌, ◌≤◌, ◌+◌, is_some, true, None, OnErr, IfOk, map, string_bytes};
+ghost use Rattle.context_names.specs.Names.{names_in};
 ghost use Rattle.edges.specs.Faults.{Rose};
 ghost use Rattle.site_words.specs.Invariants.{AllRest};
 ghost use Rattle.serve_words.specs.Words.{count_of, settings_asked};
@@ -6,11 +7,15 @@ ghost use Rattle.serve_words.specs.Words.{count_of, settings_asked};
 use crate::next_round::onward;
 use crate::notice::announce;
 use crate::pages::{Audience, Pages};
+use crate::several::serve_contexts;
 use crate::threads::can_run;
+use crate::unmarked::without_rounds;
 use compiled_pages::Made;
+use context_names::read_names;
+use contexts::CONTEXT_JOURNAL_LIMIT;
 use edges::{Accept, Bind, Clocks, Failed, OpenGate, Sink};
 use pg_value::Attrs;
-use serve_words::{Settings, settings_asked};
+use serve_words::{Asked, Settings, settings_asked};
 use site_core::{Site, start};
 use site_rounds::{Listeners, Talks, round};
 use site_words::JOURNAL_LIMIT;
@@ -39,7 +44,7 @@ pub fn serve<R: Threads + Wait + Sync, B: Bind, W: Clocks + Sync, J: Sink, K: Si
     ensures bound { result ≡ 7 → Rose (B.faults bind.old) (B.faults bind.new) }
     ensures statuses { result ≢ 1 → result ≢ 7 → result ≢ 8 → result ≡ 5 }
 {
-    let Some(settings) = settings_asked(words) else {
+    let Some(Asked { settings, contexts }) = settings_asked(words) else {
         return 1;
     };
     let Ok(listeners) = listeners_of(bind, &settings) else {
@@ -48,11 +53,57 @@ pub fn serve<R: Threads + Wait + Sync, B: Bind, W: Clocks + Sync, J: Sink, K: Si
     if !can_run(rt, usize::from(passes_of(&settings)) - 1) {
         return 8;
     }
-    let Ok(site) = site_of(alloc, &settings) else {
+    match contexts {
+        Some(names) => among(rt, alloc, names, &settings, listeners, clocks, notices),
+        None => alone(rt, alloc, &settings, listeners, clocks, journals, notices),
+    }
+}
+
+// Serves one site, round by round.
+fn alone<R: Threads + Wait + Sync, A: Accept + Sync + Drop, W: Clocks + Sync, J: Sink, K: Sink>(
+    rt: &R,
+    alloc: Global,
+    settings: &Settings,
+    listeners: Listeners<A>,
+    clocks: &W,
+    journals: &mut J,
+    notices: &mut K,
+) -> u8
+    requires { settings.now.workers + count_of settings.now.preview_port ≤ 63 }
+    ensures { result ≡ 5 }
+{
+    let Ok(site) = site_of(alloc, settings) else {
         return 5;
     };
-    announce(alloc, &settings, JOURNAL_LIMIT, notices);
+    announce(alloc, settings, JOURNAL_LIMIT, notices);
     rounds(rt, alloc, site, listeners, clocks, journals)
+}
+
+// Serves a site for each of these names, joined by commas.
+fn among<R: Threads + Wait + Sync, A: Accept + Sync + Drop, W: Clocks + Sync, K: Sink>(
+    rt: &R,
+    alloc: Global,
+    names: &str,
+    settings: &Settings,
+    listeners: Listeners<A>,
+    clocks: &W,
+    notices: &mut K,
+) -> u8
+    requires names { is_some (names_in names.now) ≡ true }
+    requires few { settings.now.workers ≤ 63 }
+    ensures { result ≡ 5 }
+{
+    let Ok(Some(names)) = read_names(alloc, names) else {
+        return 5;
+    };
+    announce(alloc, settings, CONTEXT_JOURNAL_LIMIT, notices);
+    let listeners = without_rounds(listeners);
+    for _ in rt.forever() {
+        if serve_contexts(rt, alloc, &names, settings, &listeners, clocks).is_err() {
+            return 5;
+        }
+    }
+    unreachable!()
 }
 
 // Serves one round after the other, and writes the journal of each. It ends where memory is wanting. Where drafts are shown there are no

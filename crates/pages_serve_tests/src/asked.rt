@@ -4,7 +4,7 @@ use pages_serve::serve;
 use std::test::Fail;
 
 // The status for these words where no port can be had.
-const WORDS: [(&[&str], u8); 20] = [
+const WORDS: [(&[&str], u8); 23] = [
     (
         &[
             "serve",
@@ -50,6 +50,38 @@ const WORDS: [(&[&str], u8); 20] = [
             "--preview-port=3",
             "--round=1",
             "--editor-round=1",
+        ],
+        1,
+    ),
+    (
+        &[
+            "serve",
+            "--workers=63",
+            "--editor-port=1",
+            "--port=2",
+            "--contexts=a,b",
+        ],
+        7,
+    ),
+    (
+        &[
+            "serve",
+            "--workers=1",
+            "--editor-port=1",
+            "--port=2",
+            "--contexts",
+            "a,a",
+        ],
+        1,
+    ),
+    (
+        &[
+            "serve",
+            "--workers=1",
+            "--editor-port=1",
+            "--port=2",
+            "--idle=9",
+            "--contexts=a",
         ],
         1,
     ),

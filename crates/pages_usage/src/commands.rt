@@ -46,6 +46,7 @@ fn serve<'a>(alloc: Global) -> Result<Command<'a>, AllocError> {
         .arg(option(alloc, "port", "P", "The readers' port").required(true))?
         .arg(option(alloc, "editor-port", "E", "The editors' port").required(true))?
         .arg(option(alloc, "preview-port", "V", "Where drafts are shown"))?
+        .arg(option(alloc, "contexts", "NAMES", "A site for each of these names"))?
         .arg(option(alloc, "workers", "W", "How many readers at once, up to 63").required(true))?
         .arg(option(
             alloc,

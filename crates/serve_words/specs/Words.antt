@@ -1,8 +1,10 @@
 -- The words of the command `serve`, and what they say.
-use Rattle.std.specs.Prelude.{ℕ, ◌≤◌, ◌==◌, ◌&&◌, ◌||◌, Bool, List, [], ◌∷◌, codes, nat_le, nat_lt, is_none, replicate, Option, Some, None, IfSome, if◌then◌else◌}
+use Rattle.std.specs.Prelude.{ℕ, ◌≤◌, ◌==◌, ◌&&◌, ◌||◌, Bool, List, [], ◌∷◌, codes, length, nat_le, nat_lt, is_none, is_some, replicate, Option, Some, None, IfSome, if◌then◌else◌}
+use Rattle.std.specs.List.{after_first, before_first, position_or_len}
 use Rattle.std.specs.Option.{option_and_then}
 use Rattle.std.specs.Result.{result_ok}
 use Rattle.std.specs.Str.{bytes_eq}
+use Rattle.context_names.specs.Names.{names_in}
 use Rattle.hex.specs.Hex.{decode_sized}
 use Rattle.pg_text.specs.Numbers.{whole_number}
 use Rattle.serve_words.specs.declared.given.Given.{Given}
@@ -44,31 +46,43 @@ with_option name value g =
     else if bytes_eq name (codes "--editor-round") then option_and_then (λ n. Some (record g { editor_round = Some n })) (once g.editor_round (number_up_to 1000000 value))
     else None
 
--- one byte more before a name
-abbrev pub longer_name : ℕ → Option (List ℕ × List ℕ) → Option (List ℕ × List ℕ)
-longer_name b None = None
-longer_name b (Some split) = Some (b ∷ split.0, split.1)
+abbrev pub is_equals : ℕ → Bool
+is_equals b = b == 61
 
 -- the name and the value that stand before and behind the first `=` of a word
 abbrev pub split_at_equals : List ℕ → Option (List ℕ × List ℕ)
-split_at_equals [] = None
-split_at_equals (b ∷ bytes) = if b == 61 then Some ([], bytes) else longer_name b (split_at_equals bytes)
+split_at_equals word =
+    if nat_lt (position_or_len is_equals word) (length word) then Some (before_first is_equals word, after_first is_equals word) else None
+
+-- what the options said so far: the names of contexts stand beside the rest
+abbrev pub Told : Type 0
+Told = Given × Option (List ℕ)
+
+-- the names of contexts that a word tells, joined by commas
+abbrev pub names_told : List ℕ → Option (List ℕ)
+names_told word = if is_some (names_in word) then Some word else None
+
+-- the option of this name says this, too
+abbrev pub with_word : (name value : List ℕ) → Told → Option Told
+with_word name value told =
+    if bytes_eq name (codes "--contexts") then option_and_then (λ names. Some (told.0, Some names)) (once told.1 (names_told value))
+    else option_and_then (λ given. Some (given, told.1)) (with_option name value told.0)
 
 -- what one word says that is an option with its value
-abbrev pub alone : Option (List ℕ × List ℕ) → Given → Option Given
-alone None g = None
-alone (Some split) g = with_option split.0 split.1 g
+abbrev pub alone : Option (List ℕ × List ℕ) → Told → Option Told
+alone None told = None
+alone (Some split) told = with_word split.0 split.1 told
 
 -- what a word and the next one say, and then the words behind the one or both
-abbrev pub onward : Option (List ℕ × List ℕ) → (word value : List ℕ) → Given → (one two : Given → Option Given) → Option Given
-onward None word value g one two = option_and_then two (with_option word value g)
-onward (Some split) word value g one two = option_and_then one (with_option split.0 split.1 g)
+abbrev pub onward : Option (List ℕ × List ℕ) → (word value : List ℕ) → Told → (one two : Told → Option Told) → Option Told
+onward None word value told one two = option_and_then two (with_word word value told)
+onward (Some split) word value told one two = option_and_then one (with_word split.0 split.1 told)
 
 -- what the words say: each option is one word `--name=value`, or two
-abbrev pub read : List (List ℕ) → Given → Option Given
-read [] g = Some g
-read (word ∷ []) g = alone (split_at_equals word) g
-read (word ∷ value ∷ words) g = onward (split_at_equals word) word value g (λ later. read (value ∷ words) later) (λ later. read words later)
+abbrev pub read : List (List ℕ) → Told → Option Told
+read [] told = Some told
+read (word ∷ []) told = alone (split_at_equals word) told
+read (word ∷ value ∷ words) told = onward (split_at_equals word) word value told (λ later. read (value ∷ words) later) (λ later. read words later)
 
 -- what was said, or else this
 abbrev pub or_else : {A : Type 0} → A → Option A → A
@@ -97,11 +111,21 @@ all_said g =
     Some (record { port = port; editor_port = editor_port; preview_port = g.preview_port; workers = workers; seed = or_else (replicate 32 0) g.seed; idle = or_else IDLE_SECONDS g.idle; rounds = rounds }))
     (rounds_of g.round g.editor_round)) g.workers) g.editor_port) g.port
 
+-- whether names of contexts can stand with the rest: each context has sessions, a journal and a port of its own
+abbrev pub stand_alone : Told → Bool
+stand_alone told =
+    is_none told.1 || (is_none told.0.idle && (is_none told.0.round && (is_none told.0.editor_round && is_none told.0.preview_port)))
+
 -- and all have to stand together
 abbrev pub settings_of : Given → Option Settings
 settings_of g = option_and_then (λ settings. if stand_together settings then Some settings else None) (all_said g)
 
+-- how the options ask to serve, beside the names of contexts, where there are any
+abbrev pub asked_of : Told → Option (Settings × Option (List ℕ))
+asked_of told = if stand_alone told then option_and_then (λ settings. Some (settings, told.1)) (settings_of told.0) else None
+
 -- how the words ask to serve: they are `serve` and options
-abbrev pub settings_asked : List (List ℕ) → Option Settings
+abbrev pub settings_asked : List (List ℕ) → Option (Settings × Option (List ℕ))
 settings_asked [] = None
-settings_asked (word ∷ words) = if bytes_eq word (codes "serve") then option_and_then settings_of (read words nothing_given) else None
+settings_asked (word ∷ words) =
+    if bytes_eq word (codes "serve") then option_and_then asked_of (read words (nothing_given, None)) else None

@@ -1,8 +1,10 @@
-ghost use Rattle.std.specs.Prelude.{◌≡◌, ◌≤◌, ◌<◌, ◌+◌, map, string_bytes, IfSome, length, option_map};
-ghost use Rattle.serve_words.specs.Words.{FewWorkers, all_said, count_of, nothing_given, number_up_to, once, read, rounds_of, seed_in, settings_asked, settings_of, split_at_equals, stand_together, with_option};
+ghost use Rattle.std.specs.Prelude.{◌≡◌, ◌≤◌, ◌<◌, ◌+◌, ◌&&◌, is_none, is_some, true, map, string_bytes, IfSome, length, option_map};
+ghost use Rattle.context_names.specs.Names.{names_in};
+ghost use Rattle.serve_words.specs.Words.{FewWorkers, all_said, asked_of, count_of, nothing_given, number_up_to, once, read, rounds_of, seed_in, settings_asked, settings_of, split_at_equals, stand_together, with_option, with_word};
 
 use crate::given::Given;
-use crate::setting::{Rounds, Settings};
+use crate::setting::{Asked, Rounds, Settings};
+use context_names::tells_names;
 use hex::decode_to_slice;
 use pg_text::whole_number;
 use site_words::IDLE_SECONDS;
@@ -16,14 +18,17 @@ const MOST_IDLE: u64 = 1_000_000_000;
 const MOST_ROUND: u64 = 1_000_000;
 
 /// How the words ask to serve, where they are those of this command.
-pub fn settings_asked(words: &[String]) -> Option<Settings>
-    ensures value { result ≡ settings_asked (map string_bytes words.now) }
-    ensures workers { IfSome result (λ settings. (1 ≤ settings.workers) × (settings.workers ≤ 63)) }
-    ensures previews { IfSome result (λ settings. settings.workers + count_of settings.preview_port ≤ 63) }
+pub fn settings_asked(words: &[String]) -> Option<Asked<'_>>
+    ensures value { option_map (λ asked. (asked.settings, option_map (λ names. names.now) asked.contexts)) result
+        ≡ settings_asked (map string_bytes words.entry.now) }
+    ensures workers { IfSome result (λ asked. (1 ≤ asked.settings.workers) × (asked.settings.workers ≤ 63)) }
+    ensures previews { IfSome result (λ asked. asked.settings.workers + count_of asked.settings.preview_port ≤ 63) }
+    ensures contexts { IfSome result (λ asked. IfSome asked.contexts (λ names. is_some (names_in names.now) ≡ true)) }
 {
     match words {
         [word, options @ ..] if word.as_str() == "serve" => {
-            settings_of(&read(options, nothing_given())?)
+            let (given, contexts) = read(options, nothing_given(), None)?;
+            asked_of(&given, contexts)
         }
         _ => None,
     }
@@ -47,32 +52,68 @@ fn nothing_given() -> Given
 }
 
 // What the words say beside what was given before.
-fn read(words: &[String], given: Given) -> Option<Given>
+fn read<'a>(
+    words: &'a [String],
+    given: Given,
+    names: Option<&'a str>,
+) -> Option<(Given, Option<&'a str>)>
     requires few { FewWorkers given }
-    ensures value { result ≡ read (map string_bytes words.now) given }
-    ensures few { IfSome result FewWorkers }
+    requires names { IfSome names (λ names. is_some (names_in names.now) ≡ true) }
+    ensures value { option_map (λ told. (told.0, option_map (λ names. names.now) told.1)) result
+        ≡ read (map string_bytes words.entry.now) (given, option_map (λ names. names.now) names.entry) }
+    ensures few { IfSome result (λ told. FewWorkers told.0) }
+    ensures names { IfSome result (λ told. IfSome told.1 (λ names. is_some (names_in names.now) ≡ true)) }
 {
     match words {
-        [] => Some(given),
-        [word, rest @ ..] => match split_at_equals(word.as_str().as_bytes()) {
-            Some((name, value)) => read(rest, with_option(name, value, given)?),
+        [] => Some((given, names)),
+        [word, rest @ ..] => match split_at_equals(word.as_str()) {
+            Some((name, value)) => {
+                let (given, names) = with_word(name, value, given, names)?;
+                read(rest, given, names)
+            }
             None => match rest {
                 [] => None,
-                [value, rest @ ..] => read(
-                    rest,
-                    with_option(word.as_str().as_bytes(), value.as_str().as_bytes(), given)?,
-                ),
+                [value, rest @ ..] => {
+                    let (given, names) = with_word(word.as_str(), value.as_str(), given, names)?;
+                    read(rest, given, names)
+                }
             },
         },
     }
 }
 
 // The name and the value that stand before and behind the first `=` of a word.
-fn split_at_equals(word: &[u8]) -> Option<(&[u8], &[u8])>
-    ensures { option_map (λ split. (split.0.now, split.1.now)) result ≡ split_at_equals word.now }
+fn split_at_equals(word: &str) -> Option<(&str, &str)>
+    ensures { option_map (λ split. (split.0.now, split.1.now)) result ≡ split_at_equals word.entry.now }
 {
-    let at = word.iter().position(|byte| *byte == b'=')?;
-    Some((&word[..at], &word[at + 1..]))
+    match word.split_once('=') {
+        Some((name, value)) => Some((name, value)),
+        None => None,
+    }
+}
+
+// The option of this name says this, too, be it the names of contexts or another one.
+fn with_word<'a>(
+    name: &str,
+    value: &'a str,
+    given: Given,
+    names: Option<&'a str>,
+) -> Option<(Given, Option<&'a str>)>
+    requires few { FewWorkers given }
+    requires names { IfSome names (λ names. is_some (names_in names.now) ≡ true) }
+    ensures value { option_map (λ told. (told.0, option_map (λ names. names.now) told.1)) result
+        ≡ with_word name.now value.entry.now (given, option_map (λ names. names.now) names.entry) }
+    ensures few { IfSome result (λ told. FewWorkers told.0) }
+    ensures names { IfSome result (λ told. IfSome told.1 (λ names. is_some (names_in names.now) ≡ true)) }
+{
+    if name == "--contexts" {
+        if names.is_some() || !tells_names(value) {
+            return None;
+        }
+        return Some((given, Some(value)));
+    }
+    let given = with_option(name.as_bytes(), value.as_bytes(), given)?;
+    Some((given, names))
 }
 
 // The option of this name says this, too.
@@ -167,6 +208,34 @@ fn rounds_of(readers: Option<u32>, editors: Option<u32>) -> Option<Option<Rounds
         (Some(readers), Some(editors)) => Some(Some(Rounds { readers, editors })),
         _ => None,
     }
+}
+
+// How options ask to serve, beside the names of contexts.
+fn asked_of<'a>(given: &Given, contexts: Option<&'a str>) -> Option<Asked<'a>>
+    requires few { FewWorkers given.now }
+    requires names { IfSome contexts (λ names. is_some (names_in names.now) ≡ true) }
+    ensures value { option_map (λ asked. (asked.settings, option_map (λ names. names.now) asked.contexts)) result
+        ≡ asked_of (given.now, option_map (λ names. names.now) contexts.entry) }
+    ensures workers { IfSome result (λ asked. (1 ≤ asked.settings.workers) × (asked.settings.workers ≤ 63)) }
+    ensures previews { IfSome result (λ asked. asked.settings.workers + count_of asked.settings.preview_port ≤ 63) }
+    ensures contexts { IfSome result (λ asked. IfSome asked.contexts (λ names. is_some (names_in names.now) ≡ true)) }
+{
+    if contexts.is_some() && !can_have_contexts(given) {
+        return None;
+    }
+    let settings = settings_of(given)?;
+    Some(Asked { settings, contexts })
+}
+
+// Whether nothing was said that contexts can't have: each has sessions, a journal and a port of its own.
+fn can_have_contexts(given: &Given) -> bool
+    ensures { result ≡ (is_none given.now.idle && (is_none given.now.round && (is_none given.now.editor_round
+        && is_none given.now.preview_port))) }
+{
+    given.idle.is_none()
+        && given.round.is_none()
+        && given.editor_round.is_none()
+        && given.preview_port.is_none()
 }
 
 // How options ask to serve: three have to stand there, and all can stand together.

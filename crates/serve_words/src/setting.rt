@@ -14,6 +14,13 @@ pub struct Settings {
     pub rounds: Option<Rounds>,
 }
 
+/// How the command serves one site, or a site for each of these names, joined by commas.
+#[derive(Clone, Copy)]
+pub struct Asked<'a> {
+    pub settings: Settings,
+    pub contexts: Option<&'a str>,
+}
+
 /// After how many connections a round is over, of readers and of editors.
 #[derive(Clone, Copy)]
 pub struct Rounds {
