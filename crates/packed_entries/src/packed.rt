@@ -120,4 +120,4 @@ impl PackedEntry {
 }
 
 // Three entries of a page that is kept take three slots, and no other memory without a cookie.
-const _: () = prove!(size_of::<PackedEntry>() == 56);
+const _: () = prove!(size_of::<PackedEntry>() == 64);

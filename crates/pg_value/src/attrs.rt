@@ -118,6 +118,18 @@ impl Attrs {
         put(&mut self.entries, key, value)
     }
 
+    /// Puts the value under the key, in the place of what stood there. The key is copied only where nothing did.
+    pub fn set(&mut self, key: &Text, value: Value) -> Result<(), AllocError>
+        ensures ok { OnOk result (self.new ≡ with_entry self.old key.now (datum_of value)) }
+        ensures err { OnErr result (self.new ≡ self.old) }
+    {
+        match place(&self.entries, key.as_str()) {
+            Ok(at) => replace(&mut self.entries, at, key, value),
+            Err(_) => put(&mut self.entries, key.copy()?, value)?,
+        }
+        Ok(())
+    }
+
     /// Takes out what stands under the key.
     pub fn remove(&mut self, key: &str)
         ensures rest { self.new ≡ without_entry self.old key.now }
@@ -212,10 +224,18 @@ pub fn put(entries: &mut Vec<(Text, Value)>, key: Text, value: Value) -> Result<
     ensures err { OnErr result (entries.new.items ≡ entries.old.items) }
 {
     match place(entries, key.as_str()) {
-        Ok(at) => entries[at].1 = value,
+        Ok(at) => replace(entries, at, &key, value),
         Err(at) => entries.insert(at, (key, value))?,
     }
     Ok(())
+}
+
+// Puts the value in the place of the one that stands under the key.
+fn replace(entries: &mut Vec<(Text, Value)>, at: usize, key: &Text, value: Value)
+    requires { place_of key.now entries.old.items ≡ Ok at }
+    ensures { map entry_of entries.new.items ≡ with_entry (map entry_of entries.old.items) key.now (datum_of value) }
+{
+    entries[at].1 = value;
 }
 
 // Where the key stands, or where it would.

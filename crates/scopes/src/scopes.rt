@@ -81,9 +81,9 @@ impl Scopes {
         match scope {
             HeldScope::Page => {
                 let frame = &mut self.frames[self.current as usize];
-                frame.insert(name.copy()?, value)?;
+                frame.set(name, value)?;
             }
-            HeldScope::Request => self.request.insert(name.copy()?, value)?,
+            HeldScope::Request => self.request.set(name, value)?,
             HeldScope::Session => {
                 let Some(session) = &mut self.session else {
                     return Err(Failure::Fault(RunFault::NoSession));
