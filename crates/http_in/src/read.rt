@@ -38,8 +38,9 @@ pub fn read_request<S: Source>(
         return Ok(None);
     };
     let head = parse_head(alloc, &rest.as_slice()[..len])?;
-    read_body(source, rest, len + head.size)?;
-    Ok(Some(take_request(alloc, rest, len, head)?))
+    let end = len + head.size;
+    read_body(source, rest, end)?;
+    Ok(Some(take_request(alloc, rest, len, end, head)?))
 }
 
 // Reads until a whole head stands at the front, and answers its length. None means that the input ended before it began.
@@ -108,22 +109,22 @@ fn read_body<S: Source>(
     Ok(())
 }
 
-// The request at the front, which is taken away. Where memory is wanting nothing is.
+// The request at the front, whose body stands from `len` to `end`; it is taken away. Where memory is wanting nothing is.
 fn take_request(
     alloc: Global,
     rest: &mut Rest,
     len: usize,
+    end: usize,
     head: Head,
 ) -> Result<Request, AllocError>
-    requires whole { len + head.size ≤ length rest.old }
-    requires fits { len + head.size < 2 ^ 64 }
+    requires whole { end ≤ length rest.old }
+    requires ends { end ≡ len + head.size }
     ensures request { IfOk result (λ request. request ≡ request_of head.method head.target head.fields
         (take head.size (drop len rest.old))) }
     ensures cookie { IfOk result (λ request. length request.cookie ≤ SESSION_ID_BYTES) }
     ensures after { OnOk result (rest.new ≡ drop (len + head.size) rest.old) }
     ensures stays { OnErr result (rest.new ≡ rest.old) }
 {
-    let end = len + head.size;
     let body = Bytes::copy_of(alloc, &rest.as_slice()[len..end])?;
     let request = Request::of(alloc, head.method, head.target, head.fields, body)?;
     rest.drop_front(end);
