@@ -27,6 +27,7 @@ pub struct Head {
 // Reads a head that stands there whole.
 pub fn parse_head(alloc: Global, bytes: &[u8]) -> Result<Head, Failure<HttpFault>>
     ensures good { IfOk result (HasParts bytes.now) }
+    ensures small { IfOk result (λ head. head.size ≤ MAX_BODY_BYTES) }
     ensures bad { IfFault result (IsBadHead bytes.now) }
 {
     let mut spans = [EMPTY_HEADER_SPAN; MAX_FIELDS];
@@ -64,7 +65,8 @@ fn whole_head(bytes: &[u8], spans: &mut [HeaderSpan]) -> Option<RequestSpans>
 
 // The size of the body after a head, or the first fault of the head.
 fn sized(version: u8, target: &[u8], fields: &[Field]) -> Result<usize, HttpFault>
-    ensures { result ≡ sized version target.now fields.now }
+    ensures answer { result ≡ sized version target.now fields.now }
+    ensures small { IfOk result (λ size. size ≤ MAX_BODY_BYTES) }
 {
     if version == 0 {
         return Err(HttpFault::WrongVersion);

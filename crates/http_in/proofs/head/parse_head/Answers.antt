@@ -21,7 +21,7 @@ returns-clause-good c =
       head = found.0;
       is_good = record {
         is_head = is_head c.args.bytes.now c.whole_head.new.spans c.in-Some.request found.0 found.2 found.1 (omega arith);
-        size_is = size_is c.args.bytes.now c.whole_head.new.spans c.in-Some.request found.0 _ _ _ found.2 c.of-target.ensures fields c.in-Ok.ensures;
+        size_is = size_is c.args.bytes.now c.whole_head.new.spans c.in-Some.request found.0 _ _ _ found.2 c.of-target.ensures fields c.in-Ok.ensures.answer;
       };
       method = c.in_ok-copy_of.ensures ∙ c.text_of.ensures ∙ c.of.ensures ∙ found.2.method;
       target = c.in_ok-copy_of-2.ensures ∙ c.text_of-2.ensures ∙ c.of-target.ensures ∙ found.2.path;

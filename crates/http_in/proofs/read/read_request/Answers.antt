@@ -1,10 +1,15 @@
-use Rattle.std.proofs.Common.{Option, ℕ, sym, subst}
+use Rattle.std.proofs.Common.{Option, ℕ, sym, subst, arith}
 use Rattle.std.proofs.lemmas.Result.{err_from_is_err_and}
 use Rattle.http_in.specs.declared.head.Head.{Head}
 use Rattle.http_in.specs.Reading.{Moves}
 use Rattle.http_in.proofs.Answered.{head_failed, parse_failed, body_failed, whole_request, same_request}
 use Rattle.http_in.proofs.Moving.{moves_both}
 use Rattle.http_in.proofs.read.read_request.Goals as goal
+
+pub overflow_add-end : goal.overflow_add-end
+overflow_add-end g c =
+    let within = rw c.in-Some.is at c.in_ok-len.ensures.within in
+    omega (arith, within.0, c.in_ok-head.ensures.small)
 
 pub returns-in_err-len-clause-answer : goal.returns-in_err-len-clause-answer
 returns-in_err-len-clause-answer g c =
