@@ -1,0 +1,6 @@
+//! What is answered in a context is determined by its own share: a law.
+#![tactic(auto)]
+
+mod laws;
+
+pub use laws::one_share;
