@@ -15,10 +15,10 @@ use site_core::{Act, Given, Site};
 use site_words::{Acted, Compiled, Entry, Opening, Refusal};
 use turn_table::{Object, Pass, Passes};
 
-/// A site on which passes take turns.
+/// A site on which passes take turns. It stands where it is while they come and go with its address.
 #[derive(Drop)]
 pub struct Seated<P: Compiled> {
-    pub site: Site<P>,
+    pub site: Box<Site<P>>,
 }
 
 /// A pass of a shared site.
@@ -38,9 +38,9 @@ impl<P: Compiled> Object for Seated<P> {
 
     type Opening = Opening;
 
-    ghost opening = { λ s. s.site.opening };
+    ghost opening = { λ s. s.site.value.opening };
 
-    ghost history = { λ s. s.site.history };
+    ghost history = { λ s. s.site.value.history };
 
     ghost pass_of = { pass_in };
 
@@ -62,22 +62,22 @@ impl<P: Compiled> Object for Seated<P> {
     }
 
     fn apply(&mut self, pass: u8, act: Act<P>) -> Acted<Given<P>, Refusal>
-        requires may { May self.old.site.opening self.old.site.history pass (own pass self.old.site.history)
-            act.op × IsMade P.made self.old.site.opening self.old.site.history
-            (run_of (own pass self.old.site.history)) act.op (value_in act.made) }
-        ensures opening { self.new.site.opening ≡ self.old.site.opening }
-        ensures short { length self.new.site.history < 2 ^ 63 }
-        ensures is_legal { Legal P.needs self.new.site.opening self.new.site.history }
+        requires may { May self.old.site.value.opening self.old.site.value.history pass
+            (own pass self.old.site.value.history) act.op × IsMade P.made self.old.site.value.opening
+            self.old.site.value.history (run_of (own pass self.old.site.value.history)) act.op (value_in act.made) }
+        ensures opening { self.new.site.value.opening ≡ self.old.site.value.opening }
+        ensures short { length self.new.site.value.history < 2 ^ 63 }
+        ensures is_legal { Legal P.needs self.new.site.value.opening self.new.site.value.history }
         ensures answer { MatchActed result
             (λ given. (e : TheEntry) × (pass_in e ≡ pass) × Stands e pass act.op given.reply
-            × Replies P.needs P.made self.old.site.opening self.old.site.history pass act.op given ×
-            (self.new.site.history ≡ self.old.site.history ++ e ∷ []))
-            (λ refusal. (step P.needs self.old.site.opening
-            (after P.needs self.old.site.opening self.old.site.history) pass act.op ≡ Refused refusal) ×
-            (self.new.site.history ≡ self.old.site.history))
-            (self.new.site.history ≡ self.old.site.history) }
-        ensures surely { Sure self.old.site.opening self.old.site.history pass (own pass self.old.site.history)
-            act.op → IsDid result }
+            × Replies P.needs P.made self.old.site.value.opening self.old.site.value.history pass act.op given ×
+            (self.new.site.value.history ≡ self.old.site.value.history ++ e ∷ []))
+            (λ refusal. (step P.needs self.old.site.value.opening
+            (after P.needs self.old.site.value.opening self.old.site.value.history) pass act.op ≡ Refused refusal) ×
+            (self.new.site.value.history ≡ self.old.site.value.history))
+            (self.new.site.value.history ≡ self.old.site.value.history) }
+        ensures surely { Sure self.old.site.value.opening self.old.site.value.history pass
+            (own pass self.old.site.value.history) act.op → IsDid result }
     {
         let answer = self.site.apply(pass, act);
         self.site.law();

@@ -56,6 +56,7 @@ pub fn start<P: Compiled, G: Gate + Drop>(
 {
     site.law();
     let count = site.opening().passes;
+    let site = Box::new(alloc, site)?;
     let (turns, passes) = Turns::start(alloc, Seated { site }, count)?;
     Ok((SharedSite { turns, gate }, passes))
 }
@@ -85,6 +86,6 @@ impl<P: Compiled, G: Gate + Drop> SharedSite<P, G> {
         ensures rest { All (λ pass. run_of (own pass.number pass.seen) ≡ None) passes.items →
             AllRest result.opening result.history }
     {
-        self.turns.close(passes).site
+        Box::into_inner(self.turns.close(passes).site)
     }
 }

@@ -9,10 +9,10 @@ use Rattle.site_shared.proofs.Passes.{rest_at_end}
 use Rattle.site_shared.proofs.shared.SharedSite.close.Goals as goal
 
 pub returns-clause-passes : goal.returns-clause-passes
-returns-clause-passes g c =
-    subst (λ (turns : Origin Opening). All (λ (pass : Known Opening Entry). Stays g.P.Compiled.needs turns.opening pass.number pass.seen c.close.result.site.history) c.args.passes.items) c.self.view_is c.close.ensures.passes
+returns-clause-passes g c = rw c.into_inner.ensures (
+    subst (λ (turns : Origin Opening). All (λ (pass : Known Opening Entry). Stays g.P.Compiled.needs turns.opening pass.number pass.seen c.close.result.site.value.history) c.args.passes.items) c.self.view_is c.close.ensures.passes)
 
 pub returns-clause-rest : goal.returns-clause-rest
-returns-clause-rest g c = λ none. rest_at_end c.close.result.site.opening c.self.inside.turns c.args.passes.items c.close.result.site.history (Legal g.P.Compiled.needs c.self.inside.turns.opening)
+returns-clause-rest g c = rw c.into_inner.ensures (λ none. rest_at_end c.close.result.site.value.opening c.self.inside.turns c.args.passes.items c.close.result.site.value.history (Legal g.P.Compiled.needs c.self.inside.turns.opening)
     (c.self.invariant.0 ∙ ap (λ (x : Opening). x.passes) (sym c.close.ensures.opening))
-    (subst (λ (turns : Origin Opening). AreAll turns c.args.passes.items) (sym c.self.view_is) c.requires) c.close.ensures.passes none
+    (subst (λ (turns : Origin Opening). AreAll turns c.args.passes.items) (sym c.self.view_is) c.requires) c.close.ensures.passes none)
