@@ -1,3 +1,4 @@
+pub mod Body
 pub mod Course
 pub mod Gone
 pub mod Played

@@ -2,6 +2,7 @@
 #![tactic(auto)]
 
 mod answering;
+mod body;
 mod chain;
 mod course;
 mod erring;
@@ -12,5 +13,6 @@ mod running;
 mod telling;
 
 pub use answering::answer;
+pub use body::Body;
 pub use course::{Course, Way, new_id};
 pub use reply::{Gone, Reply};

@@ -1,6 +1,7 @@
+use crate::body::Body;
 use http_in::Param;
 use http_out::Status;
-use pg_text::{Bytes, Listed, Path, Text};
+use pg_text::{Listed, Path, Text};
 use run_world::Raise;
 
 /// What a request is answered.
@@ -15,7 +16,7 @@ pub enum Reply {
         status: Status,
         content_type: Option<Text>,
         location: Option<Text>,
-        body: Bytes,
+        body: Body,
     },
 }
 

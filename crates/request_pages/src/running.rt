@@ -12,6 +12,7 @@ ghost use Rattle.request_pages.specs.Gone.{GoneBy, PageGone};
 ghost use Rattle.run_stage.specs.Standing.{HasCharged, KeepsResponse, KeepsSession};
 ghost use Rattle.run_world.specs.Origin.{Origin};
 
+use crate::body::Body;
 use crate::course::Course;
 use crate::reply::{Gone, Reply};
 use edges::Sink;
@@ -19,7 +20,6 @@ use http_in::{Param, Request};
 use http_out::Status;
 use page_machine::RunEnd;
 use page_meaning::{depth, parts};
-use pg_text::Bytes;
 use run_pages::play;
 use run_stage::RUN_PROMISE;
 use run_world::{Program, Raise};
@@ -85,7 +85,7 @@ fn gone(alloc: Global, end: RunEnd, committed: bool) -> Result<Gone, AllocError>
             status: Status::Found,
             content_type: None,
             location: Some(address),
-            body: Bytes::new(Vec::new(alloc)),
+            body: Body::empty(alloc),
         })),
         RunEnd::Forward(path, params) => Ok(Gone::Forward(path, params)),
         RunEnd::NoMemory => Err(AllocError),

@@ -5,10 +5,11 @@ ghost use Rattle.page_meaning.specs.Faults.{page_fault_line, run_fault_line};
 ghost use Rattle.page_meaning.specs.Response.{file_type};
 ghost use Rattle.run_world.specs.Seats.{raise_of};
 
+use crate::body::Body;
 use crate::reply::Reply;
 use fault_line::page_fault_line;
 use http_out::{PLAIN_TYPE, Status};
-use pg_text::{Bytes, PageFault, Path, Text};
+use pg_text::{PageFault, Path, Text};
 use run_values::run_fault_line;
 use run_world::Raise;
 use std::alloc::{AllocError, Global};
@@ -23,7 +24,7 @@ pub(crate) fn plain(alloc: Global, status: Status, line: &[u8]) -> Result<Reply,
         status,
         content_type: Some(Text::copy_of(alloc, PLAIN_TYPE)?),
         location: None,
-        body: Bytes::new(body),
+        body: Body::made(body),
     })
 }
 
@@ -48,7 +49,7 @@ pub(crate) fn file(
         status,
         content_type: Some(Text::copy_of(alloc, file_type(path))?),
         location: None,
-        body: Bytes::copy_of(alloc, text.as_bytes())?,
+        body: Body::file(text)?,
     })
 }
 
