@@ -69,23 +69,23 @@ module _ {X Z : Type 0} where
       omega (arith, both, full, seen, many, some)
 
   pub found : (bs : List (Vec X Z)) (xs : List X) (room place : ℕ) (l : Roomy X) (b : Bor (Vec X Z)) (items : List X) (r : Option (Bor X)) → All IsFull bs → roomy (joined bs ++ xs) room ≡ l
-      → IsItemAt bs (place / 1024) (Some b) → items ≡ b.now.items → IsItemAt items (place % 1024) r → option_copied r ≡ slice_get l.items place
+      → IsItemAt bs (place / 4096) (Some b) → items ≡ b.now.items → IsItemAt items (place % 4096) r → option_copied r ≡ slice_get l.items place
   found bs xs room place l b items r all is there same at =
       let here = there.3 in
-      let small : place % 1024 < block = omega arith in
-      looked items (place % 1024) r at
-      ∙ ap (λ ys. slice_get ys (place % 1024)) same
-      ∙ ap (λ (v : Vec X Z). slice_get v.items (place % 1024)) (here.1 b.now)
-      ∙ sym (in_block bs xs (place / 1024) (place % 1024) b.now all here.0 small)
-      ∙ ap (slice_get (joined bs ++ xs)) (div-add-mod place 1024)
+      let small : place % 4096 < block = omega arith in
+      looked items (place % 4096) r at
+      ∙ ap (λ ys. slice_get ys (place % 4096)) same
+      ∙ ap (λ (v : Vec X Z). slice_get v.items (place % 4096)) (here.1 b.now)
+      ∙ sym (in_block bs xs (place / 4096) (place % 4096) b.now all here.0 small)
+      ∙ ap (slice_get (joined bs ++ xs)) (div-add-mod place 4096)
       ∙ ap (λ (v : Roomy X). slice_get v.items place) is
 
   pub missed : (bs : List (Vec X Z)) (xs : List X) (room place n : ℕ) (l : Roomy X) (items : List X) (r : Option (Bor X)) → All IsFull bs → roomy (joined bs ++ xs) room ≡ l
-      → length bs ≤ place / 1024 → n ≡ length bs → items ≡ xs → IsItemAt items (place - 1024 * n) r → option_copied r ≡ slice_get l.items place
+      → length bs ≤ place / 4096 → n ≡ length bs → items ≡ xs → IsItemAt items (place - 4096 * n) r → option_copied r ≡ slice_get l.items place
   missed bs xs room place n l items r all is past many same at =
-      let place_is : block * length bs + (place - 1024 * n) ≡ place = omega (arith, past, many) in
-      looked items (place - 1024 * n) r at
-      ∙ ap (λ ys. slice_get ys (place - 1024 * n)) same
-      ∙ sym (behind bs xs (place - 1024 * n) all)
+      let place_is : block * length bs + (place - 4096 * n) ≡ place = omega (arith, past, many) in
+      looked items (place - 4096 * n) r at
+      ∙ ap (λ ys. slice_get ys (place - 4096 * n)) same
+      ∙ sym (behind bs xs (place - 4096 * n) all)
       ∙ ap (slice_get (joined bs ++ xs)) place_is
       ∙ ap (λ (v : Roomy X). slice_get v.items place) is

@@ -11,7 +11,7 @@ pub record Roomy (X : Type 0) : Type 0 where
 
 -- how many items a block holds
 abbrev pub block : ℕ
-block = 1024
+block = 4096
 
 module _ {X : Type 0} where
   abbrev pub roomy : List X → ℕ → Roomy X

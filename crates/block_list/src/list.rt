@@ -7,10 +7,10 @@ use std::marker::Model;
 use std::mem;
 
 /// How many items a block holds.
-pub const BLOCK: usize = 1_024;
+pub const BLOCK: usize = 4_096;
 
 // The first number of blocks whose items a `usize` doesn't count.
-const BLOCKS_END: usize = 1 << 54;
+const BLOCKS_END: usize = 1 << 52;
 
 /// A list in blocks. Contracts see its items, and for how many more there is room.
 #[derive(Drop)]
