@@ -11,11 +11,11 @@ mod asking;
 #[cfg(test)]
 mod opening;
 #[cfg(test)]
+mod preceded;
+#[cfg(test)]
 mod publishing;
 #[cfg(test)]
 mod request;
-#[cfg(test)]
-mod sessions;
 #[cfg(test)]
 mod streams;
 #[cfg(test)]

@@ -1,30 +1,18 @@
-// A port during whose first request another pass publishes.
+// A publication before a page is fetched.
 ghost use Rattle.std.specs.Prelude.{◌<◌};
-ghost use Rattle.std.specs.Arc.{arc_value};
-ghost use Rattle.compiled_pages.specs.Made.{IsMade};
-ghost use Rattle.compiled_pages.specs.Pages.{needs_at};
-ghost use Rattle.site_words.specs.Answers.{ForRun, IsSamePort, of_offered};
-ghost use Rattle.site_words.specs.Calls.{Calls};
-ghost use Rattle.site_words.specs.Law.{May, own, run_of};
-ghost use Rattle.site_words.specs.declared.words.Op.TheVariants as op;
 
+use crate::preceded::Before;
 use compiled_pages::Made;
-use pg_text::{Path, Text};
-use pg_value::Attrs;
-use site_words::{Acted, AppReply, AppStep, Begun, Fresh, Port, Published, Refusal, Snapped};
+use site_words::{Acted, Port};
 use source_tree::Edits;
-use std::alloc::AllocError;
-use std::sync::Arc;
 
-/// A port that does what another does. When a page is fetched first, the port of another pass publishes the edits before, and the version is
-/// noted.
+/// Publishes the edits by the port of another pass when a page is fetched first, and notes the version.
 #[derive(Drop)]
-pub struct Publishing<'a, P, Q: Port<Made>> {
-    pub port: P,
-    pub other: Q,
+pub struct Publishing<'a, Q: Port<Made>> {
+    pub port: Q,
     pub edits: &'a Edits,
     pub published: Option<u64>,
-    pub ghost may: { Q.pass other < (Q.opening other).passes },
+    pub ghost may: { Q.pass port < (Q.opening port).passes },
 }
 
 /// The version that is published, where the edits are.
@@ -39,67 +27,12 @@ fn publish<Q: Port<Made>>(port: &mut Q, edits: &Edits) -> Option<u64>
     }
 }
 
-impl<'a, P: Port<Made>, Q: Port<Made>> Port<Made> for Publishing<'a, P, Q> {
-    type Home = P::Home;
+impl<'a, Q: Port<Made>> Before for Publishing<'a, Q> {
+    fn step(&mut self) {}
 
-    ghost home = { λ w. P.home w.port };
-
-    ghost pass = { λ w. P.pass w.port };
-
-    ghost opening = { λ w. P.opening w.port };
-
-    ghost seen = { λ w. P.seen w.port };
-
-    fn law(&self) {
-        self.port.law();
-    }
-
-    fn publish(&mut self, base: Option<u64>, edits: &Edits) -> Acted<Published, Refusal> {
-        self.port.publish(base, edits)
-    }
-
-    fn begin(&mut self, cookie: &Text, moment: u64) -> Acted<Begun, Refusal> {
-        self.port.begin(cookie, moment)
-    }
-
-    fn app(&mut self, request: u64, step: AppStep) -> Result<AppReply, AllocError> {
-        self.port.app(request, step)
-    }
-
-    fn fresh(&mut self, request: u64) -> Result<Fresh, AllocError> {
-        self.port.fresh(request)
-    }
-
-    fn fetch(&mut self, request: u64, path: &Path) -> Result<Option<Arc<Made>>, AllocError> {
+    fn fetch(&mut self) {
         if self.published.is_none() {
-            self.published = publish(&mut self.other, self.edits);
+            self.published = publish(&mut self.port, self.edits);
         }
-        self.port.fetch(request, path)
-    }
-
-    fn offer(&mut self, request: u64, path: &Path, made: Arc<Made>) -> Result<bool, AllocError>
-        requires may { May (P.opening self.old.port) (P.seen self.old.port) (P.pass self.old.port)
-            (own (P.pass self.old.port) (P.seen self.old.port)) (op.Offer request path.now) }
-        requires made { ForRun (P.opening self.old.port) (P.seen self.old.port)
-            (run_of (own (P.pass self.old.port) (P.seen self.old.port)))
-            (λ tree. IsMade (arc_value made) tree path.now) }
-        ensures same { IsSamePort (P.pass self.old.port) (P.pass self.new.port) (P.opening self.old.port)
-            (P.opening self.new.port) (P.home self.old.port) (P.home self.new.port) }
-        ensures call { Calls needs_at (P.opening self.old.port) (P.pass self.old.port) (P.seen self.old.port)
-            (P.seen self.new.port) (op.Offer request path.now) (of_offered result) }
-    {
-        self.port.offer(request, path, made)
-    }
-
-    fn end(&mut self, request: u64, attrs: Attrs) {
-        self.port.end(request, attrs);
-    }
-
-    fn abandon(&mut self, request: u64) {
-        self.port.abandon(request);
-    }
-
-    fn snapshot(&mut self, cookie: &Text) -> Acted<Snapped, Refusal> {
-        self.port.snapshot(cookie)
     }
 }

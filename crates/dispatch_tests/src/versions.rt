@@ -2,13 +2,15 @@ ghost use Rattle.std.specs.Prelude.{◌≡◌, ◌<◌, All, IfSome};
 ghost use Rattle.pass_course.specs.Course.{IsIdle};
 ghost use Rattle.turn_table.specs.Passes.{IsPassOf};
 
-use crate::asking::{Told, ask};
+use crate::asking::ask;
 use crate::opening::{AMPLE, edits_of, resumed};
+use crate::preceded::Preceded;
 use crate::publishing::Publishing;
 use compiled_pages::Made;
-use conversation::Outcome;
-use edges::{MemClock, OpenGate, Steps, Unseen};
+use edges::{MemClock, MemSink, OpenGate, Steps, Unseen};
 use site_shared::{SharedPort, SharedSite, SitePasses, start};
+use site_words::Port;
+use source_tree::Edits;
 use std::alloc::Global;
 use std::marker::Brand;
 use std::sync::Wait;
@@ -26,22 +28,10 @@ const FILES: [(&str, &str); 2] = [
 
 const CHANGED: [(&str, &str); 1] = [("/inc.jsp", "<%@ page session=\"false\" %>new")];
 
-// The page that is asked for, and its answers.
-const PAGE: &str = "/a.jsp";
-
-const OLD: &str =
-    "HTTP/1.1 200 OK\r\nContent-Type: text/html;charset=UTF-8\r\nContent-Length: 4\r\n\r\naold";
-
-const NEW: &str =
-    "HTTP/1.1 200 OK\r\nContent-Type: text/html;charset=UTF-8\r\nContent-Length: 4\r\n\r\nanew";
-
-// What came of two requests, and the version that was published during the first.
-#[derive(Drop)]
-struct Came {
-    first: Told,
-    second: Told,
-    published: Option<u64>,
-}
+// The outcomes of two requests, the version that is published meanwhile, and the answers.
+const TOLD: &str = "Whole Whole Some(4) \
+    HTTP/1.1 200 OK\r\nContent-Type: text/html;charset=UTF-8\r\nContent-Length: 4\r\n\r\naold\
+    HTTP/1.1 200 OK\r\nContent-Type: text/html;charset=UTF-8\r\nContent-Length: 4\r\n\r\nanew";
 
 // The port of one of these passes, which it takes out.
 fn port_of<'a, R: Wait>(
@@ -60,42 +50,74 @@ fn port_of<'a, R: Wait>(
     Some(site.port(rt, pass))
 }
 
-// What comes of two requests on a shared site of the version 3. Another pass publishes while the first is under way.
-fn come_of<N: Ledger, R: Wait>(rt: &R, alloc: Global, blank: Blank) -> Result<Came, Fail>
+// What comes of two requests over this port, and the version that its other pass publishes while the first is under way.
+fn asked_twice<N: Ledger, P: Port<Made>, Q: Port<Made>>(
+    alloc: Global,
+    blank: Blank,
+    port: &mut Preceded<P, Publishing<'_, Q>>,
+) -> Result<String, Fail>
+    requires name { blank.name ≡ N.name }
+    requires parts { blank.parts ≡ N.parts }
+    requires some { 0 < N.parts }
+    requires idle { IsIdle (P.opening port.old.port) (P.pass port.old.port) (P.seen port.old.port) }
+{
+    let mut clock = MemClock::new(vec![in alloc; 0, 1]?);
+    let mut sink = MemSink::new(alloc, Vec::new(alloc));
+    let mut steps = Steps::<Unseen<N>>::unseen(blank);
+    let asked = ("GET", "/a.jsp", "");
+    let first = ask(alloc, port, asked, &mut sink, &mut clock, &mut steps)?;
+    let second = ask(alloc, port, asked, &mut sink, &mut clock, &mut steps)?;
+    let text = str::from_utf8(sink.taken()).unwrap_or("no text");
+    let published = port.before.published;
+    Ok(format!(in alloc; "{first:?} {second:?} {published:?} {text}")?)
+}
+
+// The same over a shared site of these passes, of which one publishes the edits.
+fn on_site<N: Ledger, R: Wait>(
+    rt: &R,
+    alloc: Global,
+    blank: Blank,
+    site: &SharedSite<Made, OpenGate>,
+    passes: &mut SitePasses<Made>,
+    edits: &Edits,
+) -> Result<String, Fail>
+    requires name { blank.name ≡ N.name }
+    requires parts { blank.parts ≡ N.parts }
+    requires some { 0 < N.parts }
+    requires from { All (IsPassOf site.now) passes.old.items }
+    requires idle { All (λ pass. IsIdle site.now.opening pass.number pass.seen) passes.old.items }
+{
+    let other = port_of(rt, site, passes);
+    let port = port_of(rt, site, passes);
+    let (Some(other), Some(port)) = (other, port) else {
+        return Err(Fail::new("a pass is missing"));
+    };
+    let mut port = Preceded {
+        port,
+        before: Publishing {
+            port: other,
+            edits,
+            published: None,
+        },
+    };
+    asked_twice::<N, _, _>(alloc, blank, &mut port)
+}
+
+// The same on a shared site of the version 3.
+fn come_of<N: Ledger, R: Wait>(rt: &R, alloc: Global, blank: Blank) -> Result<String, Fail>
     requires name { blank.name ≡ N.name }
     requires parts { blank.parts ≡ N.parts }
     requires some { 0 < N.parts }
 {
+    let edits = edits_of(alloc, &CHANGED)?;
     let site = resumed(alloc, &FILES, AMPLE, 3, 2)?;
     let (site, mut passes) = start(alloc, site, OpenGate)?;
-    let other = port_of(rt, &site, &mut passes);
-    let port = port_of(rt, &site, &mut passes);
-    let (Some(other), Some(port)) = (other, port) else {
-        return Err(Fail::new("a pass is missing"));
-    };
-    let edits = edits_of(alloc, &CHANGED)?;
-    let mut port = Publishing {
-        port,
-        other,
-        edits: &edits,
-        published: None,
-    };
-    let mut clock = MemClock::new(vec![in alloc; 0, 1]?);
-    let mut steps = Steps::<Unseen<N>>::unseen(blank);
-    Ok(Came {
-        first: ask(alloc, &mut port, PAGE, "", &mut clock, &mut steps)?,
-        second: ask(alloc, &mut port, PAGE, "", &mut clock, &mut steps)?,
-        published: port.published,
-    })
+    on_site::<N, R>(rt, alloc, blank, &site, &mut passes, &edits)
 }
 
 #[test]
 fn a_request_keeps_its_version_while_another_is_published(rt: HostRuntime) -> Result<(), Fail> {
     let came = come_of::<Brand, _>(&rt, rt.alloc(), Blank::new(1))?;
-    assert_eq!(rt; came.published, Some(4));
-    assert_eq!(rt; came.first.outcome, Outcome::Whole);
-    assert_eq!(rt; came.first.text.as_slice(), OLD.as_bytes());
-    assert_eq!(rt; came.second.outcome, Outcome::Whole);
-    assert_eq!(rt; came.second.text.as_slice(), NEW.as_bytes());
+    assert_eq!(rt; came.as_str(), TOLD);
     Ok(())
 }
