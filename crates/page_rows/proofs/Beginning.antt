@@ -1,8 +1,10 @@
--- All is in order where a request begins.
+-- All is in order where a page begins to run in a session in which nothing was set, or in none.
 use Rattle.std.proofs.Common.{◌≡◌, ◌≤◌, ◌∙◌, Bool, true, false, [], Option, Some, None, refl, sym, ap, subst, arith}
 use Rattle.std.specs.Prelude.{is_some, if◌then◌else◌}
 use Rattle.machine_port.specs.Asked.{asking_by}
 use Rattle.page_machine.specs.Run.{IsInOrder}
+use Rattle.page_meaning.specs.declared.limits.TheConstants.{VISIT_LIMIT}
+use Rattle.run_stage.specs.declared.limits.TheConstants.{MAX_CHARGE}
 use Rattle.run_stage.specs.Standing.{session_weight}
 use Rattle.run_world.specs.declared.around.Around.{Around}
 use Rattle.scopes.specs.Limits.{max_session_weight}
@@ -22,11 +24,11 @@ first_light true = omega arith
 first_light false = omega arith
 
 pub begins_in_order : (scopes : ScopeState) (around : Around) (asking : Asking) (has : Bool) → scopes ≡ starting (first_attributes has) → has ≡ is_some around.id → asking ≡ asking_by [] [] has
-    → around.visits ≡ 0 → around.charge ≤ 2208 → IsInOrder scopes around asking
+    → around.visits ≤ VISIT_LIMIT → around.charge ≤ MAX_CHARGE → IsInOrder scopes around asking
 begins_in_order scopes around asking has starts is_there asks visits charge = record {
   session = ap (λ s. is_some s.session) starts ∙ first_some has ∙ is_there;
   asked = ap (λ (a : Asking). a.has_session) asks ∙ is_there;
   weight = subst (λ s. session_weight s.session ≤ max_session_weight) (sym starts) (first_light has);
-  visits = omega (arith, visits);
-  charge = omega (arith, charge);
+  visits = visits;
+  charge = charge;
 }

@@ -1,21 +1,14 @@
 //! The program `page_rows`: runs the page of each row on standard input, and tells what comes of
 //! it.
 //!
-//! A row is some lines up to an empty one. Where its first line begins with `page`, its pages are
-//! codes in writing, and the machine runs them in a site of listed files. Else its lines that begin
-//! with a path are the files of a tree, of which the first is a page that is read, translated and
-//! run. The other lines say what surrounds the run: what its steps are answered, the request, and
-//! limits. A line that begins with `# ` says what the rows behind it show. The lines are written as
-//! they are read, and behind each row, after `> `, comes what is told.
+//! A row is some lines up to an empty one. Its lines that begin with a path are the files of a tree,
+//! of which the first is a page that is read, translated and run. The other lines say what surrounds
+//! the run: what its steps are answered, the request, limits, and how deep it runs and how much was
+//! visited and charged before. A line that begins with `# ` says what the rows behind it show. The
+//! lines are written as they are read, and behind each row, after `> `, comes what is told.
 #![tactic(auto)]
 
-mod cells;
-mod instructions;
-mod machine_row;
-mod machine_run;
-mod operations;
 mod surroundings;
-mod tags;
 mod told;
 mod tree_row;
 mod tree_run;
@@ -47,16 +40,7 @@ fn main(rt: HostRuntime) -> io::Result<()> {
 
 // What is told of these lines, or what is wrong with them.
 fn row_told(alloc: Global, lines: &[String]) -> Result<String, AllocError> {
-    let is_code = match lines.first() {
-        Some(line) => line.starts_with("page"),
-        None => false,
-    };
-    let told = if is_code {
-        machine_row::told(alloc, lines)
-    } else {
-        tree_row::told(alloc, lines)
-    };
-    match told {
+    match tree_row::told(alloc, lines) {
         Ok(told) => Ok(told),
         Err(Unreadable::Word(what)) => String::from_str(alloc, what),
         Err(Unreadable::NoMemory) => Err(AllocError),

@@ -2,9 +2,8 @@
 ghost use Rattle.std.specs.Prelude.{◌≡◌, ◌<◌, [], Some, None, if◌then◌else◌};
 ghost use Rattle.std.specs.Option.{ForSome};
 
-use crate::operations::count;
 use crate::unreadable::Unreadable;
-use crate::words::{first_word, text, value};
+use crate::words::{count, first_word, text, value};
 use http_in::{Field, Param, Request};
 use http_out::{Head, Status};
 use machine_port::Prepared;
@@ -24,7 +23,8 @@ pub struct Surroundings {
     pub session: Option<Text>,
     pub depth: u32,
     pub visits: u32,
-    pub charge: u64,
+    /// What was charged before, where it isn't the page alone.
+    pub charge: Option<u64>,
     /// The size of the buffer, or None where nothing is buffered.
     pub buffer: Option<u32>,
     pub auto_flush: bool,
@@ -43,7 +43,7 @@ impl Surroundings {
             session: None,
             depth: 0,
             visits: 0,
-            charge: 0,
+            charge: None,
             buffer: Some(8_192),
             auto_flush: true,
             exception: None,
@@ -59,7 +59,7 @@ impl Surroundings {
             "nulls" => self.answer_nulls(count(rest))?,
             "depth" => self.depth = (count(rest) % 1_000) as u32,
             "visits" => self.visits = (count(rest) % 2_000_000) as u32,
-            "charge" => self.charge = count(rest) as u64,
+            "charge" => self.charge = Some(count(rest) as u64),
             "buffer" => self.set_buffer(rest),
             _ => return self.ask(alloc, kind, rest),
         }
@@ -117,20 +117,17 @@ fn answer(alloc: Global, rest: &str) -> Result<Prepared, Unreadable> {
     Ok(Prepared::Reply(reply))
 }
 
-/// The place of a fault that a site has from the start.
-pub fn place(alloc: Global, path: &str) -> Result<Place, Unreadable> {
-    Ok(Place {
-        file: resolve(alloc, None, path)?,
+// The fault that an error page sees.
+fn raise(alloc: Global) -> Result<Raise, Unreadable> {
+    let place = Place {
+        file: resolve(alloc, None, "/a.jsp")?,
         byte: 0,
         line: 1,
         column: 7,
-    })
-}
-
-fn raise(alloc: Global) -> Result<Raise, Unreadable> {
+    };
     Ok(Raise {
         fault: RunFault::ZeroDivisor,
-        place: place(alloc, "/a.jsp")?,
+        place,
     })
 }
 

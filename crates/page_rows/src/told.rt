@@ -23,9 +23,9 @@ pub struct Ran<'a> {
     pub bytes: u64,
 }
 
-/// What these words ask: `end` for how a run ended, `cell` for the same with the cells of faults,
-/// `rest` between brackets for what stands in the buffer, behind a star where something was
-/// committed, `asked` for the steps, `sent` for what the sink has; or counts.
+/// What these words ask: `end` for how a run ended, `rest` between brackets for what stands in the
+/// buffer, behind a star where something was committed, `asked` for the steps, `sent` for what the
+/// sink has; or counts.
 pub fn told(alloc: Global, words: &str, ran: Ran<'_>) -> Result<String, AllocError> {
     let mut told = String::new(alloc);
     for word in words.split(' ') {
@@ -40,8 +40,7 @@ pub fn told(alloc: Global, words: &str, ran: Ran<'_>) -> Result<String, AllocErr
 
 fn part_told(alloc: Global, word: &str, ran: Ran<'_>) -> Result<String, AllocError> {
     match word {
-        "end" => page_end_told(alloc, ran.end, false),
-        "cell" => page_end_told(alloc, ran.end, true),
+        "end" => page_end_told(alloc, ran.end),
         "rest" => rest_told(alloc, ran.writer),
         "asked" => all_asked_told(alloc, ran.asked),
         "sent" => String::from_utf8_lossy(alloc, ran.sink.taken())?.replace(alloc, "\r\n", "\n"),
@@ -78,10 +77,10 @@ fn rest_told(alloc: Global, writer: &Writer) -> Result<String, AllocError> {
     format!(in alloc; "[{star}{rest}]")
 }
 
-fn page_end_told(alloc: Global, end: &PageEnd, cells: bool) -> Result<String, AllocError> {
+fn page_end_told(alloc: Global, end: &PageEnd) -> Result<String, AllocError> {
     match end {
         PageEnd::Faulty(fault) => fault_told(alloc, fault),
-        PageEnd::Ran(end) => end_told(alloc, end, cells),
+        PageEnd::Ran(end) => end_told(alloc, end),
         PageEnd::NoMemory => String::from_str(alloc, "no memory"),
     }
 }
@@ -89,11 +88,11 @@ fn page_end_told(alloc: Global, end: &PageEnd, cells: bool) -> Result<String, Al
 fn fault_told(alloc: Global, fault: &PageFault) -> Result<String, AllocError> {
     let number = fault.fault.number();
     let name = fault.fault.name();
-    let place = place_told(alloc, &fault.place, false)?;
+    let place = place_told(alloc, &fault.place)?;
     format!(in alloc; "E{number} {name} {place}")
 }
 
-fn end_told(alloc: Global, end: &RunEnd, cells: bool) -> Result<String, AllocError> {
+fn end_told(alloc: Global, end: &RunEnd) -> Result<String, AllocError> {
     match end {
         RunEnd::Normal => format!(in alloc; "normal"),
         RunEnd::Forward(path, params) => {
@@ -106,30 +105,20 @@ fn end_told(alloc: Global, end: &RunEnd, cells: bool) -> Result<String, AllocErr
             Ok(told)
         }
         RunEnd::Redirect(address) => format!(in alloc; "redirect {}", address.as_str()),
-        RunEnd::Raised { fault, place } => raised_told(alloc, *fault, place, cells),
+        RunEnd::Raised { fault, place } => raised_told(alloc, *fault, place),
         RunEnd::NoMemory => format!(in alloc; "no memory"),
     }
 }
 
-fn raised_told(
-    alloc: Global,
-    fault: RunFault,
-    place: &Place,
-    cells: bool,
-) -> Result<String, AllocError> {
+fn raised_told(alloc: Global, fault: RunFault, place: &Place) -> Result<String, AllocError> {
     let number = fault.number();
-    let place = place_told(alloc, place, cells)?;
+    let place = place_told(alloc, place)?;
     format!(in alloc; "X{number} {place}")
 }
 
-// A file, and the line and column; or in the place of these the byte, which in writing is the
-// number of a cell.
-fn place_told(alloc: Global, place: &Place, cells: bool) -> Result<String, AllocError> {
+// A file, and the line and column.
+fn place_told(alloc: Global, place: &Place) -> Result<String, AllocError> {
     let file = place.file.as_str();
-    if cells {
-        let byte = place.byte;
-        return format!(in alloc; "{file}:{byte}");
-    }
     let (line, column) = (place.line, place.column);
     format!(in alloc; "{file}:{line}:{column}")
 }

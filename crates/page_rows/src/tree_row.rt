@@ -12,31 +12,73 @@ use std::alloc::Global;
 use std::marker::Brand;
 use std::sync::ledger::{Blank, Ledger};
 
-/// What is told of the page of these lines.
-pub fn told(alloc: Global, lines: &[String]) -> Result<String, Unreadable> {
-    let mut edits = Edits::new(alloc);
-    let mut page = None;
-    let mut surroundings = Surroundings::plain(alloc, "end rest asked")?;
+// A row that is read: the files of its tree, the page that runs, and what surrounds the run.
+#[derive(Drop)]
+struct Row {
+    edits: Edits,
+    page: Option<Path>,
+    surroundings: Surroundings,
+}
+
+impl Row {
+    // One line more.
+    fn add(&mut self, alloc: Global, line: &str) -> Result<(), Unreadable> {
+        let (first, rest) = line.split_once(' ').unwrap_or((line, ""));
+        if !first.starts_with('/') {
+            return self.surroundings.add(alloc, first, rest);
+        }
+        let path = resolve(alloc, None, first)?;
+        if self.page.is_none() {
+            self.page = Some(path.copy()?);
+        }
+        self.edits
+            .push(Edit::Put(path, FileText::copy_of(alloc, rest)?))?;
+        Ok(())
+    }
+}
+
+fn row_of(alloc: Global, lines: &[String]) -> Result<Row, Unreadable> {
+    let mut row = Row {
+        edits: Edits::new(alloc),
+        page: None,
+        surroundings: Surroundings::plain(alloc, "end rest asked")?,
+    };
     for line in lines {
         let line = written_out(alloc, line.as_str(), &[("¶", "\n")])?;
-        let (first, rest) = line.as_str().split_once(' ').unwrap_or((line.as_str(), ""));
-        if first.starts_with('/') {
-            let path = resolve(alloc, None, first)?;
-            if page.is_none() {
-                page = Some(path.copy()?);
-            }
-            edits.push(Edit::Put(path, FileText::copy_of(alloc, rest)?))?;
-        } else {
-            surroundings.add(alloc, first, rest)?;
-        }
+        row.add(alloc, line.as_str())?;
     }
-    let Some(page) = page else {
-        return Err(Unreadable::Word("no page runs"));
-    };
-    let Ok(tree) = Tree::new(alloc).apply(&edits, 1) else {
-        return Err(Unreadable::Word("the tree is too large"));
-    };
-    told_at::<Brand>(alloc, Blank::new(1), &tree, &page, surroundings)
+    Ok(row)
+}
+
+fn tree_of(alloc: Global, edits: &Edits) -> Result<Tree, Unreadable> {
+    match Tree::new(alloc).apply(edits, 1) {
+        Ok(tree) => Ok(tree),
+        Err(_) => Err(Unreadable::Word("the tree is too large")),
+    }
+}
+
+/// What is told of the page of these lines.
+pub fn told(alloc: Global, lines: &[String]) -> Result<String, Unreadable> {
+    let Row {
+        edits,
+        page,
+        mut surroundings,
+    } = row_of(alloc, lines)?;
+    match page {
+        Some(page) => told_of(alloc, &edits, &page, &mut surroundings),
+        None => Err(Unreadable::Word("no page runs")),
+    }
+}
+
+// What is told of the page at a path of a tree of these edits.
+fn told_of(
+    alloc: Global,
+    edits: &Edits,
+    page: &Path,
+    surroundings: &mut Surroundings,
+) -> Result<String, Unreadable> {
+    let tree = tree_of(alloc, edits)?;
+    told_at::<Brand>(alloc, Blank::new(1), &tree, page, surroundings)
 }
 
 // What is told of the page at a path.
@@ -45,7 +87,7 @@ fn told_at<N: Ledger>(
     blank: Blank,
     tree: &Tree,
     path: &Path,
-    surroundings: Surroundings,
+    surroundings: &mut Surroundings,
 ) -> Result<String, Unreadable>
     requires name { blank.name ≡ N.name }
     requires parts { blank.parts ≡ N.parts }
