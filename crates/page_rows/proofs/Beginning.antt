@@ -1,7 +1,7 @@
 -- All is in order where a page begins to run in a session in which nothing was set, or in none.
 use Rattle.std.proofs.Common.{◌≡◌, ◌≤◌, ◌∙◌, Bool, true, false, [], Option, Some, None, refl, sym, ap, subst, arith}
 use Rattle.std.specs.Prelude.{is_some, if◌then◌else◌}
-use Rattle.machine_port.specs.Asked.{asking_by}
+use Rattle.tree_site.specs.Asked.{asking_by}
 use Rattle.page_machine.specs.Run.{IsInOrder}
 use Rattle.page_meaning.specs.declared.limits.TheConstants.{VISIT_LIMIT}
 use Rattle.run_stage.specs.declared.limits.TheConstants.{MAX_CHARGE}

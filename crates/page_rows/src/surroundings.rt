@@ -6,12 +6,12 @@ use crate::unreadable::Unreadable;
 use crate::words::{count, first_word, text, value};
 use http_in::{Field, Param, Request};
 use http_out::{Head, Status};
-use machine_port::Prepared;
 use pg_text::{Bytes, Listed, Place, Text, resolve};
 use pg_value::{Attrs, RunFault, Value};
 use run_world::Raise;
 use site_words::{AppReply, Fresh};
 use std::alloc::{AllocError, Global};
+use tree_site::Prepared;
 
 /// In what a page runs, and what is told of it.
 #[derive(Drop)]

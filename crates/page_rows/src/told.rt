@@ -1,7 +1,6 @@
 // What is told of a run.
 use edges::MemSink;
 use el_coercion::to_text;
-use machine_port::Asked;
 use out_buffer::Writer;
 use page_machine::RunEnd;
 use pg_text::{Failure, PageFault, Place};
@@ -10,6 +9,7 @@ use run_world::Around;
 use site_words::AppStep;
 use std::alloc::{AllocError, Global};
 use tree_pages::PageEnd;
+use tree_site::Asked;
 
 /// What came of a run and what it left; the bytes are those that were read for its pages.
 #[derive(Clone, Copy)]

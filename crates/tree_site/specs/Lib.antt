@@ -1,2 +1,4 @@
+pub mod Asked
+pub mod Prepared
 pub mod Site
 pub mod Told

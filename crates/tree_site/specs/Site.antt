@@ -1,6 +1,6 @@
 -- What contracts see of a site.
 use Rattle.std.specs.Prelude.{List, take}
-use Rattle.machine_port.specs.Asked.{asking_by}
+use Rattle.tree_site.specs.Asked.{asking_by}
 use Rattle.site_words.specs.Running.{Asking}
 use Rattle.source_tree.specs.declared.file.File.{File}
 use Rattle.tree_site.specs.declared.site.TreeSite.{TreeSite}

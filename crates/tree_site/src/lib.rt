@@ -2,8 +2,12 @@
 //! beforehand.
 #![tactic(auto)]
 
+mod asked;
 mod making;
+mod prepared;
 mod site;
 
+pub use asked::Asked;
 pub use making::paged;
+pub use prepared::Prepared;
 pub use site::TreeSite;

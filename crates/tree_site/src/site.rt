@@ -1,8 +1,9 @@
 ghost use Rattle.std.specs.Prelude.{◌≡◌};
 ghost use Rattle.source_tree.specs.Limits.{IsWithinLimits};
 
+use crate::asked::Asked;
 use crate::making::paged;
-use machine_port::{Asked, Prepared, reply_at, session_at};
+use crate::prepared::{Prepared, reply_at, session_at};
 use pg_text::Path;
 use run_world::Program;
 use site_words::{AppPort, AppReply, AppStep, Fresh, Paged};
@@ -24,7 +25,7 @@ pub struct TreeSite<'a> {
 
 impl<'a> TreeSite<'a> {
     ghost use Rattle.std.specs.Prelude.{[]};
-    ghost use Rattle.machine_port.specs.Asked.{asking_by};
+    ghost use Rattle.tree_site.specs.Asked.{asking_by};
     ghost use Rattle.tree_site.specs.Site.{asking_of, tree_of};
 
     /// A site of which nothing was asked, with a session or without one.

@@ -1,6 +1,6 @@
 use Rattle.std.proofs.Common.{subst}
-use Rattle.machine_port.proofs.Answered.{told_so}
-use Rattle.machine_port.specs.Prepared.{ReplyAt}
+use Rattle.tree_site.proofs.Answered.{told_so}
+use Rattle.tree_site.specs.Prepared.{ReplyAt}
 use Rattle.tree_site.proofs.site.TreeSiteAppPortProgram.app.Goals as goal
 
 pub returns-clause-told : goal.returns-clause-told

@@ -1,7 +1,7 @@
 use Rattle.std.proofs.Common.{◌≡◌, Some, subst}
 use Rattle.std.specs.Prelude.{slice_get}
-use Rattle.machine_port.proofs.Answered.{given_so}
-use Rattle.machine_port.specs.Prepared.{session_of}
+use Rattle.tree_site.proofs.Answered.{given_so}
+use Rattle.tree_site.specs.Prepared.{session_of}
 use Rattle.tree_site.proofs.site.TreeSiteAppPortProgram.fresh.Goals as goal
 
 pub returns-clause-given : goal.returns-clause-given

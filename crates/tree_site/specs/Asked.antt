@@ -1,12 +1,10 @@
--- What was asked of a listed site.
-use Rattle.std.specs.Prelude.{ℕ, ◌+◌, ◌-◌, Bool, List, map, take}
+-- What was asked of a site.
+use Rattle.std.specs.Prelude.{ℕ, ◌+◌, ◌-◌, Bool, List, map}
 use Rattle.std.specs.List.{sum_by}
-use Rattle.machine_port.specs.Prepared.{answer_claim, answer_of}
-use Rattle.machine_port.specs.declared.listed_site.Asked.{Asked}
-use Rattle.machine_port.specs.declared.listed_site.Asked.TheVariants as asked
-use Rattle.machine_port.specs.declared.listed_site.ListedSite.{ListedSite}
-use Rattle.machine_port.specs.declared.prepared.Prepared.{Prepared}
-use Rattle.machine_port.specs.declared.site_file.SiteFile.{SiteFile}
+use Rattle.tree_site.specs.Prepared.{answer_claim, answer_of}
+use Rattle.tree_site.specs.declared.asked.Asked.{Asked}
+use Rattle.tree_site.specs.declared.asked.Asked.TheVariants as asked
+use Rattle.tree_site.specs.declared.prepared.Prepared.{Prepared}
 use Rattle.site_words.specs.PageSteps as asks
 use Rattle.site_words.specs.Running.{Asking}
 use Rattle.site_words.specs.Weights.{promise, step_weight}
@@ -31,11 +29,3 @@ asking_by steps used has_session = record {
   has_session = has_session;
   left = promise - (sum_by step_claim steps + sum_by answer_claim used);
 }
-
--- the same of a site
-abbrev pub asking_of : ListedSite → Asking
-asking_of site = asking_by site.asked.items (take site.used site.answers.items) site.has_session
-
--- a site's files
-abbrev pub files_of : ListedSite → List SiteFile
-files_of site = site.files.items

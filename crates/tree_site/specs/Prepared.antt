@@ -1,7 +1,7 @@
 -- Answers that are prepared.
 use Rattle.std.specs.Prelude.{◌≡◌, ℕ, true, List, Some, slice_get}
-use Rattle.machine_port.specs.declared.prepared.Prepared.{Prepared}
-use Rattle.machine_port.specs.declared.prepared.Prepared.TheVariants as prepared
+use Rattle.tree_site.specs.declared.prepared.Prepared.{Prepared}
+use Rattle.tree_site.specs.declared.prepared.Prepared.TheVariants as prepared
 use Rattle.site_words.specs.Law.{Answer, told, id}
 use Rattle.site_words.specs.Running.{fits_step_reply, keeps_limits}
 use Rattle.site_words.specs.Weights.{answer_weight}

@@ -1,4 +1,4 @@
--- What is asked of a listed site, and what it answers.
+-- What is asked of a site, and what it answers.
 use Rattle.std.proofs.Common.{◌≡◌, ◌≤◌, ◌+◌, ◌-◌, ◌∙◌, ℕ, Bool, true, false, List, [], ◌∷◌, ◌++◌, Some, Ok, take, refl, sym, ap, subst, arith}
 use Rattle.std.specs.Prelude.{◌||◌, nat_lt, slice_get}
 use Rattle.std.specs.List.{sum_by}
@@ -6,12 +6,12 @@ use Rattle.std.proofs.lemmas.Bool.Decides.{nat_tests}
 use Rattle.std.proofs.lemmas.List.{map-append, take_more}
 use Rattle.std.proofs.lemmas.Option.{get_or_from_slice_get, slice_get_within}
 use Rattle.std.proofs.lemmas.List.Sums.{sum_by-append}
-use Rattle.machine_port.specs.Asked.{asking_by, step_claim, step_of}
-use Rattle.machine_port.specs.Prepared.{ReplyAt, answer_claim, answer_of, session_of}
-use Rattle.machine_port.specs.declared.listed_site.Asked.{Asked}
-use Rattle.machine_port.specs.declared.listed_site.Asked.TheVariants as asked
-use Rattle.machine_port.specs.declared.prepared.Prepared.{Prepared}
-use Rattle.machine_port.specs.declared.prepared.Prepared.TheVariants as prepared
+use Rattle.tree_site.specs.Asked.{asking_by, step_claim, step_of}
+use Rattle.tree_site.specs.Prepared.{ReplyAt, answer_claim, answer_of, session_of}
+use Rattle.tree_site.specs.declared.asked.Asked.{Asked}
+use Rattle.tree_site.specs.declared.asked.Asked.TheVariants as asked
+use Rattle.tree_site.specs.declared.prepared.Prepared.{Prepared}
+use Rattle.tree_site.specs.declared.prepared.Prepared.TheVariants as prepared
 use Rattle.pg_value.specs.Datum.{Datum}
 use Rattle.pg_value.specs.Limits.{is_over, is_too_deep, is_too_heavy}
 use Rattle.pg_value.specs.Value.{datum_of}

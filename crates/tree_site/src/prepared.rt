@@ -1,5 +1,5 @@
 ghost use Rattle.std.specs.Prelude.{◌≡◌, Some, true, slice_get, IfOk};
-ghost use Rattle.machine_port.specs.Prepared.{IsFit, ReplyAt, session_of};
+ghost use Rattle.tree_site.specs.Prepared.{IsFit, ReplyAt, session_of};
 
 use pg_value::is_too_large;
 use site_words::{AppReply, AppStep, Fresh};
@@ -40,7 +40,11 @@ fn copied(reply: &AppReply) -> Result<AppReply, AllocError>
 }
 
 /// The answer at this index, where it is one to this step; an answer that isn't is as none.
-pub fn reply_at(answers: &[Prepared], at: usize, step: &AppStep) -> Result<AppReply, AllocError>
+pub(crate) fn reply_at(
+    answers: &[Prepared],
+    at: usize,
+    step: &AppStep,
+) -> Result<AppReply, AllocError>
     ensures { IfOk result (ReplyAt answers.now at step.now) }
 {
     let Some(Prepared::Reply(reply)) = answers.get(at) else {
@@ -53,7 +57,7 @@ pub fn reply_at(answers: &[Prepared], at: usize, step: &AppStep) -> Result<AppRe
 }
 
 /// The session at this index, where one is prepared there.
-pub fn session_at(answers: &[Prepared], at: usize) -> Result<Fresh, AllocError>
+pub(crate) fn session_at(answers: &[Prepared], at: usize) -> Result<Fresh, AllocError>
     ensures { IfOk result (λ fresh. slice_get answers.now at ≡ Some (session_of fresh)) }
 {
     let Some(Prepared::Session(fresh)) = answers.get(at) else {

@@ -1,4 +1,0 @@
-pub mod Asked
-pub mod Files
-pub mod Kinds
-pub mod Prepared
