@@ -30,55 +30,62 @@ const PUBLISHED: &str =
 const NOT_FOUND: &str =
     "HTTP/1.1 404 Not Found\r\nContent-Type: text/plain;charset=UTF-8\r\nContent-Length: 9\r\n\r\nNotFound\n";
 
-// Whether the connection of this number was answered so, and with nothing else.
-fn is_answer(answers: &[Vec<u8>], number: usize, wanted: &str) -> bool {
-    match answers.get(number) {
-        Some(answer) => answer.as_slice() == wanted.as_bytes(),
-        None => false,
+// What is said on the connections of one round, and what is answered on each.
+#[derive(Clone, Copy)]
+struct Row {
+    said: Said<'static>,
+    is_held: bool,
+    answers: &'static [&'static str],
+}
+
+// Two requests are answered at once: one thread for all would answer nobody while the first operation is held, and so would a lock that is
+// held over a request. Readers can't edit. What is seen on the port of previews isn't seen on that of readers.
+const ROWS: [Row; 3] = [
+    Row {
+        said: Said {
+            readers: &[ANN, BOB],
+            editors: &[],
+            previews: &[],
+        },
+        is_held: true,
+        answers: &[TO_ANN, TO_BOB],
+    },
+    Row {
+        said: Said {
+            readers: &[PUBLISH],
+            editors: &[PUBLISH],
+            previews: &[],
+        },
+        is_held: false,
+        answers: &[NOT_FOUND, PUBLISHED],
+    },
+    Row {
+        said: Said {
+            readers: &[ANN],
+            editors: &[],
+            previews: &[DRAFT],
+        },
+        is_held: false,
+        answers: &[TO_ANN, SHOWN],
+    },
+];
+
+// Whether each connection was answered so, and with nothing else.
+fn are_answers(answers: &[Vec<u8>], wanted: &[&str]) -> bool {
+    for (answer, text) in answers.iter().zip(wanted.iter()) {
+        if answer.as_slice() != text.as_bytes() {
+            return false;
+        }
     }
-}
-
-// One thread for all would answer nobody while it is held, and so would a lock that is held over a request.
-#[test]
-fn two_requests_are_answered_at_once(rt: HostRuntime) -> Result<(), Fail> {
-    let site = opened(rt.alloc(), &FILES, 0, 3)?;
-    let said = Said {
-        readers: &[ANN, BOB],
-        editors: &[],
-        previews: &[],
-    };
-    let came = come_of(&rt, rt.alloc(), site, said, true)?;
-    assert!(rt; !came.gave_up);
-    assert!(rt; is_answer(came.readers.as_slice(), 0, TO_ANN));
-    assert!(rt; is_answer(came.readers.as_slice(), 1, TO_BOB));
-    Ok(())
+    answers.len() == wanted.len()
 }
 
 #[test]
-fn readers_cannot_edit(rt: HostRuntime) -> Result<(), Fail> {
-    let site = opened(rt.alloc(), &FILES, 0, 2)?;
-    let said = Said {
-        readers: &[PUBLISH],
-        editors: &[PUBLISH],
-        previews: &[],
-    };
-    let came = come_of(&rt, rt.alloc(), site, said, false)?;
-    assert!(rt; is_answer(came.readers.as_slice(), 0, NOT_FOUND));
-    assert!(rt; is_answer(came.editors.as_slice(), 0, PUBLISHED));
-    Ok(())
-}
-
-// What is seen on the port of previews isn't seen on that of readers.
-#[test]
-fn drafts_have_a_port_of_their_own(rt: HostRuntime) -> Result<(), Fail> {
-    let site = opened(rt.alloc(), &FILES, 0, 3)?;
-    let said = Said {
-        readers: &[ANN],
-        editors: &[],
-        previews: &[DRAFT],
-    };
-    let came = come_of(&rt, rt.alloc(), site, said, false)?;
-    assert!(rt; is_answer(came.readers.as_slice(), 0, TO_ANN));
-    assert!(rt; is_answer(came.previews.as_slice(), 0, SHOWN));
+fn connections_are_answered(rt: HostRuntime) -> Result<(), Fail> {
+    for row in &ROWS {
+        let site = opened(rt.alloc(), &FILES, 0, 3)?;
+        let came = come_of(&rt, rt.alloc(), site, row.said, row.is_held)?;
+        assert!(rt; !came.gave_up && are_answers(&came.answers, row.answers));
+    }
     Ok(())
 }

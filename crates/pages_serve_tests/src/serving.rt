@@ -22,13 +22,11 @@ pub struct Said<'a> {
     pub previews: &'a [&'a str],
 }
 
-/// The site behind the round, what was written to each connection, and whether the gate gave up.
+/// The site behind the round; what was written to each connection, to readers first and for previews last; and whether the gate gave up.
 #[derive(Drop)]
 pub struct Came {
     pub site: Site<Made>,
-    pub readers: Vec<Vec<u8>>,
-    pub editors: Vec<Vec<u8>>,
-    pub previews: Vec<Vec<u8>>,
+    pub answers: Vec<Vec<u8>>,
     pub gave_up: bool,
 }
 
@@ -40,40 +38,31 @@ pub fn come_of<R: Threads + Wait + Sync>(
     said: Said<'_>,
     is_held: bool,
 ) -> Result<Came, Fail> {
-    let readers = wires_of(alloc, said.readers)?;
-    let editors = wires_of(alloc, said.editors)?;
-    let previews = wires_of(alloc, said.previews)?;
+    let wires = wires_of(alloc, said)?;
     let gave_up = AtomicU64::new(0);
-    let gate = HeldGate {
-        wires: readers.as_slice(),
-        passed: AtomicU64::new(if is_held { 0 } else { 1 }),
-        gave_up: &gave_up,
-    };
-    let site = serve_once(
-        rt,
-        alloc,
-        site,
-        gate,
-        readers.as_slice(),
-        editors.as_slice(),
-        previews.as_slice(),
-    )?;
+    let site = served(rt, alloc, site, said, is_held, &wires, &gave_up)?;
     let gave_up = gave_up.load(Ordering::SeqCst) > 0;
     Ok(Came {
         site,
-        readers: taken_of(alloc, readers)?,
-        editors: taken_of(alloc, editors)?,
-        previews: taken_of(alloc, previews)?,
+        answers: taken_of(alloc, wires)?,
         gave_up,
     })
 }
 
-fn wires_of(alloc: Global, texts: &[&str]) -> Result<Vec<Wire>, Fail> {
+// The connections, those to readers first and those for previews last.
+fn wires_of(alloc: Global, said: Said<'_>) -> Result<Vec<Wire>, Fail> {
     let mut wires = Vec::new(alloc);
+    add_wires(alloc, &mut wires, said.readers)?;
+    add_wires(alloc, &mut wires, said.editors)?;
+    add_wires(alloc, &mut wires, said.previews)?;
+    Ok(wires)
+}
+
+fn add_wires(alloc: Global, wires: &mut Vec<Wire>, texts: &[&str]) -> Result<(), Fail> {
     for text in texts {
         wires.push(Wire::new(alloc, text)?)?;
     }
-    Ok(wires)
+    Ok(())
 }
 
 fn taken_of(alloc: Global, wires: Vec<Wire>) -> Result<Vec<Vec<u8>>, Fail> {
@@ -82,6 +71,26 @@ fn taken_of(alloc: Global, wires: Vec<Wire>) -> Result<Vec<Vec<u8>>, Fail> {
         taken.push(wire.into_taken())?;
     }
     Ok(taken)
+}
+
+// One round over these connections.
+fn served<R: Threads + Wait + Sync>(
+    rt: &R,
+    alloc: Global,
+    site: Site<Made>,
+    said: Said<'_>,
+    is_held: bool,
+    wires: &[Wire],
+    gave_up: &AtomicU64,
+) -> Result<Site<Made>, Fail> {
+    let (readers, others) = wires.split_at(said.readers.len().min(wires.len()));
+    let (editors, previews) = others.split_at(said.editors.len().min(others.len()));
+    let gate = HeldGate {
+        wires: readers,
+        passed: AtomicU64::new(if is_held { 0 } else { 1 }),
+        gave_up,
+    };
+    serve_once(rt, alloc, site, gate, readers, editors, previews)
 }
 
 // One round. Where nobody asks for a preview there is no port for them.
