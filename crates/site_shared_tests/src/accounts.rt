@@ -2,7 +2,6 @@
 use crate::journal::{FIRST, agreeing, entries, errand, hits, prepare};
 use crate::meeting::{Job, Watch};
 use crate::passes::site_after;
-use crate::single::site_alone;
 use pg_text::{BadPath, Failure};
 use site_core::Site;
 use site_core_tests::{AMPLE, Word, opened, told};
@@ -82,32 +81,4 @@ pub fn visited(alloc: Global, site: Option<Site<Word>>, from: usize) -> Result<S
         Some(site) => entries(alloc, site.history(), from),
         None => nothing(alloc),
     }
-}
-
-/// The entries from this place on of a site whose first pass visited it alone so many times; and how many visits a picture of
-/// the session told at the end.
-pub fn alone(
-    alloc: Global,
-    cookie: &str,
-    times: u32,
-    from: usize,
-) -> Result<String, Failure<BadPath>> {
-    let errand = errand(alloc, cookie)?;
-    match site_for(alloc, 1)? {
-        Some(site) => match site_alone(alloc, site, &errand, times) {
-            Some((site, count)) => Ok(with_count(alloc, &site, from, count)?),
-            None => Ok(nothing(alloc)?),
-        },
-        None => Ok(nothing(alloc)?),
-    }
-}
-
-fn with_count(
-    alloc: Global,
-    site: &Site<Word>,
-    from: usize,
-    count: i64,
-) -> Result<String, AllocError> {
-    let lines = entries(alloc, site.history(), from)?;
-    format!(in alloc; "{lines}{count} visits\n")
 }

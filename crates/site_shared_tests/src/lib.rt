@@ -10,8 +10,6 @@ mod meeting;
 #[cfg(test)]
 mod passes;
 #[cfg(test)]
-mod single;
-#[cfg(test)]
 mod thread_cases;
 #[cfg(test)]
 mod visiting;

@@ -94,13 +94,8 @@ pub fn work<P: Compiled, Q: Port<P>>(
     }
 }
 
-/// Visits the site so many times.
-pub fn visit_often<P: Compiled, Q: Port<P>>(
-    alloc: Global,
-    port: &mut Q,
-    errand: &Errand,
-    times: u32,
-)
+// Visits the site so many times.
+fn visit_often<P: Compiled, Q: Port<P>>(alloc: Global, port: &mut Q, errand: &Errand, times: u32)
     requires { IsIdle (Q.opening port.old) (Q.pass port.old) (Q.seen port.old) }
     ensures same { IsSamePort (Q.pass port.old) (Q.pass port.new) (Q.opening port.old) (Q.opening port.new)
         (Q.home port.old) (Q.home port.new) }

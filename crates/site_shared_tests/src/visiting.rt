@@ -142,8 +142,8 @@ fn counted(alloc: Global, attrs: &Attrs) -> Result<Attrs, AllocError> {
     Ok(counted)
 }
 
-/// How often a session was visited.
-pub fn visits(attrs: &Attrs) -> i64 {
+// How often a session was visited.
+fn visits(attrs: &Attrs) -> i64 {
     match attrs.get("n") {
         Some(Value::Int(number)) => *number,
         _ => 0,
