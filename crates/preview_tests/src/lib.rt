@@ -1,7 +1,5 @@
-//! Tests of previews.
+//! Tests of previews of a site that has something.
 #![tactic(auto)]
 
 #[cfg(test)]
 mod live;
-#[cfg(test)]
-mod played;

@@ -3,13 +3,15 @@
 //! A row is some lines up to an empty one: first what is done, then what is said. `play` has a
 //! conversation in pieces of one byte and of 4,096; `cut` ends it at each byte in turn; `reads` and
 //! `writes` let one read or write after the other fail; `both` has one as an editor and a reader,
-//! and behind a line `reader` another as a reader alone; `words` gives the command `play` other
-//! words, and `load` gives `load` a number. A line that begins with `# ` says what the rows behind
-//! it show. In writing `¶` ends a line as HTTP does and `↵` by a line feed alone, and `«9 x»` is x
-//! nine times. The lines are written as they are read, and behind each row, after `> `, comes what
-//! is told: a status, and the answers.
+//! and behind a line `reader` another as a reader alone; `contexts` with names and `preview` have
+//! one by these commands; `words` gives the command `play` other words, and `load` gives `load` a
+//! number. A line that begins with `# ` says what the rows behind it show. In writing `¶` ends a
+//! line as HTTP does and `↵` by a line feed alone, and `«9 x»` is x nine times. The lines are
+//! written as they are read, and behind each row, after `> `, comes what is told: a status, and the
+//! answers.
 #![tactic(auto)]
 
+mod desks;
 mod failing;
 mod loading;
 mod playing;
@@ -54,6 +56,8 @@ fn told(alloc: Global, lines: &[String]) -> Result<String, AllocError> {
         "reads" => failing::reads(alloc, &input_of(alloc, said)?),
         "writes" => failing::writes(alloc, &input_of(alloc, said)?),
         "both" => roles::told(alloc, said),
+        "contexts" => desks::contexts_told(alloc, first.as_str(), said),
+        "preview" => desks::preview_told(alloc, first.as_str(), said),
         "load" => loading::told(alloc, words, !said.is_empty()),
         _ => {
             let (status, text) = playing::worded(alloc, words)?;

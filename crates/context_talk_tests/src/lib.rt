@@ -1,5 +1,0 @@
-//! Tests of a connection to several contexts.
-#![tactic(auto)]
-
-#[cfg(test)]
-mod played;
