@@ -1,98 +1,35 @@
-use pg_value::{
-    Attrs, Function, PageSettings, Record, RunFault, Text, Value, Values, depth, from_json,
-    is_too_large, weight,
-};
+use pg_value::{Attrs, PageSettings, Record, RunFault, Text, Value, Values, from_json};
 use std::alloc::{AllocError, Global};
 use std::fmt::Write;
 use std::test::Fail;
 
-// Whether two JSON texts have one value.
-fn are_same(alloc: Global, one: &str, other: &str) -> Result<bool, Fail> {
-    let one = from_json(alloc, one.as_bytes())?;
-    let other = from_json(alloc, other.as_bytes())?;
-    Ok(one == other)
-}
-
-#[test]
-fn of_equal_keys_the_last_stands(rt: HostRuntime) -> Result<(), Fail> {
-    for &(one, other, same) in &[
-        (
-            "{\"b\":[1,\"x\",null],\"a\":1,\"a\":{}}",
-            "{\"a\":{},\"b\":[1,\"x\",null]}",
-            true,
-        ),
-        ("{\"b\":[1,\"x\",null],\"a\":1,\"a\":{}}", "null", false),
-    ] {
-        assert_eq!(rt; are_same(rt.alloc(), one, other)?, same);
-    }
-    Ok(())
-}
-
-// Whether a copy of the value of a JSON text is equal to it.
-fn is_its_copy(alloc: Global, json: &str) -> Result<bool, Fail> {
+// Whether a copy of the value of a JSON text is the value of another.
+fn is_copied(alloc: Global, json: &str, other: &str) -> Result<bool, Fail> {
     let value = from_json(alloc, json.as_bytes())?;
     let copy = value.copy()?;
-    Ok(copy == value)
+    Ok(copy == from_json(alloc, other.as_bytes())?)
 }
 
+// A JSON text, another, and whether they have one value. Of equal keys the last stands.
+const VALUES: [(&str, &str, bool); 7] = [
+    (
+        "{\"b\":[1,\"x\",null],\"a\":1,\"a\":{}}",
+        "{\"a\":{},\"b\":[1,\"x\",null]}",
+        true,
+    ),
+    ("{\"b\":[1,\"x\",null],\"a\":1,\"a\":{}}", "null", false),
+    ("\"a\"", "\"a\"", true),
+    ("\"a\"", "[]", false),
+    ("[]", "\"a\"", false),
+    ("[]", "{}", false),
+    ("{}", "{}", true),
+];
+
 #[test]
-fn a_copy_is_equal(rt: HostRuntime) -> Result<(), Fail> {
-    for &json in &["{\"b\":[1,\"x\",null],\"a\":1,\"a\":{}}", "\"a\""] {
-        assert!(rt; is_its_copy(rt.alloc(), json)?);
+fn copies_are_equal(rt: HostRuntime) -> Result<(), Fail> {
+    for &(json, other, same) in &VALUES {
+        assert!(rt; is_copied(rt.alloc(), json, other)? == same);
     }
-    Ok(())
-}
-
-// How many entries the record of a JSON text has, and what the value under a key weighs.
-fn entry(alloc: Global, json: &str, key: &str) -> Result<(usize, Option<u64>), Fail> {
-    let value = from_json(alloc, json.as_bytes())?;
-    let Value::Rec(entries) = &value else {
-        return Err("a record".into());
-    };
-    Ok((entries.len(), entries.get(key).map(|value| weight(value))))
-}
-
-#[test]
-fn an_entry_is_found_by_its_key(rt: HostRuntime) -> Result<(), Fail> {
-    for &(key, weight) in &[("b", Some(57)), ("c", None)] {
-        let found = entry(rt.alloc(), "{\"b\":[1,\"x\",null],\"a\":1,\"a\":{}}", key)?;
-        assert_eq!(rt; found, (2, weight));
-    }
-    Ok(())
-}
-
-#[test]
-fn values_are_weighed_and_measured(rt: HostRuntime) -> Result<(), Fail> {
-    for &(text, heavy, deep) in &[
-        ("null", 8, 0),
-        ("true", 8, 0),
-        ("7", 16, 0),
-        ("\"abc\"", 19, 0),
-        ("[]", 16, 1),
-        ("[1,\"x\",null]", 57, 1),
-        ("{\"a\":1,\"b\":2}", 82, 1),
-        ("{\"items\":[{\"n\":2}]}", 102, 3),
-    ] {
-        let value = from_json(rt.alloc(), text.as_bytes())?;
-        let measured = (weight(&value), depth(&value), is_too_large(&value));
-        assert_eq!(rt; measured, (heavy, deep, false));
-    }
-    Ok(())
-}
-
-#[test]
-fn lists_and_records_are_made_of_a_vec(rt: HostRuntime) -> Result<(), Fail> {
-    let list = Value::List(Values::new(Vec::new(rt.alloc()))?);
-    let record = Value::Rec(Record::new(Attrs::empty(rt.alloc()))?);
-    assert!(rt; list != record);
-    Ok(())
-}
-
-#[test]
-fn a_text_is_no_list(rt: HostRuntime) -> Result<(), Fail> {
-    let list = Value::List(Values::new(Vec::new(rt.alloc()))?);
-    let text = Value::Text(Text::copy_of(rt.alloc(), "a")?);
-    assert!(rt; text != list);
     Ok(())
 }
 
@@ -122,107 +59,129 @@ fn are_record(alloc: Global, entries: Attrs, json: &str) -> Result<bool, Fail> {
     Ok(record == from_json(alloc, json.as_bytes())?)
 }
 
-// Entries that were put one after the other.
+// Entries under these keys, numbered from 1, that were put one after the other.
 fn inserted(alloc: Global, keys: &[&str]) -> Result<Attrs, AllocError> {
     let mut entries = Attrs::empty(alloc);
-    for (key, value) in numbered(alloc, keys)? {
-        entries.insert(key, value)?;
+    let mut number: i64 = 0;
+    for key in keys {
+        number = number.wrapping_add(1);
+        entries.insert(Text::copy_of(alloc, key)?, Value::Int(number))?;
     }
     Ok(entries)
 }
 
-#[test]
-fn entries_are_put_in_order(rt: HostRuntime) -> Result<(), Fail> {
-    let entries = inserted(rt.alloc(), &["b", "c", "a", "b"])?;
-    assert_eq!(rt; entries.len(), 3);
-    let json = "{\"a\":3,\"b\":4,\"c\":2}";
-    assert!(rt; are_record(rt.alloc(), entries, json)?);
-    Ok(())
+// How entries are made: put one after the other, and then some taken out of them or of what they were copied from; or all at once, where
+// of equal ones the last stands, or the first.
+#[derive(Clone, Copy)]
+enum Way {
+    Put,
+    Taken,
+    Copied,
+    Last,
+    First,
+}
+
+// Entries under the keys `b`, `c`, `a` and `b` that are made so.
+fn made(alloc: Global, way: Way) -> Result<Attrs, AllocError> {
+    let keys = ["b", "c", "a", "b"];
+    match way {
+        Way::Put => inserted(alloc, &keys),
+        Way::Taken => {
+            let mut entries = inserted(alloc, &keys)?;
+            entries.remove("c");
+            entries.remove("d");
+            Ok(entries)
+        }
+        Way::Copied => {
+            let mut entries = inserted(alloc, &keys)?;
+            let copy = entries.copy()?;
+            entries.remove("c");
+            Ok(copy)
+        }
+        Way::Last => Attrs::from_entries(numbered(alloc, &keys)?),
+        Way::First => Attrs::from_first_entries(numbered(alloc, &keys)?),
+    }
 }
 
 #[test]
-fn entries_are_taken_out(rt: HostRuntime) -> Result<(), Fail> {
-    let mut entries = inserted(rt.alloc(), &["b", "c", "a", "b"])?;
-    let copy = entries.copy()?;
-    entries.remove("c");
-    entries.remove("d");
-    assert!(rt; are_record(rt.alloc(), entries, "{\"a\":3,\"b\":4}")?);
-    assert!(rt; are_record(rt.alloc(), copy, "{\"a\":3,\"b\":4,\"c\":2}")?);
+fn entries_are_made(rt: HostRuntime) -> Result<(), Fail> {
+    for &(way, json) in &[
+        (Way::Put, "{\"a\":3,\"b\":4,\"c\":2}"),
+        (Way::Taken, "{\"a\":3,\"b\":4}"),
+        (Way::Copied, "{\"a\":3,\"b\":4,\"c\":2}"),
+        (Way::Last, "{\"a\":3,\"b\":4,\"c\":2}"),
+        (Way::First, "{\"a\":3,\"b\":1,\"c\":2}"),
+    ] {
+        let entries = made(rt.alloc(), way)?;
+        assert!(rt; are_record(rt.alloc(), entries, json)?);
+    }
     Ok(())
 }
 
-#[test]
-fn of_equal_entries_the_last_stands(rt: HostRuntime) -> Result<(), Fail> {
-    let entries = numbered(rt.alloc(), &["b", "c", "a", "b"])?;
-    let last = Attrs::from_entries(entries)?;
-    let json = "{\"a\":3,\"b\":4,\"c\":2}";
-    assert!(rt; are_record(rt.alloc(), last, json)?);
-    Ok(())
+fn record_of(alloc: Global, keys: &[&str]) -> Result<Record, AllocError> {
+    Record::new(Attrs::from_entries(numbered(alloc, keys)?)?)
 }
 
-#[test]
-fn of_equal_entries_the_first_stands_where_that_is_asked(rt: HostRuntime) -> Result<(), Fail> {
-    let entries = numbered(rt.alloc(), &["b", "c", "a", "b"])?;
-    let first = Attrs::from_first_entries(entries)?;
-    let json = "{\"a\":3,\"b\":1,\"c\":2}";
-    assert!(rt; are_record(rt.alloc(), first, json)?);
-    Ok(())
+fn put_null(alloc: Global, record: &mut Record, key: &str) -> Result<(), AllocError> {
+    record.insert(Text::copy_of(alloc, key)?, Value::Null)
+}
+
+fn change(alloc: Global, record: &mut Record) -> Result<(), AllocError> {
+    put_null(alloc, record, "b")?;
+    put_null(alloc, record, "a")
 }
 
 // A record of a number under `a`, and behind it what became of it: null under `a` and `b`.
 fn changed(alloc: Global) -> Result<(Record, Record), AllocError> {
-    let mut record = Record::new(Attrs::from_entries(numbered(alloc, &["a"])?)?)?;
+    let mut record = record_of(alloc, &["a"])?;
     let copy = record.copy()?;
-    record.insert(Text::copy_of(alloc, "b")?, Value::Null)?;
-    record.insert(Text::copy_of(alloc, "a")?, Value::Null)?;
+    change(alloc, &mut record)?;
     Ok((copy, record))
 }
 
 #[test]
 fn a_shared_record_is_changed_alone(rt: HostRuntime) -> Result<(), Fail> {
     let (copy, record) = changed(rt.alloc())?;
-    assert_eq!(rt; (copy.len(), copy.weight()), (1, 49));
-    assert_eq!(rt; (record.len(), record.weight(), record.depth()), (2, 66, 1));
+    let before = (copy.len(), copy.weight());
+    let behind = (record.len(), record.weight(), record.depth());
+    assert!(rt; before == (1, 49) && behind == (2, 66, 1));
     Ok(())
+}
+
+// How many entries a record has, and one that shares them.
+fn counts(record: Record) -> Result<(usize, usize), AllocError> {
+    let shared = record.copy()?;
+    let count = record.into_attrs()?.len();
+    Ok((count, shared.into_attrs()?.len()))
 }
 
 #[test]
 fn the_entries_of_a_shared_record_are_taken_out(rt: HostRuntime) -> Result<(), Fail> {
-    let (_, record) = changed(rt.alloc())?;
-    let shared = record.copy()?;
-    assert_eq!(rt; record.into_attrs()?.len(), 2);
-    assert_eq!(rt; shared.into_attrs()?.len(), 2);
+    let record = record_of(rt.alloc(), &["a", "b"])?;
+    assert_eq!(rt; counts(record)?, (2, 2));
     Ok(())
 }
 
-// As a large form may have them.
-#[test]
-fn many_names_are_a_record_soon(rt: HostRuntime) -> Result<(), Fail> {
-    let alloc = rt.alloc();
+fn scattered_key(alloc: Global, number: u32) -> Result<Text, AllocError> {
+    let scattered = number.wrapping_mul(2_654_435_761) % 25_000;
+    let mut key = String::new(alloc);
+    write!(key, "{scattered}")?;
+    Text::new(key)
+}
+
+// How many entries are left of 30,000, as a large form may have them.
+fn count_of_many(alloc: Global) -> Result<usize, AllocError> {
     let mut entries = Vec::new(alloc);
     for number in 0..30_000u32 {
-        let scattered = number.wrapping_mul(2_654_435_761) % 25_000;
-        let mut key = String::new(alloc);
-        write!(key, "{scattered}")?;
-        entries.push((Text::new(key)?, Value::Null))?;
+        entries.push((scattered_key(alloc, number)?, Value::Null))?;
     }
-    let record = Attrs::from_first_entries(entries)?;
-    assert!(rt; record.len() > 10_000);
-    Ok(())
+    Ok(Attrs::from_first_entries(entries)?.len())
 }
 
 #[test]
-fn functions_have_names(rt: HostRuntime) {
-    for &(name, arity) in &[
-        ("containsIgnoreCase", Some(2)),
-        ("trim", Some(1)),
-        ("replace", Some(3)),
-        ("Trim", None),
-        ("", None),
-    ] {
-        let found = Function::of_name(name).map(|function| function.arity());
-        assert_eq!(rt; found, arity);
-    }
+fn many_names_are_a_record_soon(rt: HostRuntime) -> Result<(), Fail> {
+    assert!(rt; count_of_many(rt.alloc())? > 10_000);
+    Ok(())
 }
 
 #[test]

@@ -5,7 +5,7 @@ use crate::shown::{fault_told, text_told, value_told};
 use el_coercion::{to_bool, to_int, to_text};
 use el_ops::{binary, index, unary};
 use jstl_functions::call;
-use pg_value::{Failure, Function, JsonFault, Value, from_json};
+use pg_value::{Failure, Function, JsonFault, Value, depth, from_json, is_too_large, weight};
 use std::alloc::{AllocError, Global};
 
 /// Why the first of these texts has no value, where it has none.
@@ -53,10 +53,17 @@ pub fn one_told(alloc: Global, act: &str, word: &str, value: &Value) -> Result<S
             Ok(truth) => format!(in alloc; "{truth}"),
             Err(fault) => String::from_str(alloc, fault.name()),
         },
+        "measure" => measured_told(alloc, value),
         "unary" => value_told(alloc, unary(unary_of(word), value).map_err(Failure::Fault)),
         "rounds" => rounds_told(alloc, word, value),
         _ => call_told(alloc, word, value),
     }
+}
+
+// What a value weighs, how deep it is, and whether one of these is over its limit.
+fn measured_told(alloc: Global, value: &Value) -> Result<String, AllocError> {
+    let (heavy, deep, large) = (weight(value), depth(value), is_too_large(value));
+    format!(in alloc; "{heavy} {deep} {large}")
 }
 
 /// What comes of two values.
