@@ -6,11 +6,23 @@ use std::alloc::{AllocError, Global};
 
 /// What is told of the piece at the front of a file with this text.
 pub fn told(alloc: Global, kind: &str, words: &str, text: &str) -> Result<String, AllocError> {
-    let setting = setting(alloc, words)?;
     if text.is_empty() || text.len() > 1000 {
         return String::from_str(alloc, "the text is empty or too long");
     }
-    match read_piece(alloc, &setting, &page_path(alloc)?, Spot::start(), text) {
+    let setting = setting(alloc, words)?;
+    let path = page_path(alloc)?;
+    let read = read_piece(alloc, &setting, &path, Spot::start(), text);
+    read_told(alloc, kind, words, read)
+}
+
+// What is told of what was read.
+fn read_told(
+    alloc: Global,
+    kind: &str,
+    words: &str,
+    read: Result<(Piece, &str), Failure<Break>>,
+) -> Result<String, AllocError> {
+    match read {
         Ok((piece, rest)) => piece_told(alloc, kind, words, &piece, rest),
         Err(Failure::Fault(broken)) => break_told(alloc, broken),
         Err(Failure::NoMemory) => Err(AllocError),

@@ -1,7 +1,11 @@
 // What is told of a tree: all of it, the fault that broke the reading off, or how much there is.
+ghost use Rattle.std.specs.Prelude.{◌≤◌, length};
+ghost use Rattle.source_tree.specs.declared.limits.TheConstants.{MAX_FILE_BYTES};
+
 use crate::settings::{page_path, setting};
 use crate::trees::{show_place, shown};
 use page_reader::{Node, PageFault, PageTree, read_page, read_under};
+use pg_text::Path;
 use source_tree::MAX_FILE_BYTES;
 use std::alloc::{AllocError, Global};
 
@@ -13,20 +17,30 @@ pub fn told(
     text: &str,
     part: Option<&String>,
 ) -> Result<String, AllocError> {
-    if text.len() > MAX_FILE_BYTES {
-        return String::from_str(alloc, "the text is too long");
-    }
-    let path = page_path(alloc)?;
-    let tree = if kind == "first" {
-        read_page(alloc, &path, text)?
-    } else {
-        read_under(alloc, &path, text, &setting(alloc, words)?)?
-    };
-    let told = tree_told(alloc, words, &tree)?;
+    let told = page_told(alloc, kind, words, text)?;
     match part {
         Some(part) => format!(in alloc; "{}", told.as_str().contains(part.as_str())),
         None => Ok(told),
     }
+}
+
+fn page_told(alloc: Global, kind: &str, words: &str, text: &str) -> Result<String, AllocError> {
+    if text.len() > MAX_FILE_BYTES {
+        return String::from_str(alloc, "the text is too long");
+    }
+    let path = page_path(alloc)?;
+    if kind == "first" {
+        return tree_told(alloc, words, &read_page(alloc, &path, text)?);
+    }
+    under_told(alloc, &path, words, text)
+}
+
+// What is told of a page that is read under a setting.
+fn under_told(alloc: Global, path: &Path, words: &str, text: &str) -> Result<String, AllocError>
+    requires { length text.now ≤ MAX_FILE_BYTES }
+{
+    let setting = setting(alloc, words)?;
+    tree_told(alloc, words, &read_under(alloc, path, text, &setting)?)
 }
 
 // What these words ask of a tree.
