@@ -3,8 +3,7 @@
 
 #[cfg(test)]
 mod order;
+#[cfg(test)]
 mod parts;
 #[cfg(test)]
 mod tests;
-
-pub use parts::Parts;

@@ -1,4 +1,4 @@
-use crate::Parts;
+use crate::parts::Parts;
 use conversation::{Ended, walk};
 use edges::{Failed, Sink, Source};
 use std::cell::Cell;

@@ -1,141 +1,190 @@
-use crate::Parts;
+use crate::parts::Parts;
 use conversation::{Ended, walk};
 use edges::{MemSink, MemSource};
 use http_in::HttpFault;
+use row_text::written_out;
 use std::alloc::{AllocError, Global};
 use std::test::Fail;
 
-// How a conversation over this input ends, and what it writes. The source and the sink fail at these calls.
+// Requests in writing, the reads and the writes that fail, how the conversation ends, and what it writes. In writing `§` is the rest of a
+// request behind its target, `±` stands between a status and the length of a text, `¶` ends a line, and `«9 x»` is x nine times.
+#[derive(Clone, Copy)]
+struct Row {
+    requests: &'static str,
+    read_fails: &'static [u64],
+    write_fails: &'static [u64],
+    ended: Ended,
+    text: &'static str,
+}
+
+const SIGNS: [(&str, &str); 3] = [
+    ("§", " HTTP/1.1¶Host: h¶¶"),
+    (
+        "±",
+        "¶Content-Type: text/plain;charset=UTF-8¶Content-Length: ",
+    ),
+    ("¶", "\r\n"),
+];
+
+const ROWS: [Row; 17] = [
+    // A response ends in the middle.
+    Row {
+        requests: "GET /a§GET /b§GET /c§",
+        read_fails: &[],
+        write_fails: &[],
+        ended: Ended::Done,
+        text: "</a></b></c>",
+    },
+    Row {
+        requests: "GET /a§GET /broken§GET /c§",
+        read_fails: &[],
+        write_fails: &[],
+        ended: Ended::Done,
+        text: "</a></broken",
+    },
+    Row {
+        requests: "GET /a§GET /starved§GET /c§",
+        read_fails: &[],
+        write_fails: &[],
+        ended: Ended::NoMemory,
+        text: "</a></starved",
+    },
+    Row {
+        requests: "GET /a§GET /b§GET /c§",
+        read_fails: &[],
+        write_fails: &[3],
+        ended: Ended::WriteFault,
+        text: "</a>",
+    },
+    Row {
+        requests: "GET /a§GET /b§GET /c§",
+        read_fails: &[],
+        write_fails: &[4],
+        ended: Ended::WriteFault,
+        text: "</a><",
+    },
+    Row {
+        requests: "GET /a§GET /b§GET /c§",
+        read_fails: &[],
+        write_fails: &[5],
+        ended: Ended::WriteFault,
+        text: "</a></b",
+    },
+    Row {
+        requests: "GET /a§GET /broken§GET /c§",
+        read_fails: &[],
+        write_fails: &[4],
+        ended: Ended::WriteFault,
+        text: "</a><",
+    },
+    Row {
+        requests: "GET /a§GET /starved§GET /c§",
+        read_fails: &[],
+        write_fails: &[4],
+        ended: Ended::NoMemory,
+        text: "</a><",
+    },
+    // The first read gives two requests and the front of the third.
+    Row {
+        requests: "GET /a§GET /b§GET /c§",
+        read_fails: &[1],
+        write_fails: &[],
+        ended: Ended::ReadFault,
+        text: "</a></b>",
+    },
+    // A fault is answered and ends the conversation.
+    Row {
+        requests: "GET /a§GET / HTTP/1.0¶Host: h¶¶",
+        read_fails: &[],
+        write_fails: &[],
+        ended: Ended::Refused(HttpFault::WrongVersion),
+        text: "</a>HTTP/1.1 505 HTTP Version Not Supported±13¶Connection: close¶¶WrongVersion\n",
+    },
+    Row {
+        requests: "GET /a§GET / HTTP/1.1¶¶",
+        read_fails: &[],
+        write_fails: &[],
+        ended: Ended::Refused(HttpFault::BadHead),
+        text: "</a>HTTP/1.1 400 Bad Request±8¶Connection: close¶¶BadHead\n",
+    },
+    Row {
+        requests: "GET /a§GET / HTTP/1.1¶Host: h¶Transfer-Encoding: chunked¶¶",
+        read_fails: &[],
+        write_fails: &[],
+        ended: Ended::Refused(HttpFault::ChunkedRequest),
+        text: "</a>HTTP/1.1 501 Not Implemented±15¶Connection: close¶¶ChunkedRequest\n",
+    },
+    Row {
+        requests: "GET /a§GET / HTTP/1.1¶Host: h¶Content-Length: 1x¶¶",
+        read_fails: &[],
+        write_fails: &[],
+        ended: Ended::Refused(HttpFault::BadLength),
+        text: "</a>HTTP/1.1 400 Bad Request±10¶Connection: close¶¶BadLength\n",
+    },
+    Row {
+        requests: "GET /a§GET / HTTP/1.1¶Host: h¶Content-Length: 2097153¶¶",
+        read_fails: &[],
+        write_fails: &[],
+        ended: Ended::Refused(HttpFault::BodyTooLarge),
+        text: "</a>HTTP/1.1 413 Content Too Large±13¶Connection: close¶¶BodyTooLarge\n",
+    },
+    Row {
+        requests: "GET /a§GET / HTTP/1.1¶Host",
+        read_fails: &[],
+        write_fails: &[],
+        ended: Ended::Refused(HttpFault::CutOff),
+        text: "</a>",
+    },
+    Row {
+        requests: "«1024 GET / HTTP/1.1¶X: »",
+        read_fails: &[],
+        write_fails: &[],
+        ended: Ended::Refused(HttpFault::HeadTooLarge),
+        text: "HTTP/1.1 431 Request Header Fields Too Large±13¶Connection: close¶¶HeadTooLarge\n",
+    },
+    // The last request closes the connection; one more stands behind it.
+    Row {
+        requests: "«65537 GET /§»",
+        read_fails: &[],
+        write_fails: &[],
+        ended: Ended::Done,
+        text: "«65536 </>»",
+    },
+];
+
+// How a conversation over this input ends. The source fails at these reads.
 fn walked(
     alloc: Global,
-    input: &[u8],
-    read_fails: &[u64],
-    write_fails: &[u64],
-) -> Result<(Ended, Vec<u8>), AllocError> {
-    let mut source = MemSource::new(input.to_vec(alloc)?, 64, read_fails.to_vec(alloc)?);
-    let mut sink = MemSink::new(alloc, write_fails.to_vec(alloc)?);
+    input: &str,
+    fails: &[u64],
+    sink: &mut MemSink,
+) -> Result<Ended, AllocError> {
+    let mut source = MemSource::new(input.as_bytes().to_vec(alloc)?, 64, fails.to_vec(alloc)?);
     let (mut port, mut clock, mut count) = (0, 0, 0);
-    let ended = walk(
+    Ok(walk(
         alloc,
         &mut Parts,
         &mut port,
         &mut clock,
         &mut count,
         &mut source,
-        &mut sink,
-    );
-    Ok((ended, sink.taken().to_vec(alloc)?))
+        sink,
+    ))
 }
 
-// Requests for these targets, one after the other.
-fn requests(alloc: Global, targets: &[&str]) -> Result<String, AllocError> {
-    let mut input = String::new(alloc);
-    for target in targets {
-        input.push_str(&format!(in alloc; "GET {target} HTTP/1.1\r\nHost: h\r\n\r\n")?)?;
-    }
-    Ok(input)
+// Whether the conversation of a row ends as it is due, and writes that and nothing else.
+fn is_due(alloc: Global, row: &Row) -> Result<bool, AllocError> {
+    let input = written_out(alloc, row.requests, &SIGNS)?;
+    let text = written_out(alloc, row.text, &SIGNS)?;
+    let mut sink = MemSink::new(alloc, row.write_fails.to_vec(alloc)?);
+    let ended = walked(alloc, input.as_str(), row.read_fails, &mut sink)?;
+    Ok(ended == row.ended && sink.taken() == text.as_bytes())
 }
-
-// The second of three requests, the writes that fail, how the conversation ends, and what it writes.
-const MIDDLES: [(&str, &[u64], Ended, &str); 8] = [
-    ("/b", &[], Ended::Done, "</a></b></c>"),
-    ("/broken", &[], Ended::Done, "</a></broken"),
-    ("/starved", &[], Ended::NoMemory, "</a></starved"),
-    ("/b", &[3], Ended::WriteFault, "</a>"),
-    ("/b", &[4], Ended::WriteFault, "</a><"),
-    ("/b", &[5], Ended::WriteFault, "</a></b"),
-    ("/broken", &[4], Ended::WriteFault, "</a><"),
-    ("/starved", &[4], Ended::NoMemory, "</a><"),
-];
 
 #[test]
-fn a_response_ends_in_the_middle(rt: HostRuntime) -> Result<(), Fail> {
-    for &(second, write_fails, ended, output) in &MIDDLES {
-        let input = requests(rt.alloc(), &["/a", second, "/c"])?;
-        let (found, text) = walked(rt.alloc(), input.as_bytes(), &[], write_fails)?;
-        assert_eq!(rt; found, ended);
-        assert_eq!(rt; text.as_slice(), output.as_bytes());
+fn conversations_end_as_they_are_due(rt: HostRuntime) -> Result<(), Fail> {
+    for row in &ROWS {
+        assert!(rt; is_due(rt.alloc(), row)?);
     }
-    // The first read gives two requests and the front of the third.
-    let input = requests(rt.alloc(), &["/a", "/b", "/c"])?;
-    let (found, text) = walked(rt.alloc(), input.as_bytes(), &[1], &[])?;
-    assert_eq!(rt; found, Ended::ReadFault);
-    assert_eq!(rt; text.as_slice(), b"</a></b>".as_slice());
-    Ok(())
-}
-
-// What stands behind a first request, how that ends the conversation, and the status line and the body of its answer.
-const FAULTS: [(&str, HttpFault, &str, &str); 6] = [
-    (
-        "GET / HTTP/1.0\r\nHost: h\r\n\r\n",
-        HttpFault::WrongVersion,
-        "505 HTTP Version Not Supported",
-        "WrongVersion\n",
-    ),
-    (
-        "GET / HTTP/1.1\r\n\r\n",
-        HttpFault::BadHead,
-        "400 Bad Request",
-        "BadHead\n",
-    ),
-    (
-        "GET / HTTP/1.1\r\nHost: h\r\nTransfer-Encoding: chunked\r\n\r\n",
-        HttpFault::ChunkedRequest,
-        "501 Not Implemented",
-        "ChunkedRequest\n",
-    ),
-    (
-        "GET / HTTP/1.1\r\nHost: h\r\nContent-Length: 1x\r\n\r\n",
-        HttpFault::BadLength,
-        "400 Bad Request",
-        "BadLength\n",
-    ),
-    (
-        "GET / HTTP/1.1\r\nHost: h\r\nContent-Length: 2097153\r\n\r\n",
-        HttpFault::BodyTooLarge,
-        "413 Content Too Large",
-        "BodyTooLarge\n",
-    ),
-    ("GET / HTTP/1.1\r\nHost", HttpFault::CutOff, "", ""),
-];
-
-#[test]
-fn a_fault_is_answered_and_ends_the_conversation(rt: HostRuntime) -> Result<(), Fail> {
-    for &(behind, fault, status, body) in &FAULTS {
-        let mut input = requests(rt.alloc(), &["/a"])?;
-        input.push_str(behind)?;
-        let (ended, text) = walked(rt.alloc(), input.as_bytes(), &[], &[])?;
-        let length = body.len();
-        let answer = if body.is_empty() {
-            String::new(rt.alloc())
-        } else {
-            format!(in rt.alloc();
-                "HTTP/1.1 {status}\r\nContent-Type: text/plain;charset=UTF-8\r\nContent-Length: {length}\r\nConnection: close\r\n\r\n{body}"
-            )?
-        };
-        let wanted = format!(in rt.alloc(); "</a>{answer}")?;
-        assert_eq!(rt; ended, Ended::Refused(fault));
-        assert_eq!(rt; text.as_slice(), wanted.as_bytes());
-    }
-    let long = "GET / HTTP/1.1\r\nX: ".repeat(rt.alloc(), 1_024)?;
-    let (ended, text) = walked(rt.alloc(), long.as_bytes(), &[], &[])?;
-    assert_eq!(rt; ended, Ended::Refused(HttpFault::HeadTooLarge));
-    assert!(rt;
-        text.as_slice()
-            .starts_with(b"HTTP/1.1 431 Request Header Fields Too Large\r\n")
-    );
-    Ok(())
-}
-
-// One request more stands behind the last that is answered.
-#[test]
-fn the_last_request_closes_the_connection(rt: HostRuntime) -> Result<(), Fail> {
-    let input = "GET / HTTP/1.1\r\nHost: h\r\n\r\n".repeat(rt.alloc(), 65_537)?;
-    let (ended, text) = walked(rt.alloc(), input.as_bytes(), &[], &[])?;
-    assert_eq!(rt; ended, Ended::Done);
-    assert_eq!(rt;
-        text.as_slice(),
-        "</>".repeat(rt.alloc(), 65_536)?.as_bytes()
-    );
     Ok(())
 }
