@@ -4,7 +4,7 @@ use std::alloc::{AllocError, Global};
 use std::test::Fail;
 
 // The journal of a connection without a byte.
-const EMPTY: [&[u8]; 7] = [
+const EMPTY: &[&[u8]] = &[
     // the mark
     b"PGJRNL1\n",
     // the seed
@@ -21,7 +21,7 @@ const EMPTY: [&[u8]; 7] = [
 ];
 
 // The journal of a connection that publishes a page and asks for it.
-const FIRST: [&[u8]; 18] = [
+const FIRST: &[&[u8]] = &[
     // the mark
     b"PGJRNL1\n",
     // the seed
@@ -77,71 +77,54 @@ const CHANGED: [(usize, u8, &str); 12] = [
     (55, 2, "no 0 talk\n"),
 ];
 
-// Bytes of several parts, as one.
-fn joined(alloc: Global, parts: &[&[u8]]) -> Result<Vec<u8>, AllocError> {
+// Parts of journals, how many bytes of them stand, the status that is due, and the line.
+const ROWS: [(&[&[&[u8]]], usize, u8, &str); 5] = [
+    (&[], 0, 0, "yes 0 0\n"),
+    (&[EMPTY, EMPTY], 1_000, 0, "yes 2 2\n"),
+    (&[EMPTY, FIRST], 1_000, 0, "yes 2 7\n"),
+    // another opening
+    (&[FIRST, EMPTY], 1_000, 6, "no 1 opening\n"),
+    // a journal that is cut off
+    (&[EMPTY], 155, 6, "notjournal 0\n"),
+];
+
+// The first bytes of these journals, so many where there are as many.
+fn joined(alloc: Global, journals: &[&[&[u8]]], size: usize) -> Result<Vec<u8>, AllocError> {
     let mut bytes = Vec::new(alloc);
-    for part in parts {
-        bytes.extend_from_slice(part)?;
+    for journal in journals {
+        for part in *journal {
+            bytes.extend_from_slice(part)?;
+        }
     }
+    bytes.truncate(size);
     Ok(bytes)
 }
 
-// The status of the program for these bytes, and what it writes.
-fn told(alloc: Global, bytes: Vec<u8>) -> Result<(u8, Vec<u8>), AllocError> {
+// Whether the program has this status for these bytes, and writes this line.
+fn is_told(alloc: Global, bytes: Vec<u8>, status: u8, line: &str) -> bool {
     let mut source = MemSource::new(bytes, 4_096, Vec::new(alloc));
     let mut sink = MemSink::new(alloc, Vec::new(alloc));
-    let status = audit_words(alloc, &[], &mut source, &mut sink);
-    Ok((status, sink.taken().to_vec(alloc)?))
+    let found = audit_words(alloc, &[], &mut source, &mut sink);
+    found == status && sink.taken() == line.as_bytes()
 }
 
 #[test]
-fn right_journals_are_counted(rt: HostRuntime) -> Result<(), Fail> {
-    let alloc = rt.alloc();
-    let empty = joined(alloc, &EMPTY)?;
-    let first = joined(alloc, &FIRST)?;
-    assert_eq!(rt;
-        told(alloc, Vec::new(alloc))?,
-        (0, b"yes 0 0\n".to_vec(alloc)?)
-    );
-    assert_eq!(rt;
-        told(alloc, joined(alloc, &[&empty, &empty])?)?,
-        (0, b"yes 2 2\n".to_vec(alloc)?)
-    );
-    assert_eq!(rt;
-        told(alloc, joined(alloc, &[&empty, &first])?)?,
-        (0, b"yes 2 7\n".to_vec(alloc)?)
-    );
-    Ok(())
-}
-
-#[test]
-fn another_opening_doesnt_go_on(rt: HostRuntime) -> Result<(), Fail> {
-    let alloc = rt.alloc();
-    let both = joined(alloc, &[&joined(alloc, &FIRST)?, &joined(alloc, &EMPTY)?])?;
-    assert_eq!(rt; told(alloc, both)?, (6, b"no 1 opening\n".to_vec(alloc)?));
-    Ok(())
-}
-
-#[test]
-fn a_cut_journal_is_none(rt: HostRuntime) -> Result<(), Fail> {
-    let alloc = rt.alloc();
-    let mut bytes = joined(alloc, &EMPTY)?;
-    bytes.truncate(155);
-    assert_eq!(rt; told(alloc, bytes)?, (6, b"notjournal 0\n".to_vec(alloc)?));
+fn journals_are_judged(rt: HostRuntime) -> Result<(), Fail> {
+    for &(journals, size, status, line) in &ROWS {
+        let bytes = joined(rt.alloc(), journals, size)?;
+        assert!(rt; is_told(rt.alloc(), bytes, status, line));
+    }
     Ok(())
 }
 
 #[test]
 fn one_byte_is_told(rt: HostRuntime) -> Result<(), Fail> {
-    let alloc = rt.alloc();
     for &(place, byte, line) in &CHANGED {
-        let mut bytes = joined(alloc, &FIRST)?;
+        let mut bytes = joined(rt.alloc(), &[FIRST], 1_000)?;
         if place < bytes.len() {
             bytes[place] = byte;
         }
-        let (status, text) = told(alloc, bytes)?;
-        assert_eq!(rt; status, 6);
-        assert_eq!(rt; text.as_slice(), line.as_bytes());
+        assert!(rt; is_told(rt.alloc(), bytes, 6, line));
     }
     Ok(())
 }
