@@ -135,15 +135,26 @@ fn call(alloc: Global, word: &str, count: usize) -> Result<Option<Instr>, Fail> 
             params: count,
         },
         "Import" => CallOut::Import,
-        "TagWithout" => tag_call(alloc, CallBody::Absent, count)?,
-        "TagOfText" => tag_call(alloc, CallBody::Source(text(alloc)?), count)?,
-        "TagOfOne" => tag_call(alloc, CallBody::Cells(1), count)?,
-        "TagOfTwo" => tag_call(alloc, CallBody::Cells(2), count)?,
-        "TagOfThree" => tag_call(alloc, CallBody::Cells(3), count)?,
-        "TagOfAll" => tag_call(alloc, CallBody::Cells(usize::MAX), count)?,
-        _ => return Ok(None),
+        _ => match body_of(alloc, word)? {
+            Some(body) => tag_call(alloc, body, count)?,
+            None => return Ok(None),
+        },
     };
     Ok(Some(Instr::CallOut(what)))
+}
+
+// What the body of a call of a tag file is.
+fn body_of(alloc: Global, word: &str) -> Result<Option<CallBody>, Fail> {
+    let body = match word {
+        "TagWithout" => CallBody::Absent,
+        "TagOfText" => CallBody::Source(text(alloc)?),
+        "TagOfOne" => CallBody::Cells(1),
+        "TagOfTwo" => CallBody::Cells(2),
+        "TagOfThree" => CallBody::Cells(3),
+        "TagOfAll" => CallBody::Cells(usize::MAX),
+        _ => return Ok(None),
+    };
+    Ok(Some(body))
 }
 
 // The call of a tag file with one attribute, and a fragment of so many cells.

@@ -26,6 +26,11 @@ fn fault_of(alloc: Global, text: &str) -> Option<Failure<ElFault>> {
     read_el(alloc, text).err()
 }
 
+// Whether a text has this fault, or is an expression where there is none.
+fn has_fault(alloc: Global, text: &str, fault: Option<ElFault>) -> bool {
+    fault_of(alloc, text) == fault.map(Failure::Fault)
+}
+
 #[test]
 fn faults_have_the_numbers_of_a_page(rt: HostRuntime) {
     for &(fault, number) in &[
@@ -114,39 +119,38 @@ fn what_the_language_leaves_out_is_refused(rt: HostRuntime) {
     }
 }
 
+// So many copies of a text, a text between, as many copies of another, and the fault of all together.
+const NESTED: [(usize, &str, &str, &str, Option<ElFault>); 23] = [
+    (64, "(", "a", ")", None),
+    (65, "(", "a", ")", Some(ElFault::TooLarge)),
+    (64, "-", "a", "", None),
+    (65, "-", "a", "", Some(ElFault::TooLarge)),
+    (64, "[", "a", "]", None),
+    (65, "[", "a", "]", Some(ElFault::TooLarge)),
+    (64, "{a:", "a", "}", None),
+    (65, "{a:", "a", "}", Some(ElFault::TooLarge)),
+    (64, "p:f(", "a", ")", None),
+    (65, "p:f(", "a", ")", Some(ElFault::TooLarge)),
+    (64, "a[", "a", "]", None),
+    (65, "a[", "a", "]", Some(ElFault::TooLarge)),
+    (64, "a ? a : ", "a", "", None),
+    (65, "a ? a : ", "a", "", Some(ElFault::TooLarge)),
+    (64, "a ? ", "a", " : a", None),
+    (65, "a ? ", "a", " : a", Some(ElFault::TooLarge)),
+    (20_000, "1+", "1", "", None),
+    (20_000, "", "a", ".b", None),
+    (20_000, "", "a", "[0]", None),
+    (20_000, "(", "a", ")", Some(ElFault::TooLarge)),
+    (20_000, "not ", "a", "", Some(ElFault::TooLarge)),
+    (20_000, "(", "a", "", Some(ElFault::Syntax)),
+    (100, "(", "1.5", "", Some(ElFault::Decimal)),
+];
+
 #[test]
 fn parts_are_nested_64_deep_at_most(rt: HostRuntime) -> Result<(), Fail> {
-    let large = Some(ElFault::TooLarge);
-    for &(times, before, text, behind, fault) in &[
-        (64, "(", "a", ")", None),
-        (65, "(", "a", ")", large),
-        (64, "-", "a", "", None),
-        (65, "-", "a", "", large),
-        (64, "[", "a", "]", None),
-        (65, "[", "a", "]", large),
-        (64, "{a:", "a", "}", None),
-        (65, "{a:", "a", "}", large),
-        (64, "p:f(", "a", ")", None),
-        (65, "p:f(", "a", ")", large),
-        (64, "a[", "a", "]", None),
-        (65, "a[", "a", "]", large),
-        (64, "a ? a : ", "a", "", None),
-        (65, "a ? a : ", "a", "", large),
-        (64, "a ? ", "a", " : a", None),
-        (65, "a ? ", "a", " : a", large),
-        (20_000, "1+", "1", "", None),
-        (20_000, "", "a", ".b", None),
-        (20_000, "", "a", "[0]", None),
-        (20_000, "(", "a", ")", large),
-        (20_000, "not ", "a", "", large),
-        (20_000, "(", "a", "", Some(ElFault::Syntax)),
-        (100, "(", "1.5", "", Some(ElFault::Decimal)),
-    ] {
+    for &(times, before, text, behind, fault) in &NESTED {
         let expression = nested(rt.alloc(), times, before, text, behind)?;
-        assert_eq!(rt;
-            fault_of(rt.alloc(), expression.as_str()),
-            fault.map(Failure::Fault)
-        );
+        assert!(rt; has_fault(rt.alloc(), expression.as_str(), fault));
     }
     one_expression();
     Ok(())
@@ -158,22 +162,21 @@ fn grouped(alloc: Global, times: usize, before: &str, behind: &str) -> Result<St
     format!(in alloc; "{before}{group}{behind}")
 }
 
+// A name in so many parentheses, between two texts, and the fault of all together.
+const GROUPED: [(usize, &str, &str, Option<ElFault>); 6] = [
+    (64, "", " ? b : c", None),
+    (65, "", " ? b : c", Some(ElFault::TooLarge)),
+    (63, "a ? ", " : c", None),
+    (64, "a ? ", " : c", Some(ElFault::TooLarge)),
+    (63, "a ? b : ", "", None),
+    (64, "a ? b : ", "", Some(ElFault::TooLarge)),
+];
+
 #[test]
 fn only_the_sides_of_a_choice_are_nested_in_it(rt: HostRuntime) -> Result<(), Fail> {
-    let large = Some(ElFault::TooLarge);
-    for &(times, before, behind, fault) in &[
-        (64, "", " ? b : c", None),
-        (65, "", " ? b : c", large),
-        (63, "a ? ", " : c", None),
-        (64, "a ? ", " : c", large),
-        (63, "a ? b : ", "", None),
-        (64, "a ? b : ", "", large),
-    ] {
+    for &(times, before, behind, fault) in &GROUPED {
         let expression = grouped(rt.alloc(), times, before, behind)?;
-        assert_eq!(rt;
-            fault_of(rt.alloc(), expression.as_str()),
-            fault.map(Failure::Fault)
-        );
+        assert!(rt; has_fault(rt.alloc(), expression.as_str(), fault));
     }
     Ok(())
 }

@@ -48,14 +48,19 @@ pub struct Row<'a> {
 /// What is told of a page.
 pub fn told_of(alloc: Global, row: &Row) -> Result<String, AllocError> {
     let mut sink = MemSink::new(alloc, fails(alloc, row.fails)?);
-    let mut writer = page(alloc, row.kilobytes, row.autoflush, row.shown)?;
     let mut told = String::new(alloc);
-    for act in row.acts {
-        done(alloc, act, &mut writer, &mut sink, &mut told)?;
-    }
-    ended(writer, &mut sink, row.end, &mut told)?;
+    run(alloc, row, &mut sink, &mut told)?;
     told.push_str(text_of(sink.taken()))?;
     Ok(told)
+}
+
+// Does what a row says, and ends the page.
+fn run(alloc: Global, row: &Row, sink: &mut MemSink, told: &mut String) -> Result<(), AllocError> {
+    let mut writer = page(alloc, row.kilobytes, row.autoflush, row.shown)?;
+    for act in row.acts {
+        done(alloc, act, &mut writer, sink, told)?;
+    }
+    ended(writer, sink, row.end, told)
 }
 
 fn fails(alloc: Global, call: Option<u64>) -> Result<Vec<u64>, AllocError> {

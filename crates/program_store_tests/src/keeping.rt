@@ -48,13 +48,23 @@ fn keep(
     tree: Option<&Tree>,
     needs: &[(&str, Option<u64>)],
 ) -> Result<String, Failure<BadPath>> {
-    let name = path(alloc, name)?;
-    let word = needing(alloc, needs)?;
     let kept = match tree {
-        Some(tree) => store.keep(&name, word, tree)?,
+        Some(tree) => is_kept(alloc, store, name, tree, needs)?,
         None => false,
     };
     Ok(format!(in alloc; "kept {kept}")?)
+}
+
+fn is_kept(
+    alloc: Global,
+    store: &mut Store<Word>,
+    name: &str,
+    tree: &Tree,
+    needs: &[(&str, Option<u64>)],
+) -> Result<bool, Failure<BadPath>> {
+    let name = path(alloc, name)?;
+    let word = needing(alloc, needs)?;
+    Ok(store.keep(&name, word, tree)?)
 }
 
 fn hit(
