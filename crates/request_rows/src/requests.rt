@@ -16,20 +16,35 @@ fn told(alloc: Global, bytes: &[u8], piece: usize, fails: Vec<u64>) -> Result<St
     let mut rest = Rest::new(alloc);
     let mut told = String::new(alloc);
     for _ in 0..10 {
-        match read_request(alloc, &mut source, &mut rest) {
-            Ok(Some(request)) => add_line(&mut told, &request)?,
-            Ok(None) => {
-                told.push_str("end")?;
-                return Ok(told);
-            }
-            Err(Failure::NoMemory) => return Err(AllocError),
-            Err(Failure::Fault(fault)) => {
-                told.push_str(name_of(fault))?;
-                return Ok(told);
-            }
+        if !add_next(alloc, &mut source, &mut rest, &mut told)? {
+            break;
         }
     }
     Ok(told)
+}
+
+// Adds the next request, or what stops them; and whether another may come.
+fn add_next(
+    alloc: Global,
+    source: &mut MemSource,
+    rest: &mut Rest,
+    told: &mut String,
+) -> Result<bool, AllocError> {
+    match read_request(alloc, source, rest) {
+        Ok(Some(request)) => {
+            add_line(told, &request)?;
+            Ok(true)
+        }
+        Ok(None) => {
+            told.push_str("end")?;
+            Ok(false)
+        }
+        Err(Failure::NoMemory) => Err(AllocError),
+        Err(Failure::Fault(fault)) => {
+            told.push_str(name_of(fault))?;
+            Ok(false)
+        }
+    }
 }
 
 /// Each request as a line, and then what stops them.
@@ -68,19 +83,25 @@ fn told_of(
     };
     match kind {
         "fields" => fields(alloc, &request),
-        "to" => {
-            let request = request.retarget(alloc, Text::copy_of(alloc, word)?)?;
-            let mut told = String::new(alloc);
-            add_line(&mut told, &request)?;
-            told.push_str(parts(alloc, &request)?.as_str())?;
-            Ok(told)
-        }
-        _ => {
-            let count = request.fields.len();
-            let parts = parts(alloc, &request)?;
-            format!(in alloc; "{count}|{}", parts.as_str())
-        }
+        "to" => line_told(
+            alloc,
+            &request.retarget(alloc, Text::copy_of(alloc, word)?)?,
+        ),
+        _ => parts_told(alloc, &request),
     }
+}
+
+fn line_told(alloc: Global, request: &Request) -> Result<String, AllocError> {
+    let mut told = String::new(alloc);
+    add_line(&mut told, request)?;
+    told.push_str(parts(alloc, request)?.as_str())?;
+    Ok(told)
+}
+
+fn parts_told(alloc: Global, request: &Request) -> Result<String, AllocError> {
+    let count = request.fields.len();
+    let parts = parts(alloc, request)?;
+    format!(in alloc; "{count}|{}", parts.as_str())
 }
 
 // The one request in the bytes, of which each read gives so many, where there is one alone.
