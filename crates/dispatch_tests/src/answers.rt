@@ -139,7 +139,7 @@ const COUNTED: &str = "\
     Whole 101 HTTP/1.1 200 OK\r\nContent-Type: text/html;charset=UTF-8\r\nSet-Cookie: JSESSIONID=0000000000000000ade0b876903df1a0e56a5d4028bd8653; Path=/; HttpOnly\r\nContent-Length: 1\r\n\r\n1\n\
     Whole 0 HTTP/1.1 200 OK\r\nContent-Type: text/html;charset=UTF-8\r\nContent-Length: 1\r\n\r\n2\n\
     Whole 0 HTTP/1.1 200 OK\r\nContent-Type: text/html;charset=UTF-8\r\nSet-Cookie: JSESSIONID=0000000000000001b819d2bd1aed8da0ccef36a8c70d778b; Path=/; HttpOnly\r\nContent-Length: 1\r\n\r\n1\n\
-    3602 BFOSEBFEBFSE";
+    3602 BFOSAEBFEBFSAE";
 
 #[test]
 fn requests_are_answered(rt: HostRuntime) -> Result<(), Fail> {
