@@ -15,6 +15,13 @@ use std::marker::Brand;
 use std::sync::ledger::{Blank, Ledger};
 use std::test::Fail;
 
+// A request of a page of these files, by its method.
+#[derive(Clone, Copy)]
+struct Visit<'a> {
+    method: &'a str,
+    files: &'a [(&'a str, &'a str)],
+}
+
 // What a sink had taken when a page first asked a step of a port that notes it, a bar, and what it took in all.
 fn watched<N: Ledger, P: Port<Made>>(
     alloc: Global,
@@ -42,18 +49,13 @@ fn watched<N: Ledger, P: Port<Made>>(
     Ok(format!(in alloc; "{first}|{all}")?)
 }
 
-// The same of a site of these files.
-fn streamed<N: Ledger>(
-    alloc: Global,
-    blank: Blank,
-    method: &str,
-    files: &[(&str, &str)],
-) -> Result<String, Fail>
+// The same of a site of the files.
+fn streamed<N: Ledger>(alloc: Global, blank: Blank, visit: &Visit<'_>) -> Result<String, Fail>
     requires name { blank.name ≡ N.name }
     requires parts { blank.parts ≡ N.parts }
     requires some { 0 < N.parts }
 {
-    let port = opened(alloc, files, AMPLE)?;
+    let port = opened(alloc, visit.files, AMPLE)?;
     let count = Cell::new(0);
     let before = Watching {
         count: &count,
@@ -64,12 +66,12 @@ fn streamed<N: Ledger>(
         inner: MemSink::new(alloc, Vec::new(alloc)),
         count: &count,
     };
-    watched::<N, _>(alloc, blank, method, &mut port, &mut sink)
+    watched::<N, _>(alloc, blank, visit.method, &mut port, &mut sink)
 }
 
 // The same under the only name of a ledger.
-fn told(alloc: Global, method: &str, files: &[(&str, &str)]) -> Result<String, Fail> {
-    streamed::<Brand>(alloc, Blank::new(1), method, files)
+fn told(alloc: Global, visit: &Visit<'_>) -> Result<String, Fail> {
+    streamed::<Brand>(alloc, Blank::new(1), visit)
 }
 
 // The head of a chunked response.
@@ -107,7 +109,11 @@ fn what_is_committed_goes_out_at_once(rt: HostRuntime) -> Result<(), Fail> {
         let page = written_out(rt.alloc(), page, &[])?;
         let wanted = written_out(rt.alloc(), wanted, &[("§", HEAD)])?;
         let files = [("/a.jsp", page.as_str()), ("/t.txt", "t")];
-        assert_eq!(rt; told(rt.alloc(), method, &files)?.as_str(), wanted.as_str());
+        let visit = Visit {
+            method,
+            files: &files,
+        };
+        assert_eq!(rt; told(rt.alloc(), &visit)?.as_str(), wanted.as_str());
     }
     Ok(())
 }
