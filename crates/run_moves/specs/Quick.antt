@@ -25,6 +25,7 @@ use Rattle.site_words.specs.Law.{Answer}
 abbrev pub is_quick : Op → Bool
 is_quick (op.Write t) = true
 is_quick op.Put = true
+is_quick op.PutEscaped = true
 is_quick (op.Visit n) = true
 is_quick (op.Const v) = true
 is_quick (op.Find name) = true

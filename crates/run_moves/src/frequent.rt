@@ -17,7 +17,7 @@ use crate::open::{Open, Stack};
 use page_code::Op;
 use pg_text::Failure;
 use pg_value::{RunFault, Value};
-use run_parts::{compute, count_visits, find, values_taken};
+use run_parts::{compute, count_visits, find, put_escaped, values_taken};
 use run_values::text_of;
 use run_world::{Seat, World};
 use std::alloc::Global;
@@ -31,6 +31,7 @@ pub fn is_quick(op: &Op) -> bool
         op,
         Op::Write(_)
             | Op::Put
+            | Op::PutEscaped
             | Op::Visit(_)
             | Op::Const(_)
             | Op::Find(_)
@@ -68,6 +69,7 @@ pub fn quick<W: World>(
             push_made(found, &mut open.stack)
         }
         Op::Put => put_top(open, world),
+        Op::PutEscaped => put_escaped_top(alloc, open, world),
         Op::Const(_) | Op::Index | Op::Coerce(_) | Op::Unary(_) | Op::Binary(_) => {
             let made = compute_top(alloc, op, &mut open.stack);
             push_made(made, &mut open.stack)
@@ -91,6 +93,29 @@ fn put_top<W: World>(open: &mut Open, world: &mut W) -> Result<(), Failure<RunFa
         unreachable!()
     };
     let done = world.put(text_of(value));
+    open.stack.drop_top(1);
+    done
+}
+
+// Writes the text on top with `<`, `>`, `&` and the two quotes escaped.
+#[inline(always)]
+fn put_escaped_top<W: World>(
+    alloc: Global,
+    open: &mut Open,
+    world: &mut W,
+) -> Result<(), Failure<RunFault>>
+    requires covered { W.covered world.old }
+    requires filled { 1 ≤ length open.old.stack }
+    ensures covered { W.covered world.new }
+    ensures lands { (serving : Serving) (seat : Seat') →
+        LandsSo W.reached W.replies (λ place pc s. act serving seat place pc s (open_of open.old)
+        (instr.Op op.PutEscaped)) world.old world.new (open_of open.new) result }
+    ensures left { open.new.left ≡ open.old.left }
+{
+    let Some(value) = open.stack.topmost() else {
+        unreachable!()
+    };
+    let done = put_escaped(alloc, text_of(value), world);
     open.stack.drop_top(1);
     done
 }

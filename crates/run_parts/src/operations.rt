@@ -97,6 +97,7 @@ fn set_or_remove<W: World>(
 }
 
 /// Counts so many visits, one after the other: X18.
+#[inline(always)]
 pub fn count_visits<W: World>(count: u32, world: &mut W) -> Result<(), Failure<RunFault>>
     requires covered { W.covered world.old }
     ensures covered { W.covered world.new }

@@ -7,8 +7,8 @@ use pg_value::RunFault;
 use run_world::World;
 use std::alloc::Global;
 
-// Writes a text with `<`, `>`, `&` and the two quotes escaped: itself where none of them stands in it.
-pub(crate) fn put_escaped<W: World>(
+/// Writes a text with `<`, `>`, `&` and the two quotes escaped: itself where none of them stands in it.
+pub fn put_escaped<W: World>(
     alloc: Global,
     text: &str,
     world: &mut W,

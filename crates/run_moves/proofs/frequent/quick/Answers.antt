@@ -39,6 +39,11 @@ returns-in-Put-clause-lands g c = λ serving.
     lands_as serving (seat_of c.args.seat.now) (open_of c.args.open.now) c.args.op.now op.Put c.args.world.now c.put_top.new.world (open_of c.put_top.new.open) c.put_top.result c.in-Put.is
     (c.put_top.ensures.lands serving (seat_of c.args.seat.now))
 
+pub returns-in-PutEscaped-clause-lands : goal.returns-in-PutEscaped-clause-lands
+returns-in-PutEscaped-clause-lands g c = λ serving.
+    lands_as serving (seat_of c.args.seat.now) (open_of c.args.open.now) c.args.op.now op.PutEscaped c.args.world.now c.put_escaped_top.new.world (open_of c.put_escaped_top.new.open) c.put_escaped_top.result c.in-PutEscaped.is
+    (c.put_escaped_top.ensures.lands serving (seat_of c.args.seat.now))
+
 pub returns-in-Const-clause-lands : goal.returns-in-Const-clause-lands
 returns-in-Const-clause-lands g c = λ serving.
     let this = c.args.op.now in
