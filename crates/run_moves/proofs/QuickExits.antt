@@ -4,16 +4,21 @@ use Rattle.std.specs.Prelude.{Some, None, take, drop, reverse}
 use Rattle.page_code.specs.Ops.{takes}
 use Rattle.page_code.specs.declared.instr.Instr.TheVariants as instr
 use Rattle.page_code.specs.declared.op.Op.{Op}
+use Rattle.page_code.specs.declared.op.Op.TheVariants as ops
+use Rattle.page_code.specs.declared.operands.Coercion.{Coercion}
 use Rattle.page_meaning.proofs.Growing.{same}
+use Rattle.page_meaning.specs.Attributes.{coerced}
 use Rattle.page_meaning.specs.State.{State}
 use Rattle.page_meaning.specs.Went.{Did, Went}
 use Rattle.page_table.specs.Act.{act, with_stack}
 use Rattle.page_table.specs.Landing.{Running}
 use Rattle.page_table.specs.Move.{Move, On}
 use Rattle.page_table.specs.Open.{Open}
+use Rattle.page_table.specs.Operands.{coercion_of}
 use Rattle.page_table.specs.Operations.{leaving_none, leaving_one, operation}
 use Rattle.page_table.specs.Program.{Serving}
 use Rattle.page_table.specs.Seat.{Seat}
+use Rattle.pg_text.specs.Failure.{AnswersAs}
 use Rattle.pg_text.specs.declared.failure.Failure.{Failure}
 use Rattle.pg_text.specs.declared.failure.Failure.TheVariants as failure
 use Rattle.pg_text.specs.declared.place.Place.{Place}
@@ -25,11 +30,14 @@ use Rattle.run_moves.proofs.Acts.{acted_as, acted_on, acted_short}
 use Rattle.run_moves.proofs.OpExits.{done_landed, failure_of, ok_err, value_landed}
 use Rattle.run_moves.specs.Acted.{Acted}
 use Rattle.run_moves.specs.Landing.{failing, landing}
-use Rattle.run_moves.specs.Quick.{LandsSo, Pushed}
+use Rattle.run_moves.specs.Quick.{LandsSo, Made, Pushed}
 use Rattle.run_moves.specs.declared.flow.End.TheVariants as ends
 use Rattle.run_moves.specs.declared.flow.Flow.{Flow}
 use Rattle.run_moves.specs.declared.flow.Flow.TheVariants as flows
+use Rattle.run_parts.proofs.Operates.{computed_is}
 use Rattle.run_parts.specs.Answers.{none_of, one_of}
+use Rattle.run_parts.specs.Operations.{IsComputed, computed}
+use Rattle.run_world.proofs.Parts.{result_doing}
 use Rattle.run_world.specs.Origin.{Origin}
 use Rattle.run_world.specs.Part.{Doing}
 use Rattle.site_words.specs.Law.{Answer}
@@ -49,6 +57,16 @@ made_short : (stack after : List Datum) (made : Result Value (Failure RunFault))
 made_short stack after (Ok value) done pushed e = absurd (ok_err value failure.NoMemory e)
 made_short stack after (Err failed) (Ok done) pushed e = absurd pushed
 made_short stack after (Err failed) (Err this) pushed e = ap Err (pushed.0 ∙ ap failure_of e)
+
+-- what was made of the values that are seen on top was pushed in their place
+pub made_of : (this : Op) (before seen after : List Datum) (made : Result Value (Failure RunFault)) (done : Result Unit (Failure RunFault)) → before ≡ seen
+    → AnswersAs datum_of (computed this (reverse (take (takes this) seen))) made → Pushed made (drop (takes this) seen) done after → Made this before done after
+made_of this before seen after made done e answers pushed = subst (λ xs. Made this xs done after) (sym e) (made, (answers, pushed))
+
+-- a value that its coercion leaves as it is stays on top
+pub made_stays : (coercion : Coercion) (before rest : List Datum) (value : Value) → before ≡ datum_of value ∷ rest → coerced (coercion_of coercion) (datum_of value) ≡ Ok (datum_of value)
+    → Made (ops.Coerce coercion) before (Ok tt) before
+made_stays coercion before rest value e same = subst (λ xs. Made (ops.Coerce coercion) xs (Ok tt) xs) (sym e) (Ok value, (same, refl))
 
 module _ {W : Type 0} {reached : W → Origin → W → State → Type 0} {replies : W → List Answer} where
   -- where it went well the move goes on
@@ -96,6 +114,14 @@ module _ {W : Type 0} {reached : W → Origin → W → State → Type 0} {repli
           value_landed serving seat place pc o op this count ds stack enough all taken rest is old mid new made o2 flow same does (made_landed pc place o stack after mid new made done o2 flow pushed acted short)
           (λ e. short (made_short stack after made done pushed e));
     }
+
+  -- one that makes it of values alone
+  pub made_lands : (serving : Serving) (seat : Seat) (o : Open) (op this : Op) (w : W) (done : Result Unit (Failure RunFault)) (after : List Datum) → op ≡ this → IsComputed this → takes op ≤ length o.stack
+      → Made this o.stack done after → LandsSo reached replies (λ place pc s. act serving seat place pc s o (instr.Op op)) w w (with_stack after o) done
+  made_lands serving seat o op this w done after is alone enough made =
+      let ds = reverse (take (takes this) o.stack) in
+      value_lands serving seat o op this (takes this) ds (drop (takes this) o.stack) enough (sym (ap takes is)) refl refl is w w made.0 done after (λ place s. computed_is serving seat place this ds s alone)
+      (result_doing w (computed this ds) made.0 made.1.0) made.1.1
 
   -- an operation that is this one
   pub lands_as : (serving : Serving) (seat : Seat) (o : Open) (op this : Op) (old mid : W) (o2 : Open) (done : Result Unit (Failure RunFault)) → op ≡ this

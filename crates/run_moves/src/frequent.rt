@@ -1,24 +1,25 @@
 // Frequent operations: each is done in place, and goes on behind itself or falls, so that its answer is small.
-ghost use Rattle.std.specs.Prelude.{◌≡◌, ◌≤◌, IsTrue, length, take, drop, reverse};
+ghost use Rattle.std.specs.Prelude.{◌≡◌, ◌≤◌, IsTrue, Ok, length};
+ghost use Rattle.el_ops.specs.Operators.{unary_of};
 ghost use Rattle.page_code.specs.Ops.{takes};
 ghost use Rattle.page_code.specs.declared.instr.Instr.TheVariants as instr;
-ghost use Rattle.page_code.specs.declared.op.Op.TheVariants as op;
+ghost use Rattle.page_code.specs.declared.op.Op.TheVariants as ops;
 ghost use Rattle.page_table.specs.Act.{act};
 ghost use Rattle.page_table.specs.Program.{Serving};
 ghost use Rattle.page_table.specs.Seat.{Seat as Seat'};
 ghost use Rattle.pg_text.specs.Failure.{AnswersAs};
 ghost use Rattle.pg_value.specs.Value.{datum_of};
 ghost use Rattle.run_moves.specs.Opened.{open_of};
-ghost use Rattle.run_moves.specs.Quick.{LandsSo, Pushed, is_quick};
-ghost use Rattle.run_parts.specs.Operations.{IsComputed, computed};
+ghost use Rattle.run_moves.specs.Quick.{LandsSo, Made, Pushed, is_quick};
 ghost use Rattle.run_world.specs.Seats.{seat_of};
 
 use crate::open::{Open, Stack};
-use page_code::Op;
+use el_ops::{binary, index, unary};
+use page_code::{Coercion, Op};
 use pg_text::Failure;
-use pg_value::{RunFault, Value};
-use run_parts::{compute, count_visits, find, put_escaped, values_taken};
-use run_values::text_of;
+use pg_value::{BinOp, RunFault, UnOp, Value};
+use run_parts::{count_visits, find, put_escaped};
+use run_values::{coerced, is_coerced, text_of};
 use run_world::{Seat, World};
 use std::alloc::Global;
 
@@ -70,10 +71,11 @@ pub fn quick<W: World>(
         }
         Op::Put => put_top(open, world),
         Op::PutEscaped => put_escaped_top(alloc, open, world),
-        Op::Const(_) | Op::Index | Op::Coerce(_) | Op::Unary(_) | Op::Binary(_) => {
-            let made = compute_top(alloc, op, &mut open.stack);
-            push_made(made, &mut open.stack)
-        }
+        Op::Const(value) => push_copy(value, &mut open.stack),
+        Op::Index => index_top(alloc, &mut open.stack),
+        Op::Coerce(coercion) => coerce_top(alloc, *coercion, &mut open.stack),
+        Op::Unary(op) => unary_top(*op, &mut open.stack),
+        Op::Binary(op) => binary_top(alloc, *op, &mut open.stack),
         _ => unreachable!(),
     }
 }
@@ -85,7 +87,7 @@ fn put_top<W: World>(open: &mut Open, world: &mut W) -> Result<(), Failure<RunFa
     requires filled { 1 ≤ length open.old.stack }
     ensures covered { W.covered world.new }
     ensures lands { (serving : Serving) (seat : Seat') →
-        LandsSo W.reached W.replies (λ place pc s. act serving seat place pc s (open_of open.old) (instr.Op op.Put))
+        LandsSo W.reached W.replies (λ place pc s. act serving seat place pc s (open_of open.old) (instr.Op ops.Put))
         world.old world.new (open_of open.new) result }
     ensures left { open.new.left ≡ open.old.left }
 {
@@ -109,7 +111,7 @@ fn put_escaped_top<W: World>(
     ensures covered { W.covered world.new }
     ensures lands { (serving : Serving) (seat : Seat') →
         LandsSo W.reached W.replies (λ place pc s. act serving seat place pc s (open_of open.old)
-        (instr.Op op.PutEscaped)) world.old world.new (open_of open.new) result }
+        (instr.Op ops.PutEscaped)) world.old world.new (open_of open.new) result }
     ensures left { open.new.left ≡ open.old.left }
 {
     let Some(value) = open.stack.topmost() else {
@@ -120,20 +122,92 @@ fn put_escaped_top<W: World>(
     done
 }
 
-// Takes the values of an operation that makes its value of values alone, and makes it.
+// Pushes a copy of a constant.
 #[inline(always)]
-fn compute_top(alloc: Global, op: &Op, stack: &mut Stack) -> Result<Value, Failure<RunFault>>
-    requires filled { takes op.now ≤ length stack.old }
-    requires computed { IsComputed op.now }
-    ensures made { AnswersAs datum_of (computed op.now (reverse (take (takes op.now) stack.old))) result }
-    ensures taken { stack.new ≡ drop (takes op.now) stack.old }
+fn push_copy(value: &Value, stack: &mut Stack) -> Result<(), Failure<RunFault>>
+    ensures { Made (ops.Const value.now) stack.old result stack.new }
 {
-    let held = stack.len();
-    let count = values_taken(op);
-    prove!(count <= held);
-    let made = compute(alloc, op, stack.top(count));
-    stack.drop_top(count);
-    made
+    let made = copied(value);
+    push_made(made, stack)
+}
+
+#[inline(always)]
+fn copied(value: &Value) -> Result<Value, Failure<RunFault>>
+    ensures { AnswersAs datum_of (Ok (datum_of value.now)) result }
+{
+    Ok(value.copy()?)
+}
+
+// Puts what stands in the value below the top at the index on top into their place.
+#[inline(always)]
+fn index_top(alloc: Global, stack: &mut Stack) -> Result<(), Failure<RunFault>>
+    requires filled { 2 ≤ length stack.old }
+    ensures { Made ops.Index stack.old result stack.new }
+{
+    let Some(key) = stack.pop() else {
+        unreachable!()
+    };
+    let Some(value) = stack.pop() else {
+        unreachable!()
+    };
+    let made = index(alloc, &value, &key);
+    push_made(made, stack)
+}
+
+// Coerces the value on top. One that is of its kind already stays where it is.
+#[inline(always)]
+fn coerce_top(alloc: Global, coercion: Coercion, stack: &mut Stack) -> Result<(), Failure<RunFault>>
+    requires filled { 1 ≤ length stack.old }
+    ensures { Made (ops.Coerce coercion) stack.old result stack.new }
+{
+    let Some(top) = stack.topmost() else {
+        unreachable!()
+    };
+    if is_coerced(coercion, top) {
+        return Ok(());
+    }
+    let Some(value) = stack.pop() else {
+        unreachable!()
+    };
+    let made = coerced(alloc, coercion, &value);
+    push_made(made, stack)
+}
+
+// Puts what an operator makes of the value on top into its place.
+#[inline(always)]
+fn unary_top(op: UnOp, stack: &mut Stack) -> Result<(), Failure<RunFault>>
+    requires filled { 1 ≤ length stack.old }
+    ensures { Made (ops.Unary op) stack.old result stack.new }
+{
+    let Some(value) = stack.pop() else {
+        unreachable!()
+    };
+    let made = answered(op, &value);
+    push_made(made, stack)
+}
+
+// What an operator makes of one value.
+#[inline(always)]
+fn answered(op: UnOp, value: &Value) -> Result<Value, Failure<RunFault>>
+    ensures { AnswersAs datum_of (unary_of op (datum_of value.now)) result }
+{
+    Ok(unary(op, value)?)
+}
+
+// Puts what an operator makes of the two values on top into their place.
+#[inline(always)]
+fn binary_top(alloc: Global, op: BinOp, stack: &mut Stack) -> Result<(), Failure<RunFault>>
+    requires filled { 2 ≤ length stack.old }
+    ensures { Made (ops.Binary op) stack.old result stack.new }
+{
+    let Some(right) = stack.pop() else {
+        unreachable!()
+    };
+    let Some(left) = stack.pop() else {
+        unreachable!()
+    };
+    let made = binary(alloc, op, &left, &right);
+    push_made(made, stack)
 }
 
 // Pushes the value that was made.

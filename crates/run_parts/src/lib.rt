@@ -18,7 +18,7 @@ mod variables;
 pub use call_frame::first_frame;
 pub use exports::{Change, copy_out, exports_of, give_back, nested_changes};
 pub use given::{Given, body_given, fragment_given};
-pub use operations::{compute, count_visits, operate, values_taken};
+pub use operations::{count_visits, operate, values_taken};
 pub use output::put_escaped;
 pub use request_records::RequestRecords;
 pub use set_properties::{find_property, write_back};

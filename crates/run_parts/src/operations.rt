@@ -57,8 +57,8 @@ fn one(made: Result<Value, Failure<RunFault>>) -> Result<Option<Value>, Failure<
     }
 }
 
-/// The value that an operation makes of values alone.
-pub fn compute(alloc: Global, op: &Op, args: &[Value]) -> Result<Value, Failure<RunFault>>
+// The value that an operation makes of values alone.
+fn compute(alloc: Global, op: &Op, args: &[Value]) -> Result<Value, Failure<RunFault>>
     requires args { length args.now ≡ takes op.now }
     requires computed { IsComputed op.now }
     ensures { AnswersAs datum_of (computed op.now (map datum_of args.now)) result }

@@ -33,4 +33,4 @@ pub use request::{
 pub use rounds::{Items, Mark, Rounds};
 pub use statuses::StatusKeys;
 pub use texts::text_of;
-pub use values::{coerced, joined, list_of, measured, record_of};
+pub use values::{coerced, is_coerced, joined, list_of, measured, record_of};

@@ -1,4 +1,4 @@
-ghost use Rattle.std.specs.Prelude.{map};
+ghost use Rattle.std.specs.Prelude.{◌≡◌, IsTrue, Ok, map};
 ghost use Rattle.el_coercion.specs.Text.{made};
 ghost use Rattle.jstl_functions.specs.Functions.{measured};
 ghost use Rattle.page_meaning.specs.Attributes.{as_number, as_text, as_truth_value, coerced};
@@ -37,6 +37,19 @@ pub fn coerced(alloc: Global, coercion: Coercion, value: &Value) -> Result<Value
         (Coercion::Text | Coercion::TextOrNull, value) => as_text(alloc, value),
         (Coercion::Number | Coercion::NumberOrNull, value) => as_number(value),
         (Coercion::Truth | Coercion::TruthOrNull, value) => as_truth_value(value),
+    }
+}
+
+/// Whether a value is of the kind that its coercion makes, so that it stays as it is.
+#[inline(always)]
+pub fn is_coerced(coercion: Coercion, value: &Value) -> bool
+    ensures { IsTrue result → coerced (coercion_of coercion) (datum_of value.now) ≡ Ok (datum_of value.now) }
+{
+    match (coercion, value) {
+        (Coercion::Text | Coercion::TextOrNull, Value::Text(_)) => true,
+        (Coercion::Number | Coercion::NumberOrNull, Value::Int(_)) => true,
+        (Coercion::Truth | Coercion::TruthOrNull, Value::Bool(_)) => true,
+        _ => false,
     }
 }
 

@@ -1,17 +1,12 @@
-use Rattle.std.proofs.Common.{Bool, List, [], ap, refl, rules, subst, sym, ℕ}
-use Rattle.std.specs.Prelude.{drop, reverse, take}
+use Rattle.std.proofs.Common.{Bool, List, [], ap, refl, subst, sym, ℕ}
 use Rattle.page_code.specs.Ops.{takes}
 use Rattle.page_code.specs.declared.op.Op.TheVariants as op
 use Rattle.page_meaning.specs.Bodies.{put_text}
 use Rattle.page_meaning.specs.Expressions.{variable_or_step}
 use Rattle.pg_value.specs.Value.{datum_of}
-use Rattle.run_moves.proofs.QuickExits.{done_lands, lands_as, value_lands}
+use Rattle.run_moves.proofs.QuickExits.{done_lands, lands_as, made_lands, value_lands}
 use Rattle.run_moves.proofs.frequent.quick.Goals as goal
 use Rattle.run_moves.specs.Opened.{open_of}
-use Rattle.run_moves.specs.Quick.{Pushed}
-use Rattle.run_parts.proofs.Operates.{computed_is}
-use Rattle.run_parts.specs.Operations.{IsComputed, computed}
-use Rattle.run_world.proofs.Parts.{result_doing}
 use Rattle.run_world.specs.Part.{Doing}
 use Rattle.run_world.specs.Seats.{seat_of}
 use Rattle.scopes.specs.Scopes.{found}
@@ -46,12 +41,20 @@ returns-in-PutEscaped-clause-lands g c = λ serving.
 
 pub returns-in-Const-clause-lands : goal.returns-in-Const-clause-lands
 returns-in-Const-clause-lands g c = λ serving.
-    let this = c.args.op.now in
-    let held = (open_of c.args.open.now).stack in
-    let ds = reverse (take (takes this) held) in
-    let made = c.compute_top-made.result in
-    let is_computed : IsComputed this = search rules in
-    value_lands serving (seat_of c.args.seat.now) (open_of c.args.open.now) this this (takes this) ds (drop (takes this) held) c.requires.filled
-    refl refl refl refl c.args.world.now c.args.world.now made c.push_made-in-Const.result c.push_made-in-Const.new.stack (λ place s. computed_is serving (seat_of c.args.seat.now) place this ds s is_computed)
-    (result_doing c.args.world.now (computed this ds) made c.compute_top-made.ensures.made)
-    (subst (λ stack. Pushed made stack c.push_made-in-Const.result c.push_made-in-Const.new.stack) c.compute_top-made.ensures.taken c.push_made-in-Const.ensures)
+    made_lands serving (seat_of c.args.seat.now) (open_of c.args.open.now) c.args.op.now (op.Const c.in-Const.value) c.args.world.now c.push_copy.result c.push_copy.new.stack c.in-Const.is tt c.requires.filled c.push_copy.ensures
+
+pub returns-in-Index-clause-lands : goal.returns-in-Index-clause-lands
+returns-in-Index-clause-lands g c = λ serving.
+    made_lands serving (seat_of c.args.seat.now) (open_of c.args.open.now) c.args.op.now op.Index c.args.world.now c.index_top.result c.index_top.new.stack c.in-Index.is tt c.requires.filled c.index_top.ensures
+
+pub returns-in-Coerce-clause-lands : goal.returns-in-Coerce-clause-lands
+returns-in-Coerce-clause-lands g c = λ serving.
+    made_lands serving (seat_of c.args.seat.now) (open_of c.args.open.now) c.args.op.now (op.Coerce c.in-Coerce.coercion) c.args.world.now c.coerce_top.result c.coerce_top.new.stack c.in-Coerce.is tt c.requires.filled c.coerce_top.ensures
+
+pub returns-in-Unary-clause-lands : goal.returns-in-Unary-clause-lands
+returns-in-Unary-clause-lands g c = λ serving.
+    made_lands serving (seat_of c.args.seat.now) (open_of c.args.open.now) c.args.op.now (op.Unary c.in-Unary.op) c.args.world.now c.unary_top.result c.unary_top.new.stack c.in-Unary.is tt c.requires.filled c.unary_top.ensures
+
+pub returns-in-Binary-clause-lands : goal.returns-in-Binary-clause-lands
+returns-in-Binary-clause-lands g c = λ serving.
+    made_lands serving (seat_of c.args.seat.now) (open_of c.args.open.now) c.args.op.now (op.Binary c.in-Binary.op) c.args.world.now c.binary_top.result c.binary_top.new.stack c.in-Binary.is tt c.requires.filled c.binary_top.ensures
