@@ -61,12 +61,12 @@ made_short stack after (Err failed) (Err this) pushed e = ap Err (pushed.0 ∙ a
 -- what was made of the values that are seen on top was pushed in their place
 pub made_of : (this : Op) (before seen after : List Datum) (made : Result Value (Failure RunFault)) (done : Result Unit (Failure RunFault)) → before ≡ seen
     → AnswersAs datum_of (computed this (reverse (take (takes this) seen))) made → Pushed made (drop (takes this) seen) done after → Made this before done after
-made_of this before seen after made done e answers pushed = subst (λ xs. Made this xs done after) (sym e) (made, (answers, pushed))
+made_of this before seen after made done e answers pushed = subst (λ xs. Made this xs done after) (sym e) (made, answers, pushed)
 
 -- a value that its coercion leaves as it is stays on top
 pub made_stays : (coercion : Coercion) (before rest : List Datum) (value : Value) → before ≡ datum_of value ∷ rest → coerced (coercion_of coercion) (datum_of value) ≡ Ok (datum_of value)
     → Made (ops.Coerce coercion) before (Ok tt) before
-made_stays coercion before rest value e same = subst (λ xs. Made (ops.Coerce coercion) xs (Ok tt) xs) (sym e) (Ok value, (same, refl))
+made_stays coercion before rest value e stays = subst (λ xs. Made (ops.Coerce coercion) xs (Ok tt) xs) (sym e) (Ok value, stays, refl)
 
 module _ {W : Type 0} {reached : W → Origin → W → State → Type 0} {replies : W → List Answer} where
   -- where it went well the move goes on
@@ -121,7 +121,7 @@ module _ {W : Type 0} {reached : W → Origin → W → State → Type 0} {repli
   made_lands serving seat o op this w done after is alone enough made =
       let ds = reverse (take (takes this) o.stack) in
       value_lands serving seat o op this (takes this) ds (drop (takes this) o.stack) enough (sym (ap takes is)) refl refl is w w made.0 done after (λ place s. computed_is serving seat place this ds s alone)
-      (result_doing w (computed this ds) made.0 made.1.0) made.1.1
+      (result_doing w (computed this ds) made.0 made.1) made.2
 
   -- an operation that is this one
   pub lands_as : (serving : Serving) (seat : Seat) (o : Open) (op this : Op) (old mid : W) (o2 : Open) (done : Result Unit (Failure RunFault)) → op ≡ this

@@ -1,6 +1,6 @@
 -- The beginning of a loop, and of its rounds.
 use Rattle.std.proofs.Common.{◌≡◌, ◌≤◌, ◌+◌, ℕ, Bool, true, false, List, [], ◌∷◌, length, Option, Some, None, Result, Ok, Err, refl, sym, ap, ◌∙◌, subst, nat_lt, append-nil}
-use Rattle.std.specs.Prelude.{drop, if◌then◌else◌, reverse, take}
+use Rattle.std.specs.Prelude.{IsErrAnd, drop, if◌then◌else◌, reverse, take}
 use Rattle.jstl_functions.specs.Functions.{and_then, measured}
 use Rattle.page_code.specs.declared.operands.LoopKind.{LoopKind}
 use Rattle.run_moves.specs.Acted.{Acted}
@@ -18,7 +18,7 @@ use Rattle.page_meaning.proofs.Growing.{both, quiet, same}
 use Rattle.run_world.proofs.Adds.{Adds, result, thens, visit_adds}
 use Rattle.run_moves.proofs.Behind.{fell_at, well_at, well_short}
 use Rattle.run_moves.proofs.Landings.{popped_all_is}
-use Rattle.run_world.proofs.Parts.{as_doing, changed_doing, fail_doing, result_doing, then_doing, well_doing}
+use Rattle.run_world.proofs.Parts.{as_doing, changed_doing, fail_doing, result_doing, short_at, then_doing, well_doing}
 use Rattle.run_parts.proofs.PropertySets.{answered_doing, answered_failed}
 use Rattle.page_meaning.specs.Attributes.{Values, table_of}
 use Rattle.page_meaning.specs.Growth.{Grows}
@@ -198,6 +198,20 @@ module _ {W : Type 0} {reached : W → Origin → W → State → Type 0} {repli
             ap (λ x. status_record vs (record { item = Ok Rattle.pg_value.specs.Datum.null; index = x; count = mark.count; is_last = mark.is_last }) (datum_of v)) (sym i)
             ∙ ap (λ x. status_record vs (record { item = Ok Rattle.pg_value.specs.Datum.null; index = r.index; count = x; is_last = mark.is_last }) (datum_of v)) (sym n)
             ∙ ap (λ x. status_record vs (record { item = Ok Rattle.pg_value.specs.Datum.null; index = r.index; count = r.count; is_last = x }) (datum_of v)) (sym l)
+
+    -- where memory was wanting behind its visit
+    pub round_short : (old new : W) (done : Result Unit (Failure RunFault)) → IsErrAnd done (λ f. f ≡ failure.NoMemory) → Doing reached replies (λ (u : Unit {0}). u) (λ place. visit place) old new (Ok tt)
+        → Doing reached replies (λ (u : Unit {0}). u) (λ place. round_begun place variable status vs r) old new done
+    round_short old new done is does =
+        then_doing (behind_visit variable status vs r) old new new tt done does
+        (short_at new done is (λ place. thens (result_of place r.item) ((behind_item variable status vs r) place) (result place r.item) (λ d. (item_adds variable status vs r) place d)))
+
+    -- where its status has no name
+    pub round_unstated : (old mid new : W) (v : Value) (mark : Mark) (done : Result Unit (Failure RunFault)) → r.index ≡ mark.index → r.count ≡ mark.count → r.is_last ≡ mark.is_last → status ≡ None
+        → Doing reached replies (λ (u : Unit {0}). u) (λ place. visit place) old mid (Ok tt) → r.item ≡ Ok (datum_of v) → Doing reached replies (λ (u : Unit {0}). u) (Naming variable (datum_of v)) mid new done
+        → Doing reached replies (λ (u : Unit {0}). u) (λ place. round_begun place variable status vs r) old new done
+    round_unstated old mid new v mark (Ok u) i n l none does is named = round_well old mid new new v mark (Ok u) i n l does is named (status_none new status (status_record vs (round_at mark) (datum_of v)) none)
+    round_unstated old mid new v mark (Err f) i n l none does is named = round_unnamed old mid new v f does is named
 
   -- a loop begins
   module _ (place : Place) (kind : LoopKind) (pc : ℕ) (o : Open) (h : length kind.names ≤ length o.stack) where

@@ -1,5 +1,5 @@
 // The beginning of a loop, and its rounds.
-ghost use Rattle.std.specs.Prelude.{◌≡◌, ◌+◌, ◌-◌, ◌<◌, ◌≤◌, ◌^◌, ◌∷◌, length, map, reverse, take, List, IfOk};
+ghost use Rattle.std.specs.Prelude.{◌≡◌, ◌+◌, ◌-◌, ◌<◌, ◌≤◌, ◌^◌, ◌∷◌, length, map, reverse, take, List, Some, IfOk};
 ghost use Rattle.page_meaning.specs.Attributes.{table_of};
 ghost use Rattle.page_meaning.specs.Loops.{round_begun, set_status, with_named};
 ghost use Rattle.page_meaning.specs.Rounds.{Round, status_record};
@@ -155,14 +155,17 @@ fn begin_round<W: World>(
 {
     count_visit(world)?;
     let item = looping.rounds.item(alloc)?;
-    set_named(&looping.variable, &item, world)?;
+    let Some(status) = &looping.status else {
+        return set_named(&looping.variable, item, world);
+    };
+    set_named(&looping.variable, item.copy()?, world)?;
     set_status(
         alloc,
-        &looping.status,
+        status,
         &looping.keys,
         &looping.values,
         mark,
-        &item,
+        item,
         world,
     )
 }
@@ -183,39 +186,36 @@ fn count_visit<W: World>(world: &mut W) -> Result<(), Failure<RunFault>>
 // Sets a variable of the current frame, where it has a name.
 fn set_named<W: World>(
     name: &Option<Name>,
-    value: &Value,
+    value: Value,
     world: &mut W,
 ) -> Result<(), Failure<RunFault>>
     requires covered { W.covered world.old }
     ensures covered { W.covered world.new }
     ensures does { Doing W.reached W.replies (λ u. u) (λ place s.
-        Well tt (with_named name.now (datum_of value.now) s)) world.old world.new result }
+        Well tt (with_named name.now (datum_of value) s)) world.old world.new result }
 {
     match name {
-        Some(name) => world.set(HeldScope::Page, name.as_text(), value.copy()?),
+        Some(name) => world.set(HeldScope::Page, name.as_text(), value),
         None => Ok(()),
     }
 }
 
-// Sets the status of a round, where it has a name: X20.
+// Sets the status of a round: X20.
 fn set_status<W: World>(
     alloc: Global,
-    name: &Option<Name>,
+    name: &Name,
     keys: &Option<StatusKeys>,
     values: &[(Text, Value)],
     mark: &Mark,
-    item: &Value,
+    item: Value,
     world: &mut W,
 ) -> Result<(), Failure<RunFault>>
     requires covered { W.covered world.old }
     ensures covered { W.covered world.new }
     ensures does { Doing W.reached W.replies (λ u. u)
-        (λ place. set_status place name.now (status_record (map entry_of values.now) (round_at mark.now)
-        (datum_of item.now))) world.old world.new result }
+        (λ place. set_status place (Some name.now) (status_record (map entry_of values.now) (round_at mark.now)
+        (datum_of item))) world.old world.new result }
 {
-    let Some(name) = name else {
-        return Ok(());
-    };
     let status = status_record(alloc, keys, values, mark, item)?;
     let status = measured(status)?;
     world.set(HeldScope::Page, name.as_text(), status)

@@ -74,10 +74,10 @@ pub fn status_record(
     keys: &Option<StatusKeys>,
     table: &[(Text, Value)],
     mark: &Mark,
-    current: &Value,
+    current: Value,
 ) -> Result<Value, AllocError>
     ensures { IfOk result (λ made. datum_of made ≡ status_record (map entry_of table.now) (round_at mark.now)
-        (datum_of current.now)) }
+        (datum_of current)) }
 {
     match keys {
         Some(keys) => keys.record(alloc, table, mark, current),

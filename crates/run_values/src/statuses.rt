@@ -59,15 +59,15 @@ impl StatusKeys {
         alloc: Global,
         table: &[(Text, Value)],
         mark: &Mark,
-        current: &Value,
+        current: Value,
     ) -> Result<Vec<(Text, Value)>, AllocError>
         ensures { IfOk result (λ made. map entry_of made.items ≡ status_entries (map entry_of table.now)
-            (round_at mark.now) (datum_of current.now)) }
+            (round_at mark.now) (datum_of current)) }
     {
         let entries = vec![in alloc;
             given_entry(&self.begin, table, "begin")?,
             number_entry(&self.count, mark.count)?,
-            copied_entry(&self.current, current)?,
+            entry(&self.current, current)?,
             given_entry(&self.end, table, "end")?,
             entry(&self.first, Value::Bool(mark.count == 1))?,
             number_entry(&self.index, mark.index)?,
@@ -84,10 +84,10 @@ impl StatusKeys {
         alloc: Global,
         table: &[(Text, Value)],
         mark: &Mark,
-        current: &Value,
+        current: Value,
     ) -> Result<Value, AllocError>
         ensures { IfOk result (λ made. datum_of made ≡ status_record (map entry_of table.now)
-            (round_at mark.now) (datum_of current.now)) }
+            (round_at mark.now) (datum_of current)) }
     {
         let entries = self.entries(alloc, table, mark, current)?;
         record(Attrs::new(entries))
@@ -95,6 +95,7 @@ impl StatusKeys {
 }
 
 // An entry under this key.
+#[inline(always)]
 fn entry(key: &Text, value: Value) -> Result<(Text, Value), AllocError>
     ensures { IfOk result (λ made. entry_of made ≡ (key.now, datum_of value)) }
 {
@@ -102,6 +103,7 @@ fn entry(key: &Text, value: Value) -> Result<(Text, Value), AllocError>
 }
 
 // A copy of a value under this key.
+#[inline(always)]
 fn copied_entry(key: &Text, value: &Value) -> Result<(Text, Value), AllocError>
     ensures { IfOk result (λ made. entry_of made ≡ (key.now, datum_of value.now)) }
 {
@@ -109,6 +111,7 @@ fn copied_entry(key: &Text, value: &Value) -> Result<(Text, Value), AllocError>
 }
 
 // A place or a count under this key. One past the largest number is answered as want of memory.
+#[inline(always)]
 fn number_entry(key: &Text, count: u64) -> Result<(Text, Value), AllocError>
     ensures { IfOk result (λ made. entry_of made ≡ (key.now, number (pos count))) }
 {
@@ -119,6 +122,7 @@ fn number_entry(key: &Text, count: u64) -> Result<(Text, Value), AllocError>
 }
 
 // The value of a name, or null, under this key.
+#[inline(always)]
 fn given_entry(key: &Text, table: &[(Text, Value)], name: &str) -> Result<(Text, Value), AllocError>
     ensures { IfOk result (λ made. entry_of made ≡ (key.now, or_null (value_at name.now (map entry_of table.now)))) }
 {

@@ -5,4 +5,4 @@ use Rattle.run_values.specs.Rounds.{round_at}
 use Rattle.pg_value.specs.Value.{datum_of, entry_of}
 
 pub new-requires : goal.new-requires
-new-requires c = status_in_order _ (map entry_of c.args.table.now) (round_at c.args.mark.now) (datum_of c.args.current.now) c.in_ok-entries.ensures
+new-requires c = status_in_order _ (map entry_of c.args.table.now) (round_at c.args.mark.now) (datum_of c.args.current) c.in_ok-entries.ensures
