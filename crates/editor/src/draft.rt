@@ -23,7 +23,8 @@ impl Model for Draft {
 
     ghost view = { λ d. d.edits };
 
-    ghost invariant = { λ d. (d.bytes ≡ draft_bytes d.edits) × (length d.edits ≤ MAX_DRAFT_EDITS) × (d.bytes ≤ MAX_DRAFT_BYTES) };
+    ghost invariant = { λ d. (d.bytes ≡ draft_bytes d.edits) × (length d.edits ≤ MAX_DRAFT_EDITS)
+        × (d.bytes ≤ MAX_DRAFT_BYTES) };
 }
 
 impl Draft {

@@ -46,7 +46,17 @@ impl Model for Writer {
 
     ghost use Rattle.out_buffer.specs.Laws.{IsWithin};
 
-    ghost view = { λ w. record { head = w.stream.head; shown = w.stream.shown; committed = w.stream.committed; failed = w.stream.failed; buffer = w.buffer.bytes.items; size = w.buffer.size; autoflush = w.buffer.autoflush; count = w.count; kept = w.kept } };
+    ghost view = { λ w. record {
+      head = w.stream.head;
+      shown = w.stream.shown;
+      committed = w.stream.committed;
+      failed = w.stream.failed;
+      buffer = w.buffer.bytes.items;
+      size = w.buffer.size;
+      autoflush = w.buffer.autoflush;
+      count = w.count;
+      kept = w.kept;
+    } };
 
     ghost invariant = { λ w. IsWithin w.buffer.size w.buffer.bytes.items × (w.count ≤ MAX_OUTPUT_BYTES) };
 }

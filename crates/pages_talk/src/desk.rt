@@ -56,7 +56,10 @@ impl<P: Port<Made>, C: Clock, L: Ledger> Desk for PortDesk<P, C, L> {
 
     ghost State = { Stand };
 
-    ghost world = { λ desk port clock count. (connection_of needs_at (P.opening port) (P.pass port) desk.role, P.home port) };
+    ghost world = { λ desk port clock count. (
+      connection_of needs_at (P.opening port) (P.pass port) desk.role,
+      P.home port,
+    ) };
 
     ghost state = { λ desk port clock count. stand_of desk.draft (standing_of (P.seen port) (C.moments clock) count) };
 

@@ -68,7 +68,8 @@ impl<'a, Q: Port<Made>, L: Ledger> AppPort<Program> for RequestPort<'a, Q, L> {
 
     ghost tree = { λ p. p.tree.now };
 
-    ghost asking = { λ p. asking_of (Q.opening p.port.now) (Q.pass p.port.now) (Q.seen p.port.now) p.request p.tree.now };
+    ghost asking = { λ p. asking_of (Q.opening p.port.now) (Q.pass p.port.now) (Q.seen p.port.now) p.request
+        p.tree.now };
 
     ghost leads = { λ old new. Leads needs_at Q.pass Q.opening Q.home Q.seen old new };
 

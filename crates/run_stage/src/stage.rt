@@ -41,7 +41,8 @@ impl<'a, P: AppPort<Program>, K: Sink> World for Stage<'a, P, K> {
 
     ghost stores = { λ w stored. StoresSo P.made P.faulty (P.tree w.port.now) stored };
 
-    ghost covered = { λ w. Covered w.scopes.now.session w.around.now.id w.around.now.visits w.around.now.charge (P.asking w.port.now) };
+    ghost covered = { λ w. Covered w.scopes.now.session w.around.now.id w.around.now.visits
+        w.around.now.charge (P.asking w.port.now) };
 
     fn scopes(&self) -> &Scopes {
         self.scopes
@@ -181,7 +182,8 @@ impl<'a, P: AppPort<Program>, K: Sink> World for Stage<'a, P, K> {
 
     ghost use Rattle.run_stage.specs.StageLaws.{stage_again, stage_stores_on, stage_tells};
 
-    ghost stores_on = { λ first world origin s stored h stores. stage_stores_on P.made P.faulty first world origin s stored h stores };
+    ghost stores_on = { λ first world origin s stored h stores. stage_stores_on P.made P.faulty first world
+        origin s stored h stores };
 
     ghost again = { λ first world origin s h. stage_again P.leads_here first world origin s h };
 

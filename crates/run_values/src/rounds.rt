@@ -51,9 +51,11 @@ impl Model for Rounds {
 
     ghost coded = { rounds_code };
 
-    ghost view = { λ r. rounds_from (item_at (items_of r.items)) r.step r.count (rounds_below r.at r.step r.stop) r.at };
+    ghost view = { λ r. rounds_from (item_at (items_of r.items)) r.step r.count
+        (rounds_below r.at r.step r.stop) r.at };
 
-    ghost invariant = { λ r. (0 < r.step) × (r.step ≤ 2 ^ 63) × (r.stop ≤ stop_limit r.items) × (r.count ≤ r.at + 1) };
+    ghost invariant = { λ r. (0 < r.step) × (r.step ≤ 2 ^ 63) × (r.stop ≤ stop_limit r.items)
+        × (r.count ≤ r.at + 1) };
 }
 
 impl Items {

@@ -34,9 +34,11 @@ impl Model for StatusKeys {
 
     ghost Value = { List (List ℕ) };
 
-    ghost view = { λ k. k.begin ∷ k.count ∷ k.current ∷ k.end ∷ k.first ∷ k.index ∷ k.last ∷ k.step ∷ [] };
+    ghost view = { λ k. k.begin ∷ k.count ∷ k.current ∷ k.end ∷ k.first ∷ k.index ∷ k.last ∷ k.step
+        ∷ [] };
 
-    ghost invariant = { λ k. k.begin ∷ k.count ∷ k.current ∷ k.end ∷ k.first ∷ k.index ∷ k.last ∷ k.step ∷ [] ≡ status_keys };
+    ghost invariant = { λ k. k.begin ∷ k.count ∷ k.current ∷ k.end ∷ k.first ∷ k.index ∷ k.last ∷ k.step
+        ∷ [] ≡ status_keys };
 }
 
 impl StatusKeys {

@@ -210,11 +210,15 @@ pub trait World {
             IfOk result (λ found. stored_of found ≡ serving.stored path.now) };
 
     /// What stands at each path is the same for all worlds that are reached.
-    ghost stores_on: { (first world : Self) (origin : Origin) (s : State) (stored : (path : List ℕ) → Stored) → reached first origin world s → stores first stored → stores world stored };
+    ghost stores_on: { (first world : Self) (origin : Origin) (s : State) (stored : (path : List ℕ) → Stored)
+        → reached first origin world s → stores first stored → stores world stored };
 
     /// A world that was reached is reached from itself.
-    ghost again: { (first world : Self) (origin : Origin) (s : State) → reached first origin world s → reached world origin world s };
+    ghost again: { (first world : Self) (origin : Origin) (s : State) → reached first origin world s
+        → reached world origin world s };
 
     /// What is told of a world is true of the state that it stands for.
-    ghost tells: { (first world : Self) (origin : Origin) (s : State) → reached first origin world s → (variables world ≡ s.scopes) × (kept world ≡ length s.writer.kept) × (visits world ≡ s.visits) × (committed world ≡ has_committed s.writer) };
+    ghost tells: { (first world : Self) (origin : Origin) (s : State) → reached first origin world s
+        → (variables world ≡ s.scopes) × (kept world ≡ length s.writer.kept) × (visits world ≡ s.visits)
+        × (committed world ≡ has_committed s.writer) };
 }

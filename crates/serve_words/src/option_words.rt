@@ -23,7 +23,8 @@ pub fn settings_asked(words: &[String]) -> Option<Asked<'_>>
         ≡ settings_asked (map string_bytes words.entry.now) }
     ensures workers { IfSome result (λ asked. (1 ≤ asked.settings.workers) × (asked.settings.workers ≤ 63)) }
     ensures previews { IfSome result (λ asked. asked.settings.workers + count_of asked.settings.preview_port ≤ 63) }
-    ensures contexts { IfSome result (λ asked. IfSome asked.contexts (λ names. is_some (names_in names.now) ≡ true)) }
+    ensures contexts { IfSome result (λ asked.
+        IfSome asked.contexts (λ names. is_some (names_in names.now) ≡ true)) }
 {
     match words {
         [word, options @ ..] if word.as_str() == "serve" => {
@@ -218,7 +219,8 @@ fn asked_of<'a>(given: &Given, contexts: Option<&'a str>) -> Option<Asked<'a>>
         ≡ asked_of (given.now, option_map (λ names. names.now) contexts.entry) }
     ensures workers { IfSome result (λ asked. (1 ≤ asked.settings.workers) × (asked.settings.workers ≤ 63)) }
     ensures previews { IfSome result (λ asked. asked.settings.workers + count_of asked.settings.preview_port ≤ 63) }
-    ensures contexts { IfSome result (λ asked. IfSome asked.contexts (λ names. is_some (names_in names.now) ≡ true)) }
+    ensures contexts { IfSome result (λ asked.
+        IfSome asked.contexts (λ names. is_some (names_in names.now) ≡ true)) }
 {
     if contexts.is_some() && !can_have_contexts(given) {
         return None;

@@ -29,11 +29,13 @@ impl<
 > Handler for PortHandler<'a, P, G, R, T, W> {
     type Token = SharedPort<'a, P, G, R>;
 
-    ghost fits = { λ handler port. (port.actor.site.now ≡ handler.site.now) × IsIdle port.actor.site.now.opening port.actor.pass.number port.actor.pass.seen };
+    ghost fits = { λ handler port. (port.actor.site.now ≡ handler.site.now)
+        × IsIdle port.actor.site.now.opening port.actor.pass.number port.actor.pass.seen };
 
     ghost number = { λ port. port.actor.pass.number };
 
-    ghost handled = { λ handler old new. IsTalk (T.talked handler.talk.now handler.site.now.opening) old.actor.pass new.actor.pass };
+    ghost handled = { λ handler old new. IsTalk (T.talked handler.talk.now handler.site.now.opening)
+        old.actor.pass new.actor.pass };
 
     fn handle<S: Source, K: Sink>(
         &self,

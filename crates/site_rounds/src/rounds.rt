@@ -181,7 +181,8 @@ fn collect<'a, P: Compiled, R: Wait, G: Gate + Drop, E: Drop>(
         worker.token.actor.pass.number worker.token.actor.pass.seen) workers.items }
     requires room { length passes.old.items + length workers.items ≤ vec_capacity passes.old }
     ensures ready { All (IsReady site.now) passes.new.items }
-    ensures passes { passes.new.items ≡ passes.old.items ++ map (λ worker. worker.token.actor.pass) workers.entry.items }
+    ensures passes { passes.new.items
+        ≡ passes.old.items ++ map (λ worker. worker.token.actor.pass) workers.entry.items }
     ensures room { vec_capacity passes.new ≡ vec_capacity passes.old }
 {
     for worker in workers {

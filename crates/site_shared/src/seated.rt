@@ -50,9 +50,11 @@ impl<P: Compiled> Object for Seated<P> {
 
     ghost replies = { λ x front pass act given. Replies P.needs P.made x front pass act.op given };
 
-    ghost refuses = { λ x front pass act refusal. step P.needs x (after P.needs x front) pass act.op ≡ Refused refusal };
+    ghost refuses = { λ x front pass act refusal. step P.needs x (after P.needs x front) pass act.op
+        ≡ Refused refusal };
 
-    ghost may = { λ x front pass entries act. May x front pass entries act.op × IsMade P.made x front (run_of entries) act.op (value_in act.made) };
+    ghost may = { λ x front pass entries act. May x front pass entries act.op
+        × IsMade P.made x front (run_of entries) act.op (value_in act.made) };
 
     ghost sure = { λ x front pass entries act. Sure x front pass entries act.op };
 
@@ -84,7 +86,10 @@ impl<P: Compiled> Object for Seated<P> {
         answer
     }
 
-    ghost may_lasts = { λ x front more pass act may same. (may_holds_on x front more pass act.op may.0 same, made_lasts P.made x front more pass act.op (value_in act.made) may.0 may.1 same) };
+    ghost may_lasts = { λ x front more pass act may same. (
+      may_holds_on x front more pass act.op may.0 same,
+      made_lasts P.made x front more pass act.op (value_in act.made) may.0 may.1 same,
+    ) };
 
     ghost sure_lasts = { λ x front more pass act sure same. sure_holds_on x front more pass act.op sure same };
 }
