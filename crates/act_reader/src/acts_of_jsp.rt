@@ -17,7 +17,8 @@ use page_acts::Act;
 use std::alloc::{AllocError, Global};
 use unit_nodes::{Action, JspName};
 
-/// The act of a standard action of these parts. `jsp:attribute`, `jsp:body` and params have none of their own.
+/// The act of a standard action of these parts. `jsp:attribute`, `jsp:body` and params have none of
+/// their own.
 pub(crate) fn jsp_act<'u>(
     alloc: Global,
     name: JspName,

@@ -13,14 +13,16 @@ use page_acts::ActAttribute;
 use std::alloc::{AllocError, Global};
 use unit_nodes::{Action, ActionKind, JspName, UnitAttribute};
 
-// Whether an attribute of a core tag says what is named, and isn't evaluated as the others are: the tag's own reader takes it.
+// Whether an attribute of a core tag is taken by the tag's own reader, and doesn't stand among the
+// others: those that name something, and `target`, whose expression is read there.
 fn is_core_static(name: &str) -> bool
     ensures { result ≡ list_any (bytes_eq name.now) core_statics }
 {
     name == "var" || name == "varStatus" || name == "scope" || name == "target"
 }
 
-// Whether an attribute of a standard action says what is named, and isn't evaluated as the others are.
+// Whether an attribute of a standard action says what is named, and isn't evaluated as the others
+// are.
 fn is_jsp_static(name: &str) -> bool
     ensures { result ≡ list_any (bytes_eq name.now) jsp_statics }
 {
@@ -45,7 +47,8 @@ fn is_static(kind: &ActionKind, name: &str) -> bool
     }
 }
 
-/// The attributes of an action in the order in which they are evaluated: those of its start tag, and then those that are given in its body.
+/// The attributes of an action in the order in which they are evaluated: those of its start tag,
+/// and then those that are given in its body.
 #[tactic(auto, using(crate::proofs::BeforeLemmas::attributes_joined))]
 pub(crate) fn attributes_of<'u>(
     alloc: Global,

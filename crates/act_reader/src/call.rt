@@ -37,8 +37,8 @@ pub(crate) fn call_act<'u>(
     })
 }
 
-// The body of a call: what its `jsp:body` holds, where it has one; beside `jsp:attribute` none; or else all that stands in it, where it
-// has a body.
+// The body of a call: what its `jsp:body` holds, where it has one; beside `jsp:attribute` none; or
+// else all that stands in it, where it has a body.
 fn call_body<'u>(
     action: &'u Action,
     acts: Vec<Act<'u>>,

@@ -37,8 +37,8 @@ pub(crate) struct Held<'u> {
     pub content: Content<'u>,
 }
 
-/// The children of an action, or the nodes of a page, as far as they were read: all of them as they stand there, the attributes that
-/// `jsp:attribute` gives, and the first `jsp:body`.
+/// The children of an action, or the nodes of a page, as far as they were read: all of them as they
+/// stand there, the attributes that `jsp:attribute` gives, and the first `jsp:body`.
 #[derive(Drop)]
 pub(crate) struct Children<'u> {
     pub own: Content<'u>,

@@ -1,4 +1,5 @@
-//! The acts of a page: its unit read once, so that the names of attributes are looked at here alone.
+//! The acts of a page: its unit read once, so that the names of attributes are looked at here
+//! alone.
 #![tactic(auto)]
 
 mod acts_of_core;

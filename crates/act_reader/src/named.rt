@@ -1,4 +1,5 @@
-// What the attributes of an action name: texts without expressions, scopes, variables and properties.
+// What the attributes of an action name: texts without expressions, scopes, variables and
+// properties.
 ghost use Rattle.std.specs.Prelude.{◌≡◌, [], ◌∷◌, codes, map, IfOk};
 ghost use Rattle.std.specs.List.{find};
 ghost use Rattle.std.specs.Option.{option_map, unwrap_or};

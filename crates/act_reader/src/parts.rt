@@ -42,7 +42,8 @@ impl<'u> Parts<'u> {
     }
 }
 
-// What stands in an action: what its `jsp:body` holds, where it has one; beside `jsp:attribute` nothing else; or else its children.
+// What stands in an action: what its `jsp:body` holds, where it has one; beside `jsp:attribute`
+// nothing else; or else its children.
 fn content_in<'u>(
     alloc: Global,
     own: Content<'u>,

@@ -32,8 +32,9 @@ fn children_in<'u>(alloc: Global, nodes: &'u [UnitNode]) -> Result<Children<'u>,
     Ok(children)
 }
 
-// Adds what a node is to the children of an action: an action goes to its acts, parameters, branches or parts, by what it is. The
-// clause says what the children are, whatever comes behind the node.
+// Adds what a node is to the children of an action: an action goes to its acts, parameters,
+// branches or parts, by what it is. The clause says what the children are, whatever comes behind
+// the node.
 #[cycle(reading)]
 fn add_node<'u>(
     alloc: Global,

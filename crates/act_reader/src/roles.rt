@@ -20,7 +20,8 @@ use pg_text::Place;
 use std::alloc::{AllocError, Global};
 use unit_nodes::{Action, ActionKind, JspName};
 
-/// What an action is to the one in which it stands: an act of its own, an attribute, its body, a param or a branch.
+/// What an action is to the one in which it stands: an act of its own, an attribute, its body, a
+/// param or a branch.
 #[derive(Clone, Copy)]
 pub(crate) enum Role {
     Act,

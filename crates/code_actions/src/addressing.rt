@@ -46,8 +46,8 @@ impl<'a> Addressing<'a> {
         }
     }
 
-    /// The code of the action behind the values of its attributes, which have these names, from the code of its params: there are so many, and
-    /// their code has one value more below it.
+    /// The code of the action behind the values of its attributes, which have these names, from the
+    /// code of its params: there are so many, and their code has one value more below it.
     pub fn code(
         &self,
         alloc: Global,
@@ -105,7 +105,8 @@ impl<'a> Addressing<'a> {
     }
 }
 
-// The code of the url of a tag, behind the values of its attributes: its address with so many params, whose code has one value more below it.
+// The code of the url of a tag, behind the values of its attributes: its address with so many
+// params, whose code has one value more below it.
 fn url(
     alloc: Global,
     ground: &Shape,
@@ -123,7 +124,8 @@ fn url(
     Ok(code)
 }
 
-// The code of a page's address, behind the values of the attributes, with params, whose code has one value more below it.
+// The code of a page's address, behind the values of the attributes, with params, whose code has
+// one value more below it.
 fn page(
     alloc: Global,
     ground: &Shape,

@@ -42,7 +42,8 @@ pub fn use_bean(
     ensured(alloc, ground, place, scoped(scope, name)?, bean, part)
 }
 
-// The bean of a class. Memory is wanting where it is over the limits of a value, as no bean that was read is.
+// The bean of a class. Memory is wanting where it is over the limits of a value, as no bean that
+// was read is.
 #[tactic(auto, using(code_expressions::proofs::ValueLemmas::inverses))]
 fn bean_of(beans: &Attrs, class: &str) -> Result<Bean, AllocError>
     ensures { IfOk result (λ bean. bean ≡ value_of (or_null (entry_at class.now beans.now))) }
@@ -77,7 +78,8 @@ pub fn get_property(
     Ok(code)
 }
 
-/// The code of `jsp:setProperty`, behind the values of its attributes. The faults of its value stand at a place of their own.
+/// The code of `jsp:setProperty`, behind the values of its attributes. The faults of its value
+/// stand at a place of their own.
 pub fn set_property(
     alloc: Global,
     ground: &Shape,

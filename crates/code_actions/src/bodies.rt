@@ -38,7 +38,8 @@ pub(crate) fn set(
     Ok(code)
 }
 
-/// The code of `c:set` of an entry of the record that a variable holds, behind the values of its attributes.
+/// The code of `c:set` of an entry of the record that a variable holds, behind the values of its
+/// attributes.
 pub(crate) fn set_entry(
     alloc: Global,
     ground: &Shape,

@@ -12,7 +12,8 @@ use page_code::{Code, Shape};
 use pg_text::{Listed, Place, Text};
 use std::alloc::{AllocError, Global};
 
-/// The code of a test and of two parts, behind the values of its attributes: the first part runs where the test is true.
+/// The code of a test and of two parts, behind the values of its attributes: the first part runs
+/// where the test is true.
 fn tested(
     alloc: Global,
     ground: &Shape,
@@ -28,7 +29,8 @@ fn tested(
     Ok(code)
 }
 
-/// The code of `c:if`, behind the values of its attributes. The test's value is kept in the variable, where one is given.
+/// The code of `c:if`, behind the values of its attributes. The test's value is kept in the
+/// variable, where one is given.
 pub(crate) fn tested_once(
     alloc: Global,
     ground: &Shape,

@@ -14,7 +14,8 @@ pub struct TestedBranch {
     pub place: Place,
 }
 
-/// A branch, from the code of its visit and of the values of its attributes, which have these names, and from the code of its body.
+/// A branch, from the code of its visit and of the values of its attributes, which have these
+/// names, and from the code of its body.
 pub fn when(
     alloc: Global,
     ground: &Shape,
@@ -42,7 +43,8 @@ pub fn when(
     })
 }
 
-/// The code of a choice: of branches in order the first whose test is true, and where none is, the last part.
+/// The code of a choice: of branches in order the first whose test is true, and where none is, the
+/// last part.
 pub fn choice(
     alloc: Global,
     ground: &Shape,

@@ -64,7 +64,8 @@ impl<'a> Enclosing<'a> {
         }
     }
 
-    /// The code of the action behind the values of its attributes, which have these names, from the code of its body.
+    /// The code of the action behind the values of its attributes, which have these names, from the
+    /// code of its body.
     pub fn code(
         &self,
         alloc: Global,

@@ -1,5 +1,6 @@
-//! The code of each kind of action behind the values of its attributes, from the codes of its parts: a body, params, branches, and what a call
-//! hands down. Each part's own code was made over its own ground, which is what stands open below the values that it takes.
+//! The code of each kind of action behind the values of its attributes, from the codes of its
+//! parts: a body, params, branches, and what a call hands down. Each part's own code was made over
+//! its own ground, which is what stands open below the values that it takes.
 #![tactic(auto)]
 
 mod addressing;

@@ -8,7 +8,8 @@ use page_code::{Code, LoopKind, Over, Shape};
 use pg_text::{Listed, Place, Text};
 use std::alloc::{AllocError, Global};
 
-/// The code of a loop, behind the values of its attributes, which have these names. The body's own code has one loop more below it.
+/// The code of a loop, behind the values of its attributes, which have these names. The body's own
+/// code has one loop more below it.
 pub(crate) fn each(
     alloc: Global,
     ground: &Shape,

@@ -103,7 +103,8 @@ pub fn remove(
     }
 }
 
-/// The code that sets a variable to the value on top, or removes it where that is null; in all scopes where none is given.
+/// The code that sets a variable to the value on top, or removes it where that is null; in all
+/// scopes where none is given.
 pub(crate) fn sets_or_removes(
     alloc: Global,
     ground: &Shape,

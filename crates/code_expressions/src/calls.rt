@@ -15,7 +15,8 @@ use pg_text::Place;
 use pg_value::{Function, Value};
 use std::alloc::{AllocError, Global};
 
-/// The code of the call of the function of a name with so many arguments; null where there is no such function.
+/// The code of the call of the function of a name with so many arguments; null where there is no
+/// such function.
 pub(crate) fn call(
     alloc: Global,
     ground: &Shape,

@@ -1,7 +1,9 @@
-//! The code of expressions, and of the values of attributes: each call gives the code of a form of `code_lowering`.
+//! The code of expressions, and of the values of attributes: each call gives the code of a form of
+//! `code_lowering`.
 //!
-//! A code is joined from the codes of parts, each of which was made over its own ground, which is what stands open below the values that it
-//! takes. Memory is wanting (`AllocError`) also where a name has more bytes than `Name` takes, which no page has room for.
+//! A code is joined from the codes of parts, each of which was made over its own ground, which is
+//! what stands open below the values that it takes. Memory is wanting (`AllocError`) also where a
+//! name has more bytes than `Name` takes, which no page has room for.
 #![tactic(auto)]
 
 mod calls;

@@ -58,8 +58,8 @@ fn variable(alloc: Global, ground: &Shape, place: &Place, name: &Text) -> Result
     operation(alloc, ground, place, Op::Find(name))
 }
 
-/// The code of the entry, under the key on top, of the implicit object that an expression names. None where it names no object of which an index
-/// takes one entry alone.
+/// The code of the entry, under the key on top, of the implicit object that an expression names.
+/// None where it names no object of which an index takes one entry alone.
 pub(crate) fn entry(
     alloc: Global,
     ground: &Shape,

@@ -20,7 +20,8 @@ use page_code::{Code, Instr, Op, Shape};
 use pg_text::Place;
 use std::alloc::{AllocError, Global};
 
-/// The code of an expression, whose faults stand at a place. It goes along the left side in a loop: a long sum is as deep as it is long.
+/// The code of an expression, whose faults stand at a place. It goes along the left side in a loop:
+/// a long sum is as deep as it is long.
 #[cycle(expression)]
 pub fn expression(alloc: Global, ground: &Shape, place: &Place, el: &El) -> Result<Code, AllocError>
     ensures { IfOk result (λ code. code ≡ form_code ground.now (tree_form place.now (tree_of el.now))) }
@@ -96,7 +97,8 @@ fn operand(alloc: Global, ground: &Shape, place: &Place, el: &El) -> Result<Code
     }
 }
 
-// The code of a value and the first link behind it. Of some implicit objects an index takes one entry alone.
+// The code of a value and the first link behind it. Of some implicit objects an index takes one
+// entry alone.
 #[cycle(expression)]
 fn first_link(
     alloc: Global,

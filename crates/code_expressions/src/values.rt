@@ -36,7 +36,8 @@ pub fn coerced(
     Ok(code)
 }
 
-/// The code of the text that a part writes, trimmed where that is asked. The part's own code has one kept body more below it.
+/// The code of the text that a part writes, trimmed where that is asked. The part's own code has
+/// one kept body more below it.
 pub fn kept(
     alloc: Global,
     ground: &Shape,

@@ -42,7 +42,8 @@ pub(crate) fn values(
     Ok(code)
 }
 
-// The code of the value of an attribute, coerced right behind its evaluation. Of a fragment it is none.
+// The code of the value of an attribute, coerced right behind its evaluation. Of a fragment it is
+// none.
 #[cycle(nodes)]
 #[tactic(auto, using(page_acts::proofs::Rows::rows))]
 fn value(

@@ -23,7 +23,8 @@ use std::alloc::{AllocError, Global};
 use tag_decl::{BodyKind, TagDecl, declared};
 use unit_nodes::{Page, TagFile};
 
-/// The code of the call of the tag file at a path; none where the unit has no such file, as no unit does that was read.
+/// The code of the call of the tag file at a path; none where the unit has no such file, as no unit
+/// does that was read.
 #[cycle(nodes)]
 pub(crate) fn call(
     alloc: Global,
@@ -147,7 +148,8 @@ fn is_fragment(decl: &TagDecl, name: &Text) -> bool
     }
 }
 
-// The code of a part that is handed down, with its end. It begins anew, whatever stands open where the call is.
+// The code of a part that is handed down, with its end. It begins anew, whatever stands open where
+// the call is.
 #[cycle(nodes)]
 fn whole(alloc: Global, page: &Page, place: &Place, body: &[Act]) -> Result<Code, AllocError>
     ensures { IfOk result (λ code. code ≡ handed_code place.now

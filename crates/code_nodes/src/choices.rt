@@ -20,7 +20,8 @@ use pg_text::Place;
 use std::alloc::{AllocError, Global};
 use unit_nodes::Page;
 
-/// The code of the first branch whose test is true. It goes from branch to branch in a loop: a choice is as long as it likes.
+/// The code of the first branch whose test is true. It goes from branch to branch in a loop: a
+/// choice is as long as it likes.
 #[cycle(nodes)]
 pub(crate) fn branches(
     alloc: Global,

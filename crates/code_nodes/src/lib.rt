@@ -1,4 +1,5 @@
-//! The code of a page: of its nodes in their order, and of those of its tag files, exactly the code of their forms.
+//! The code of a page: of its nodes in their order, and of those of its tag files, exactly the code
+//! of their forms.
 #![tactic(auto)]
 
 mod actions;

@@ -11,7 +11,8 @@ pub enum MadeBody {
     Fault(PageFault),
 }
 
-/// What is kept for a path: what it is made of, and the names of the files on which that depends, absent ones too, each with its stamp.
+/// What is kept for a path: what it is made of, and the names of the files on which that depends,
+/// absent ones too, each with its stamp.
 #[derive(Drop)]
 pub struct Made {
     pub deps: Stamps,

@@ -9,7 +9,8 @@ use edges::Sink;
 use http_in::Request;
 use std::alloc::Global;
 
-/// What answers the requests of a connection to several contexts: a desk for each, in the order of their names.
+/// What answers the requests of a connection to several contexts: a desk for each, in the order of
+/// their names.
 #[derive(Drop)]
 pub struct ContextDesk<'a, D: Drop> {
     pub names: &'a ContextNames,

@@ -9,8 +9,8 @@ use edges::Sink;
 use http_in::{Request, SESSION_ID_BYTES};
 use std::alloc::Global;
 
-/// What answers the requests of one context: a desk that tells what it and its port have of their own from what is lent
-/// to all contexts.
+/// What answers the requests of one context: a desk that tells what it and its port have of their
+/// own from what is lent to all contexts.
 pub trait Tenant {
     /// What the requests are answered over. It is lent to each call, as the next two are.
     type Port;
@@ -45,7 +45,8 @@ pub trait Tenant {
     /// What is left of a request for which memory was wanting.
     ghost leaves: { Place → Bool → Own → Lent → Asked → List ℕ → Own → Lent → Type 0 };
 
-    /// Answers a request, so many having come before it on the connection. The flag says whether that closes after it.
+    /// Answers a request, so many having come before it on the connection. The flag says whether
+    /// that closes after it.
     fn serve<K: Sink>(
         &mut self,
         alloc: Global,

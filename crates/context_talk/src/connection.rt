@@ -19,8 +19,9 @@ use site_words::Port;
 use std::alloc::{AllocError, Global};
 use talk_words::Role;
 
-/// Answers the requests of one connection to several contexts, each before it reads the next. Each is answered over the port
-/// of its context alone; what each walks of its own is the law `shares`, and what each site has seen the law `histories`.
+/// Answers the requests of one connection to several contexts, each before it reads the next. Each
+/// is answered over the port of its context alone; what each walks of its own is the law `shares`,
+/// and what each site has seen the law `histories`.
 pub fn talk_contexts<P: Port<Made>, S: Source, K: Sink, C: Clock, L: Ledger>(
     alloc: Global,
     names: &ContextNames,
@@ -42,7 +43,8 @@ pub fn talk_contexts<P: Port<Made>, S: Source, K: Sink, C: Clock, L: Ledger>(
     ensures same { connections_of P.opening P.pass P.home role ports.new.ports.items
         ≡ connections_of P.opening P.pass P.home role ports.old.ports.items }
 
-    // The sink took the answers to the requests that stand in the bytes that came, in their order, and nothing else.
+    // The sink took the answers to the requests that stand in the bytes that came, in their order,
+    // and nothing else.
     ensures talk { TalkedAmong names.now (connections_of P.opening P.pass P.home role ports.old.ports.items)
         (map (λ (port : P). P.seen port) ports.old.ports.items)
         (map (λ (port : P). P.seen port) ports.new.ports.items)

@@ -1,5 +1,5 @@
-//! A connection to several contexts: each request is answered by the site of its context, and each context has a draft of
-//! its own on each connection.
+//! A connection to several contexts: each request is answered by the site of its context, and each
+//! context has a draft of its own on each connection.
 #![tactic(auto)]
 
 mod command;

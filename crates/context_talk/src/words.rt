@@ -4,7 +4,8 @@ ghost use Rattle.context_talk.specs.Contexts.{words_told};
 
 use pages_talk::seed_of;
 
-/// The word of the names, and the seed that the words ask for, where they are those of this command.
+/// The word of the names, and the seed that the words ask for, where they are those of this
+/// command.
 pub(crate) fn words_told(words: &[String]) -> Option<(&str, [u8; 32])>
     ensures { option_map (λ told. (told.0.now, told.1)) result ≡ words_told (map string_bytes words.entry.now) }
 {

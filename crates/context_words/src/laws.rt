@@ -1,8 +1,9 @@
 ghost use Rattle.context_words.specs.Grown.{HasOwnHistories};
 ghost use Rattle.context_words.specs.Shared.{AreOwnWalks, HasOwnShares};
 
-/// Each context's answers and entries are those of a walk over its own requests alone, with the moments which they took:
-/// what each context has is walked so, and such a walk is one of a connection to its site.
+/// Each context's answers and entries are those of a walk over its own requests alone, with the
+/// moments which they took: what each context has is walked so, and such a walk is one of a
+/// connection to its site.
 pub fn shares<H>()
     ensures shares { HasOwnShares H }
     ensures walks { AreOwnWalks }

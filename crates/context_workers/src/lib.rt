@@ -1,4 +1,5 @@
-//! The workers of several sites that are shared: each has a port to every one of them, over a pass of its own.
+//! The workers of several sites that are shared: each has a port to every one of them, over a pass
+//! of its own.
 #![tactic(auto)]
 
 mod shared;

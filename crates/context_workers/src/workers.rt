@@ -12,11 +12,13 @@ use site_words::Compiled;
 use std::alloc::{AllocError, Global};
 use std::sync::Wait;
 
-/// A worker of several sites: a port to each, in the order of their names, and the mark that the round was over.
+/// A worker of several sites: a port to each, in the order of their names, and the mark that the
+/// round was over.
 pub type Worker<'a, P, G, R, E> = Served<PortList<SharedPort<'a, P, G, R>>, E>;
 
-/// Puts so many workers into an empty list with room for them, each with the last pass that is left of every site. Where there is no
-/// memory, the workers that were made stand there, and the passes that were taken for the next one are dropped.
+/// Puts so many workers into an empty list with room for them, each with the last pass that is left
+/// of every site. Where there is no memory, the workers that were made stand there, and the passes
+/// that were taken for the next one are dropped.
 pub fn seat<'a, P: Compiled, G: Gate + Drop, R: Wait, E: Drop>(
     rt: &'a R,
     alloc: Global,

@@ -101,7 +101,8 @@ impl<P: Compiled> Contexts<P> {
         self.sites[context as usize].apply(pass, act)
     }
 
-    /// The ports of the sites, on which nobody else acts; where memory is wanting the sites are dropped.
+    /// The ports of the sites, on which nobody else acts; where memory is wanting the sites are
+    /// dropped.
     pub fn ports(self) -> Result<PortList<SoloPort<P>>, AllocError>
         requires rest { All Rests self.sites.items }
         ensures { IfOk result (λ list. map (λ port. port.actor.site) list.ports.items ≡ self.sites.items) }

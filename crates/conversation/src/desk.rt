@@ -46,13 +46,16 @@ pub trait Desk {
     /// What holds between requests, so many having been answered.
     ghost ready: { ℕ → Self → Self.Port → Self.Clock → Self.Count → Type 0 };
 
-    /// The exchange leads from one state to the other; the flag says whether the connection closes after it.
+    /// The exchange leads from one state to the other; the flag says whether the connection closes
+    /// after it.
     ghost serves: { World → Bool → State → Exchange → State → Type 0 };
 
-    /// Memory was wanting for the request, which leaves this text in place of a response, and this state.
+    /// Memory was wanting for the request, which leaves this text in place of a response, and this
+    /// state.
     ghost starves: { World → Bool → State → Asked → List ℕ → State → Type 0 };
 
-    /// Answers a request, so many having come before it. The flag says whether the connection closes after it.
+    /// Answers a request, so many having come before it. The flag says whether the connection
+    /// closes after it.
     fn serve<K: Sink>(
         &mut self,
         alloc: Global,

@@ -3,8 +3,8 @@ use http_in::HttpFault;
 /// How a connection ended.
 #[derive(Clone, Copy, Debug, PartialEq, Eq)]
 pub enum Ended {
-    /// The input ended between requests, a request asked to close, a response broke off unfinished, or the 65,536th request
-    /// was answered.
+    /// The input ended between requests, a request asked to close, a response broke off unfinished,
+    /// or the 65,536th request was answered.
     Done,
     /// The bytes show this fault, which was answered where it has an answer.
     Refused(HttpFault),

@@ -1,7 +1,9 @@
-//! The conversation on a connection: its requests are read and answered one after the other, by whatever answers them.
+//! The conversation on a connection: its requests are read and answered one after the other, by
+//! whatever answers them.
 //!
-//! A [`Desk`] answers one request, and writes the response itself. [`walk`] reads the requests, has each answered before it
-//! reads the next, and answers a fault of the bytes. Each way to end speaks of the bytes that came.
+//! A [`Desk`] answers one request, and writes the response itself. [`walk`] reads the requests, has
+//! each answered before it reads the next, and answers a fault of the bytes. Each way to end speaks
+//! of the bytes that came.
 #![tactic(auto)]
 
 mod desk;

@@ -28,7 +28,8 @@ pub fn walk<D: Desk, S: Source, K: Sink>(
         count.new }
     ensures world { D.world desk.new port.new clock.new count.new ≡ D.world desk.old port.old clock.old count.old }
 
-    // The sink took the responses to the requests that stand in the bytes that came, and nothing else.
+    // The sink took the responses to the requests that stand in the bytes that came, and nothing
+    // else.
     ensures talk { Tells (D.serves (D.world desk.old port.old clock.old count.old))
         (D.starves (D.world desk.old port.old clock.old count.old))
         (D.state desk.old port.old clock.old count.old) (D.state desk.new port.new clock.new count.new)

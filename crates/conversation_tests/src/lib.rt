@@ -1,4 +1,5 @@
-//! Tests of conversations: a desk that writes in several parts, and whatever may come in the middle.
+//! Tests of conversations: a desk that writes in several parts, and whatever may come in the
+//! middle.
 #![tactic(auto)]
 
 #[cfg(test)]

@@ -6,7 +6,8 @@ use std::test::Fail;
 
 const REQUEST: &[u8] = b"GET / HTTP/1.1\r\nHost: h\r\n\r\n";
 
-// Gives one request at each read, three in all, and ends the input where one that it gave wasn't answered yet.
+// Gives one request at each read, three in all, and ends the input where one that it gave wasn't
+// answered yet.
 #[derive(Drop)]
 struct Waiting<'a> {
     answered: &'a Cell<u64>,

@@ -6,8 +6,8 @@ use http_in::Request;
 use http_out::write;
 use std::alloc::Global;
 
-/// Answers each request with its target in three parts. At `/broken` the response breaks off behind the second, and at
-/// `/starved` memory is wanting there.
+/// Answers each request with its target in three parts. At `/broken` the response breaks off behind
+/// the second, and at `/starved` memory is wanting there.
 #[derive(Drop)]
 pub struct Parts;
 

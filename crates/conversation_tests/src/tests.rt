@@ -6,8 +6,9 @@ use row_text::written_out;
 use std::alloc::{AllocError, Global};
 use std::test::Fail;
 
-// Requests in writing, the reads and the writes that fail, how the conversation ends, and what it writes. In writing `§` is the rest of a
-// request behind its target, `±` stands between a status and the length of a text, `¶` ends a line, and `«9 x»` is x nine times.
+// Requests in writing, the reads and the writes that fail, how the conversation ends, and what it
+// writes. In writing `§` is the rest of a request behind its target, `±` stands between a status
+// and the length of a text, `¶` ends a line, and `«9 x»` is x nine times.
 #[derive(Clone, Copy)]
 struct Row {
     requests: &'static str,

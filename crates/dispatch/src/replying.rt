@@ -19,7 +19,8 @@ use request_pages::{Reply, new_id};
 use run_world::Around;
 use std::alloc::{AllocError, Global};
 
-/// Writes a reply to its end. Memory may be wanting only where nothing was committed, and then nothing was written.
+/// Writes a reply to its end. Memory may be wanting only where nothing was committed, and then
+/// nothing was written.
 pub(crate) fn write_reply<K: Sink>(
     alloc: Global,
     reply: Reply,

@@ -19,8 +19,9 @@ use http_in::Request;
 use site_words::{Acted, Port};
 use std::alloc::Global;
 
-/// Answers a request that isn't an editor's, and writes its response while its pages run. The flag says whether the connection closes behind
-/// it. `steps` counts the bytes that are read to make pages.
+/// Answers a request that isn't an editor's, and writes its response while its pages run. The flag
+/// says whether the connection closes behind it. `steps` counts the bytes that are read to make
+/// pages.
 pub fn respond<Q: Port<Made>, K: Sink, C: Clock, L: Ledger>(
     alloc: Global,
     port: &mut Q,

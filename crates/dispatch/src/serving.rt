@@ -149,8 +149,9 @@ fn run<'a, Q: Port<Made>, K: Sink, L: Ledger>(
     come_back(port, steps, starved, replied)
 }
 
-// What was replied, unless memory was ever wanting to find a page. The port and the count of bytes come back as they are: they are handed on
-// since a struct that keeps a page is taken apart without telling what stands behind what it was lent.
+// What was replied, unless memory was ever wanting to find a page. The port and the count of bytes
+// come back as they are: they are handed on since a struct that keeps a page is taken apart without
+// telling what stands behind what it was lent.
 fn come_back<Q: Port<Made>, L: Ledger>(
     port: &mut Q,
     steps: &mut Steps<L>,
@@ -210,7 +211,8 @@ fn finish<Q: Port<Made>, K: Sink>(
     }
 }
 
-// Abandons a request whose pages were cut short. What was committed stands; else the answer says that memory was wanting.
+// Abandons a request whose pages were cut short. What was committed stands; else the answer says
+// that memory was wanting.
 fn give_up<Q: Port<Made>, K: Sink>(
     port: &mut Q,
     number: u64,

@@ -12,8 +12,8 @@ use std::marker::Brand;
 use std::sync::ledger::{Blank, Ledger};
 use std::test::Fail;
 
-/// A site of these files on which nobody else acts, whose journal weighs at most `limit`; and requests, which begin at these moments, over a
-/// sink that fails at these calls.
+/// A site of these files on which nobody else acts, whose journal weighs at most `limit`; and
+/// requests, which begin at these moments, over a sink that fails at these calls.
 #[derive(Clone, Copy)]
 pub struct Course<'a> {
     pub files: &'a [(&'a str, &'a str)],
@@ -23,7 +23,8 @@ pub struct Course<'a> {
     pub fails: &'a [u64],
 }
 
-// A site on which nobody else acts, the moments of its requests, and the bytes that were read for its pages.
+// A site on which nobody else acts, the moments of its requests, and the bytes that were read for
+// its pages.
 #[derive(Drop)]
 struct Answering<N: Ledger> {
     port: SoloPort<Made>,
@@ -48,7 +49,8 @@ impl<N: Ledger> Answering<N> {
         })
     }
 
-    // Adds a line: the outcome of a request over a sink that fails at these calls, how many bytes were read to make pages, and the answer.
+    // Adds a line: the outcome of a request over a sink that fails at these calls, how many bytes
+    // were read to make pages, and the answer.
     fn answer(
         &mut self,
         alloc: Global,
@@ -87,8 +89,8 @@ impl<N: Ledger> Answering<N> {
     }
 }
 
-// A letter for each entry of the history: B for a Begin, A for a step of the application, S for a session that is made, F for a Fetch, O
-// for an Offer, E for an End and D for an Abandon.
+// A letter for each entry of the history: B for a Begin, A for a step of the application, S for a
+// session that is made, F for a Fetch, O for an Offer, E for an End and D for an Abandon.
 fn letters(alloc: Global, site: &Site<Made>) -> Result<String, AllocError> {
     let mut text = String::new(alloc);
     for entry in site.history().iter() {
@@ -97,7 +99,8 @@ fn letters(alloc: Global, site: &Site<Made>) -> Result<String, AllocError> {
     Ok(text)
 }
 
-// What comes of requests one after the other: a line for each; then the moment at which a next one begins, and what they did.
+// What comes of requests one after the other: a line for each; then the moment at which a next one
+// begins, and what they did.
 fn come_of<N: Ledger>(alloc: Global, blank: Blank, course: &Course<'_>) -> Result<String, Fail>
     requires name { blank.name ≡ N.name }
     requires parts { blank.parts ≡ N.parts }

@@ -3,9 +3,10 @@ use crate::asking::Asked;
 use crate::opening::AMPLE;
 use std::test::Fail;
 
-// Requests that are answered, also where one fails; one more than the journal has room for; requests whose answers are not taken; and a
-// session that ends once it was idle too long. Behind each is a line for each answer: the outcome, what is read for its pages, and the
-// text; then the moment at which a next request begins, and what all add to the history.
+// Requests that are answered, also where one fails; one more than the journal has room for;
+// requests whose answers are not taken; and a session that ends once it was idle too long. Behind
+// each is a line for each answer: the outcome, what is read for its pages, and the text; then the
+// moment at which a next request begins, and what all add to the history.
 const ROWS: [(Course<'static>, &str); 4] = [
     (
         Course {

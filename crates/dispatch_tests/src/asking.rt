@@ -9,7 +9,8 @@ use site_words::Port;
 use std::alloc::Global;
 use std::test::Fail;
 
-/// A request in short: its method, its path and the id of its session, which is empty where there is none.
+/// A request in short: its method, its path and the id of its session, which is empty where there
+/// is none.
 pub type Asked<'a> = (&'a str, &'a str, &'a str);
 
 /// What comes of a request over this sink.

@@ -13,8 +13,8 @@ use std::test::Fail;
 /// The limit of a journal that never gets full here.
 pub const AMPLE: u64 = 2_147_483_648;
 
-/// A site of these files at this version, for as many passes, whose journal weighs at most `limit`. Its sessions end once they weren't used
-/// for 1,800 seconds.
+/// A site of these files at this version, for as many passes, whose journal weighs at most `limit`.
+/// Its sessions end once they weren't used for 1,800 seconds.
 pub fn resumed(
     alloc: Global,
     files: &[(&str, &str)],
@@ -44,7 +44,8 @@ pub fn resumed(
     Ok(Site::<Made>::resume(alloc, opening)?)
 }
 
-/// The port of a site of these files on which nobody else acts, whose journal weighs at most `limit`.
+/// The port of a site of these files on which nobody else acts, whose journal weighs at most
+/// `limit`.
 pub fn opened(alloc: Global, files: &[(&str, &str)], limit: u64) -> Result<SoloPort<Made>, Fail>
     ensures { IfOk result (λ port. IsIdle port.actor.site.opening 0 port.actor.site.history) }
 {

@@ -6,7 +6,8 @@ use compiled_pages::Made;
 use site_words::{Acted, Port};
 use source_tree::Edits;
 
-/// Publishes the edits by the port of another pass when a page is fetched first, and notes the version.
+/// Publishes the edits by the port of another pass when a page is fetched first, and notes the
+/// version.
 #[derive(Drop)]
 pub struct Publishing<'a, Q: Port<Made>> {
     pub port: Q,

@@ -6,7 +6,8 @@ use pg_text::{Bytes, Listed, Text, resolve};
 use std::alloc::Global;
 use std::test::Fail;
 
-/// A request in short: its method, its path and the id of its session, which is empty where there is none. It doesn't ask to close.
+/// A request in short: its method, its path and the id of its session, which is empty where there
+/// is none. It doesn't ask to close.
 pub fn request(alloc: Global, method: &str, path: &str, cookie: &str) -> Result<Request, Fail>
     ensures { IfOk result (λ request. length request.cookie ≤ SESSION_ID_BYTES) }
 {

@@ -22,7 +22,8 @@ struct Visit<'a> {
     files: &'a [(&'a str, &'a str)],
 }
 
-// What a sink had taken when a page first asked a step of a port that notes it, a bar, and what it took in all.
+// What a sink had taken when a page first asked a step of a port that notes it, a bar, and what it
+// took in all.
 fn watched<N: Ledger, P: Port<Made>>(
     alloc: Global,
     blank: Blank,
@@ -78,7 +79,8 @@ fn told(alloc: Global, visit: &Visit<'_>) -> Result<String, Fail> {
 const HEAD: &str =
     "HTTP/1.1 200 OK\r\nContent-Type: text/html;charset=UTF-8\r\nTransfer-Encoding: chunked\r\n\r\n";
 
-// Requests of pages, and what is written before the first step, and in all. In writing `§` is the head, and `«9 x»` is x nine times.
+// Requests of pages, and what is written before the first step, and in all. In writing `§` is the
+// head, and `«9 x»` is x nine times.
 const PAGES: [(&str, &str, &str); 4] = [
     (
         "GET",

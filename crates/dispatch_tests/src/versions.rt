@@ -50,7 +50,8 @@ fn port_of<'a, R: Wait>(
     Some(site.port(rt, pass))
 }
 
-// What comes of two requests over this port, and the version that its other pass publishes while the first is under way.
+// What comes of two requests over this port, and the version that its other pass publishes while
+// the first is under way.
 fn asked_twice<N: Ledger, P: Port<Made>, Q: Port<Made>>(
     alloc: Global,
     blank: Blank,

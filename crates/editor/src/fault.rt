@@ -11,7 +11,8 @@ pub enum EditorFault {
     /// The path of the file isn't UTF-8, or no path in normal form.
     #[error("the path is none of a file")]
     BadPath,
-    /// The draft would have more than `MAX_DRAFT_EDITS` edits, or more than `MAX_DRAFT_BYTES` bytes of texts.
+    /// The draft would have more than `MAX_DRAFT_EDITS` edits, or more than `MAX_DRAFT_BYTES` bytes
+    /// of texts.
     #[error("the draft would be too large")]
     DraftTooLarge,
     /// The text of the file isn't UTF-8.

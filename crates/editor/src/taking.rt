@@ -12,8 +12,8 @@ use site_words::{Acted, Compiled, Port, Refusal};
 use source_tree::Edit;
 use std::alloc::Global;
 
-/// Does what a request says to an editor: it changes the draft, or publishes it. After a fault, and where memory is
-/// wanting, the draft stands as it was.
+/// Does what a request says to an editor: it changes the draft, or publishes it. After a fault, and
+/// where memory is wanting, the draft stands as it was.
 pub fn take<P: Compiled, Q: Port<P>>(
     alloc: Global,
     draft: &mut Draft,
@@ -34,7 +34,8 @@ pub fn take<P: Compiled, Q: Port<P>>(
     }
 }
 
-/// Does what a request says to a draft that isn't published, and answers the number of its edits. Any other message is none.
+/// Does what a request says to a draft that isn't published, and answers the number of its edits.
+/// Any other message is none.
 pub fn change(
     alloc: Global,
     draft: &mut Draft,

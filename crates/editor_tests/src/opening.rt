@@ -18,7 +18,8 @@ pub const AMPLE: u64 = 2_147_483_648;
 #[derive(Debug, Drop)]
 pub struct Unsound;
 
-/// An editor with an empty draft over a new site without files, whose journal weighs at most `limit`.
+/// An editor with an empty draft over a new site without files, whose journal weighs at most
+/// `limit`.
 pub fn opened(alloc: Global, limit: u64) -> Result<Editing, Failure<Unsound>> {
     let opening = Opening {
         seed: [0; 32],

@@ -2,7 +2,8 @@
 use crate::message::Said;
 use crate::opening::AMPLE;
 
-/// The messages of an editor to a site whose journal weighs at most `limit`, and a line for each answer.
+/// The messages of an editor to a site whose journal weighs at most `limit`, and a line for each
+/// answer.
 #[derive(Clone, Copy)]
 pub struct Talk<'a> {
     pub limit: u64,

@@ -16,8 +16,9 @@ const MAX_BYTES: u64 = 4_294_967_296;
 /// Reads journals, one behind the other, to the first that is wrong, and says whether each is
 /// right. At most 4,294,967,296 bytes are read, and one journal at a time is in memory.
 ///
-/// Errors: `NotJournal` and `TooLong` where something else stands behind right journals; `ReadFault`
-/// where the source failed; want of memory. Then the source has given some of the bytes.
+/// Errors: `NotJournal` and `TooLong` where something else stands behind right journals;
+/// `ReadFault` where the source failed; want of memory. Then the source has given some of the
+/// bytes.
 pub fn audit<S: Source>(alloc: Global, source: &mut S) -> Result<Verdict, AuditFault>
     ensures { Audited needs_at (S.left source.old) (S.faults source.old) (S.faults source.new)
         result }

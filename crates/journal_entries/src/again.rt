@@ -20,7 +20,8 @@ pub enum Again {
     Fails(u64),
 }
 
-/// Does the entries of a journal again on a site of its opening. Where all are legal, the site has done all but the Roll.
+/// Does the entries of a journal again on a site of its opening. Where all are legal, the site has
+/// done all but the Roll.
 pub fn do_again(
     alloc: Global,
     site: &mut Site<Made>,

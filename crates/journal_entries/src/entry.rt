@@ -14,7 +14,8 @@ use site_words::{Acted, Entry, Op, Reply};
 use std::alloc::{AllocError, Global};
 use word_equality::Same;
 
-/// Does an entry again that is no Roll, and says whether it may come and the site's reply is the entry's.
+/// Does an entry again that is no Roll, and says whether it may come and the site's reply is the
+/// entry's.
 pub(crate) fn do_entry(
     alloc: Global,
     site: &mut Site<Made>,

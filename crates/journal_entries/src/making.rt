@@ -24,7 +24,8 @@ use std::sync::ledger::{Blank, Ledger};
 use translator::translate;
 use unit_build::build;
 
-/// What an operation brings with it that may come now: an Offer what is made of its page by the tree of its request.
+/// What an operation brings with it that may come now: an Offer what is made of its page by the
+/// tree of its request.
 pub(crate) fn made_for(
     alloc: Global,
     site: &Site<Made>,

@@ -11,8 +11,8 @@ use site_journal::Talk;
 use site_words::Opening;
 use std::alloc::Global;
 
-/// A journal: what a site was at first, its history with the Roll at its end, and the talk that made
-/// it, where one connection did.
+/// A journal: what a site was at first, its history with the Roll at its end, and the talk that
+/// made it, where one connection did.
 #[derive(Drop)]
 pub struct Journal {
     pub opening: Opening,

@@ -1,4 +1,5 @@
-//! Journals and their parts, each read from a source: exactly the one that stands next, or that none does.
+//! Journals and their parts, each read from a source: exactly the one that stands next, or that
+//! none does.
 #![tactic(auto)]
 
 mod acts;

@@ -12,7 +12,8 @@ pub trait Part {
 
     ghost text: { Self → List ℕ };
 
-    /// Reads the part that stands next. At most `room` bytes may be read, and it falls by those that were.
+    /// Reads the part that stands next. At most `room` bytes may be read, and it falls by those
+    /// that were.
     fn read<S: Source>(
         alloc: Global,
         source: &mut S,

@@ -5,7 +5,8 @@ use pg_value::{Attrs, Value, depth};
 use std::alloc::Global;
 use std::test::Fail;
 
-// What reading such a part of these bytes answers, but for the part, and how much may be read behind it.
+// What reading such a part of these bytes answers, but for the part, and how much may be read
+// behind it.
 fn read<T: Part + Drop>(
     alloc: Global,
     bytes: &[u8],
@@ -59,7 +60,8 @@ fn a_value_of_any_depth_is_read(rt: HostRuntime) -> Result<(), Fail> {
     Ok(())
 }
 
-// The smallest journal with a talk: no files, one pass, a history of one Roll, and a connection without bytes.
+// The smallest journal with a talk: no files, one pass, a history of one Roll, and a connection
+// without bytes.
 const SMALLEST: [u8; 156] = *b"PGJRNL1\n\
     \0\0\0\0\0\0\0\0\0\0\0\0\0\0\0\0\0\0\0\0\0\0\0\0\0\0\0\0\0\0\0\0\
     \0\0\0\0\x80\0\0\0\0\0\0\0\0\0\0\x01\0\0\0\0\0\0\x07\x08\0\0\0\0\0\0\0\0\0\0\0\0\0\0\0\0\

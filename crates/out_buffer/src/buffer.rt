@@ -12,7 +12,8 @@ use pg_text::Failure;
 use pg_value::RunFault;
 use std::alloc::AllocError;
 
-/// The most bytes of a buffer's first room: what an allocator has at hand, and enough for most small pages.
+/// The most bytes of a buffer's first room: what an allocator has at hand, and enough for most
+/// small pages.
 const FIRST_ROOM: usize = 1_024;
 
 /// The buffer of a page, with its settings.
@@ -64,7 +65,8 @@ impl Buffer {
     }
 }
 
-// Puts bytes behind those of a buffer of this size, which they fit. The first take room for more at once.
+// Puts bytes behind those of a buffer of this size, which they fit. The first take room for more at
+// once.
 fn keep(buffer: &mut Vec<u8>, size: usize, bytes: &[u8]) -> Result<(), AllocError>
     ensures items { OnOk result (buffer.new.items ≡ buffer.old.items ++ bytes.now) }
     ensures len { OnOk result (length buffer.new.items ≡ length buffer.old.items + length bytes.now) }
@@ -76,8 +78,8 @@ fn keep(buffer: &mut Vec<u8>, size: usize, bytes: &[u8]) -> Result<(), AllocErro
     buffer.extend_from_slice(bytes)
 }
 
-// Commits what is over the buffer in pieces of its size. What is left of the bytes is the only part of them that is copied, but
-// for those that fill the first piece.
+// Commits what is over the buffer in pieces of its size. What is left of the bytes is the only part
+// of them that is copied, but for those that fill the first piece.
 fn overflow<K: Sink>(
     buffer: &mut Vec<u8>,
     size: usize,

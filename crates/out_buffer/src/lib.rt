@@ -1,5 +1,5 @@
-//! The writer of a page run: what a page puts goes into its buffer, is committed to a sink where the buffer is full, or stays in a
-//! body that is kept.
+//! The writer of a page run: what a page puts goes into its buffer, is committed to a sink where
+//! the buffer is full, or stays in a body that is kept.
 #![tactic(auto)]
 
 mod bodies;

@@ -82,7 +82,8 @@ impl Stream {
         }
     }
 
-    /// Ends the response behind what is left of it. Where nothing was committed it is written whole.
+    /// Ends the response behind what is left of it. Where nothing was committed it is written
+    /// whole.
     pub(crate) fn finish<K: Sink>(
         &mut self,
         alloc: Global,

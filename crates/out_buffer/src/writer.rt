@@ -26,9 +26,9 @@ const MAX_TEXT_BYTES: usize = 1_048_560;
 
 /// The output of a page run on its way to a sink, which is lent to each call that may write.
 ///
-/// What is committed goes out at once: the head with the first piece, and each piece as a chunk. The rest stays in the buffer, and
-/// what is put while a body is kept stays in that body. Where the sink fails nothing more is written in this response, and the
-/// page runs on all the same.
+/// What is committed goes out at once: the head with the first piece, and each piece as a chunk.
+/// The rest stays in the buffer, and what is put while a body is kept stays in that body. Where the
+/// sink fails nothing more is written in this response, and the page runs on all the same.
 #[derive(Drop)]
 pub struct Writer {
     stream: Stream,
@@ -86,8 +86,8 @@ impl Writer {
         }
     }
 
-    /// Puts a text into the innermost kept body, or else behind the output. X19 where more than [`MAX_OUTPUT_BYTES`] would be
-    /// put, and X10 where the buffer overflows and isn't flushed.
+    /// Puts a text into the innermost kept body, or else behind the output. X19 where more than
+    /// [`MAX_OUTPUT_BYTES`] would be put, and X10 where the buffer overflows and isn't flushed.
     pub fn put<K: Sink>(&mut self, sink: &mut K, text: &str) -> Result<(), Failure<RunFault>>
         ensures comes { (start : Option (List ℕ)) (before : ℕ) (writer : Written) →
             Stands start before self.old (K.taken sink.old) (K.faults sink.old) writer →
@@ -121,7 +121,8 @@ impl Writer {
         self.kept.start()
     }
 
-    /// Takes the innermost kept body, without a copy. X20 where it is too large. It isn't kept any more in any case.
+    /// Takes the innermost kept body, without a copy. X20 where it is too large. It isn't kept any
+    /// more in any case.
     pub fn take_body(&mut self) -> Result<Text, Failure<RunFault>>
         requires { 0 < length self.old.kept }
         ensures answer { Answers (body_answer (innermost self.old.kept)) result }
@@ -154,7 +155,8 @@ impl Writer {
         self.kept.truncate(left);
     }
 
-    /// Empties the buffer and drops the kept bodies. X9 where something was committed, and then all stands as it was.
+    /// Empties the buffer and drops the kept bodies. X9 where something was committed, and then all
+    /// stands as it was.
     pub fn clear(&mut self) -> Result<(), RunFault>
         ensures answer { result ≡ (if self.old.committed then Err RunFault.Committed else Ok tt) }
         ensures ok { OnOk result (self.new ≡ record self.old { buffer = []; kept = [] }) }
@@ -225,8 +227,9 @@ impl Writer {
         &self.buffer.bytes
     }
 
-    /// Ends the response, which may break off. Where nothing was committed it is written whole; else what is left is a last chunk,
-    /// and the end stands behind it, unless it breaks off. Memory may be wanting only where nothing was committed.
+    /// Ends the response, which may break off. Where nothing was committed it is written whole;
+    /// else what is left is a last chunk, and the end stands behind it, unless it breaks off.
+    /// Memory may be wanting only where nothing was committed.
     pub fn finish<K: Sink>(self, sink: &mut K, broken: bool) -> Result<(), Failure<Failed>>
         ensures finished { (start : Option (List ℕ)) (before : ℕ) (writer : Written) →
             Stands start before self (K.taken sink.old) (K.faults sink.old) writer →

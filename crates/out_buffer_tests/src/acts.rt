@@ -29,7 +29,8 @@ pub enum Act<'a> {
     Sink,
 }
 
-/// A page, and what is told of it: a bar behind each answer and each fault, and at last what the sink took.
+/// A page, and what is told of it: a bar behind each answer and each fault, and at last what the
+/// sink took.
 #[derive(Clone, Copy)]
 pub struct Row<'a> {
     /// The size of the buffer in kilobytes, or 0 where there is none.

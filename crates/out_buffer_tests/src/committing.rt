@@ -98,7 +98,8 @@ pub const ROWS: [Row<'static>; 11] = [
         end: None,
         told: "BufferOverflow|«8191 a»|«8191 a»b|",
     },
-    // The second of the three parts of the first chunk fails, behind the head, and the sink is left alone.
+    // The second of the three parts of the first chunk fails, behind the head, and the sink is left
+    // alone.
     Row {
         kilobytes: 0,
         autoflush: true,

@@ -50,7 +50,8 @@ pub const ROWS: [Row<'static>; 3] = [
         end: None,
         told: "1 «1048560 a»|0 open|1 ValueTooLarge|0 open|",
     },
-    // All that is put has its limit, 16,777,216 bytes, and the page runs on where its sink takes nothing.
+    // All that is put has its limit, 16,777,216 bytes, and the page runs on where its sink takes
+    // nothing.
     Row {
         kilobytes: 0,
         autoflush: true,

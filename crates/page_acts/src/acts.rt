@@ -8,8 +8,8 @@ use pg_text::{Path, Place, Text};
 use pg_value::Scope;
 use unit_nodes::UnitPart;
 
-/// Template text, an expression in it, an action, or the call of a tag file. Faults that have no place of their own stand
-/// at `place`.
+/// Template text, an expression in it, an action, or the call of a tag file. Faults that have no
+/// place of their own stand at `place`.
 #[derive(Drop)]
 #[cycle(acts)]
 pub enum Act<'u> {
@@ -136,7 +136,8 @@ pub enum Act<'u> {
         attributes: Vec<ActAttribute<'u>>,
         place: &'u Place,
     },
-    /// Acts one after the other, as those of `jsp:text`. An action that stands for no act of its own is a group of none.
+    /// Acts one after the other, as those of `jsp:text`. An action that stands for no act of its
+    /// own is a group of none.
     Group {
         body: Vec<Act<'u>>,
         place: &'u Place,
@@ -195,7 +196,8 @@ impl<'u> Act<'u> {
     }
 }
 
-/// An attribute whose value is evaluated. Those of an act stand in the order in which they are: first those of its start tag.
+/// An attribute whose value is evaluated. Those of an act stand in the order in which they are:
+/// first those of its start tag.
 #[derive(Drop)]
 #[cycle(acts)]
 pub enum ActAttribute<'u> {

@@ -1,5 +1,5 @@
-//! A page as its meaning reads it: each action as one act, with the attributes that it names read once. Acts borrow the
-//! unit that they come from.
+//! A page as its meaning reads it: each action as one act, with the attributes that it names read
+//! once. Acts borrow the unit that they come from.
 #![tactic(auto)]
 
 mod acts;

@@ -1,7 +1,8 @@
 ghost use Rattle.page_meaning.specs.Laws.{AnswersAreUnused, ChainsEnd, ForwardsLeaveFewer, HundredLevels, MoreAnswersGoOn, PiecesAreCommitted, RequestsGoOn, StepsAndPiecesGrow};
 
-/// Every part of a page only adds steps and pieces, each step behind all that was committed then, and starts no session behind a commit;
-/// and a missing answer has no other effect than that it is waited for.
+/// Every part of a page only adds steps and pieces, each step behind all that was committed then,
+/// and starts no session behind a commit; and a missing answer has no other effect than that it is
+/// waited for.
 pub fn parts()
     ensures grow { StepsAndPiecesGrow }
     ensures more { MoreAnswersGoOn }

@@ -1,11 +1,12 @@
 //! The program `page_rows`: runs the page of each row on standard input, and tells what comes of
 //! it.
 //!
-//! A row is some lines up to an empty one. Its lines that begin with a path are the files of a tree,
-//! of which the first is a page that is read, translated and run. The other lines say what surrounds
-//! the run: what its steps are answered, the request, limits, and how deep it runs and how much was
-//! visited and charged before. A line that begins with `# ` says what the rows behind it show. The
-//! lines are written as they are read, and behind each row, after `> `, comes what is told.
+//! A row is some lines up to an empty one. Its lines that begin with a path are the files of a
+//! tree, of which the first is a page that is read, translated and run. The other lines say what
+//! surrounds the run: what its steps are answered, the request, limits, and how deep it runs and
+//! how much was visited and charged before. A line that begins with `# ` says what the rows behind
+//! it show. The lines are written as they are read, and behind each row, after `> `, comes what is
+//! told.
 #![tactic(auto)]
 
 mod surroundings;

@@ -2,8 +2,9 @@ ghost use Rattle.page_table.specs.Agreement.{RowsAgree};
 ghost use Rattle.page_table.specs.Finds.{EachFinds};
 ghost use Rattle.page_table.specs.Laws.{EachRunEnds, NeverStuck, OneEnd, RunsGrow, RunsLeaveBodies, RunsLeaveFrames, TurnsComeNearer, TurnsLeaveFrames, TurnsStand};
 
-/// A run has one end, only adds to the steps asked, behind all that was committed, and to the pieces committed, starts no session behind a
-/// commit, and takes no frame back that stood before it.
+/// A run has one end, only adds to the steps asked, behind all that was committed, and to the
+/// pieces committed, starts no session behind a commit, and takes no frame back that stood before
+/// it.
 pub fn runs()
     ensures one { OneEnd }
     ensures grow { RunsGrow }
@@ -11,7 +12,8 @@ pub fn runs()
     ensures turns { TurnsLeaveFrames }
 {}
 
-/// Code whose shapes fit is never stuck, keeps its shapes and the bodies that were kept before it, and comes to an end.
+/// Code whose shapes fit is never stuck, keeps its shapes and the bodies that were kept before it,
+/// and comes to an end.
 pub fn checked()
     ensures stuck { NeverStuck }
     ensures finds { EachFinds }
@@ -21,7 +23,8 @@ pub fn checked()
     ensures ends { EachRunEnds }
 {}
 
-/// Calls, fragments, includes, beans and loops are those of the meaning, where the code that runs one level deeper stands for the nodes.
+/// Calls, fragments, includes, beans and loops are those of the meaning, where the code that runs
+/// one level deeper stands for the nodes.
 pub fn rows()
     ensures { RowsAgree }
 {}

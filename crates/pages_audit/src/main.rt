@@ -1,8 +1,8 @@
-//! The program `pages_audit`: says of the journals that stand one behind the other on standard input
-//! whether each is right. It writes one line: `yes` with how many journals and entries there are, or
-//! `no`, `notjournal` or `toolong` with how many right journals stand before. Its status is 0 for yes
-//! and 6 for the other lines, 1 where there is any word, 3 and 4 where reading or writing failed, and
-//! 5 where memory was wanting.
+//! The program `pages_audit`: says of the journals that stand one behind the other on standard
+//! input whether each is right. It writes one line: `yes` with how many journals and entries there
+//! are, or `no`, `notjournal` or `toolong` with how many right journals stand before. Its status is
+//! 0 for yes and 6 for the other lines, 1 where there is any word, 3 and 4 where reading or writing
+//! failed, and 5 where memory was wanting.
 #![tactic(auto)]
 
 use edges::{ReadSource, WriteSink};
@@ -30,8 +30,8 @@ fn audited(rt: &HostRuntime) -> Result<u8, u8> {
     Ok(audit_words(rt.alloc(), &words, &mut source, &mut sink))
 }
 
-// The words, without the program's name; or else the status: 5 where memory was wanting, 1 where one
-// of them is no text.
+// The words, without the program's name; or else the status: 5 where memory was wanting, 1 where
+// one of them is no text.
 fn words(rt: &HostRuntime) -> Result<Vec<String>, u8> {
     let given = match env::args(rt) {
         Ok(given) => given,

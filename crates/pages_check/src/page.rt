@@ -15,7 +15,8 @@ use std::alloc::{AllocError, Global};
 use unit_build::build;
 use unit_nodes::{Unit, UnitBody};
 
-/// The fault of the page with these bytes at a path, where it has one. Its unit is that of a site with this file alone.
+/// The fault of the page with these bytes at a path, where it has one. Its unit is that of a site
+/// with this file alone.
 pub(crate) fn page_fault<L: Ledger>(
     alloc: Global,
     path: &Path,

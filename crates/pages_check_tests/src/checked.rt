@@ -6,7 +6,8 @@ use std::alloc::{AllocError, Global};
 use std::marker::Brand;
 use std::sync::ledger::{Blank, Ledger};
 
-/// The outside of a check: how many bytes a read gives, and the numbers of the reads and the writes that fail.
+/// The outside of a check: how many bytes a read gives, and the numbers of the reads and the writes
+/// that fail.
 #[derive(Clone, Copy)]
 pub struct Outside<'o> {
     pub piece: usize,

@@ -1,19 +1,24 @@
-//! The program `pages`: a page container, over standard input and output and over ports of this machine.
+//! The program `pages`: a page container, over standard input and output and over ports of this
+//! machine.
 //!
-//! `pages serve --port P --editor-port E --workers W [--seed HEX] [--idle SECONDS] [--round N --editor-round M]
-//! [--preview-port V] [--contexts NAMES]` serves a site without files at 127.0.0.1: W workers answer readers on P, one answers editors on
-//! E, and one shows drafts on V. An option and its value may also stand in one word, as `--port=80`. With rounds it writes a journal behind
-//! each and goes on with an empty one. With names it serves a site for each, as `contexts` does, without rounds, drafts that are shown, or
-//! an idle time. Its status is 7 where a port can't be had, and 8 where the workers can't have a thread each; otherwise it isn't meant to
-//! end.
-//! `pages play [--seed HEX]` answers the requests that it reads from standard input, and writes the answers to standard output. Its
-//! status is 0 where the input ended between requests, a request asked to close, a response broke off or 65,536 requests were answered, 2 where
-//! the input shows a fault. `pages contexts NAMES [--seed HEX]` does the same over several sites, whose names, joined by commas, begin the
-//! targets. `pages preview [--seed HEX]` does so too, but a page is shown with the edits that the connection has made, and nobody publishes.
-//! `pages record [--seed HEX]` reads a list of connections, each a line with the number of its bytes and then these, and writes the journal of each,
-//! one behind the other: status 0, or 2 where the input is no such list.
-//! `pages check PATH` reads the text of a page, and writes `ok` or the line of its fault: status 0 or 6. `pages load N` talks with a
-//! generated site of N pages in memory, and writes five numbers of that. `pages --help` says how the commands are called, and `pages
+//! `pages serve --port P --editor-port E --workers W [--seed HEX] [--idle SECONDS] [--round N
+//! --editor-round M] [--preview-port V] [--contexts NAMES]` serves a site without files at
+//! 127.0.0.1: W workers answer readers on P, one answers editors on E, and one shows drafts on V.
+//! An option and its value may also stand in one word, as `--port=80`. With rounds it writes a
+//! journal behind each and goes on with an empty one. With names it serves a site for each, as
+//! `contexts` does, without rounds, drafts that are shown, or an idle time. Its status is 7 where a
+//! port can't be had, and 8 where the workers can't have a thread each; otherwise it isn't meant to
+//! end. `pages play [--seed HEX]` answers the requests that it reads from standard input, and
+//! writes the answers to standard output. Its status is 0 where the input ended between requests, a
+//! request asked to close, a response broke off or 65,536 requests were answered, 2 where the input
+//! shows a fault. `pages contexts NAMES [--seed HEX]` does the same over several sites, whose
+//! names, joined by commas, begin the targets. `pages preview [--seed HEX]` does so too, but a page
+//! is shown with the edits that the connection has made, and nobody publishes. `pages record
+//! [--seed HEX]` reads a list of connections, each a line with the number of its bytes and then
+//! these, and writes the journal of each, one behind the other: status 0, or 2 where the input is
+//! no such list. `pages check PATH` reads the text of a page, and writes `ok` or the line of its
+//! fault: status 0 or 6. `pages load N` talks with a generated site of N pages in memory, and
+//! writes five numbers of that. `pages --help` says how the commands are called, and `pages
 //! --version` which version this is. For other words the status is 1, and how each is called goes to standard error; where reading or
 //! writing failed the status is 3 and 4, and where memory was wanting 5.
 #![tactic(auto)]
@@ -90,7 +95,8 @@ fn refuse(rt: &HostRuntime) {
     }
 }
 
-// The words of the command, without the program's name; or else the status: 5 where memory was wanting, 1 where one of them is no text.
+// The words of the command, without the program's name; or else the status: 5 where memory was
+// wanting, 1 where one of them is no text.
 fn words(rt: &HostRuntime) -> Result<Vec<String>, u8> {
     let given = match env::args(rt) {
         Ok(given) => given,
@@ -106,7 +112,8 @@ fn words(rt: &HostRuntime) -> Result<Vec<String>, u8> {
     Ok(words)
 }
 
-// Runs the command that the first word names, and answers the program's status. The workers of a server run in `threads`.
+// Runs the command that the first word names, and answers the program's status. The workers of a
+// server run in `threads`.
 fn run<N: Ledger, R: Threads + Wait + Sync>(
     rt: &HostRuntime,
     threads: &R,
@@ -135,7 +142,8 @@ fn run<N: Ledger, R: Threads + Wait + Sync>(
     }
 }
 
-// Serves over TCP, says on standard error where, and writes the journals of rounds to standard output.
+// Serves over TCP, says on standard error where, and writes the journals of rounds to standard
+// output.
 fn served<R: Threads + Wait + Sync>(rt: &HostRuntime, threads: &R, words: &[String]) -> u8
     ensures words { settings_asked (map string_bytes words.now) ≡ None → result ≡ 1 }
     ensures only_words { result ≡ 1 → settings_asked (map string_bytes words.now) ≡ None }

@@ -1,4 +1,5 @@
-//! The command `load`: a generated site is talked with in memory, and five numbers of that are told.
+//! The command `load`: a generated site is talked with in memory, and five numbers of that are
+//! told.
 #![tactic(auto)]
 
 mod command;

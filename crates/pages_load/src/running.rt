@@ -59,7 +59,8 @@ fn converse<L: Ledger>(
     Ok((ended, into_site(port), sink))
 }
 
-// Gives an error where the conversation wasn't whole: its source and its sink are in memory, and fail only where that is wanting.
+// Gives an error where the conversation wasn't whole: its source and its sink are in memory, and
+// fail only where that is wanting.
 fn check_whole(ended: Ended) -> Result<(), AllocError>
     ensures { OnOk result (IsWhole ended) }
 {

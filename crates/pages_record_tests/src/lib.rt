@@ -1,4 +1,5 @@
-//! Tests of the command `record`: which inputs are lists of connections, and what is written for them.
+//! Tests of the command `record`: which inputs are lists of connections, and what is written for
+//! them.
 #![tactic(auto)]
 
 #[cfg(test)]

@@ -10,8 +10,8 @@ const END: &[u8] = b"POST /_editor/publish HTTP/1.1\r\nHost: x\r\n\r\n";
 
 const PART: [u8; 1_000] = [b'x'; 1_000];
 
-// How many writes its journal is: what is before the file and the file, what is before the bytes that
-// came and these, and what is left.
+// How many writes its journal is: what is before the file and the file, what is before the bytes
+// that came and these, and what is left.
 const WRITES: u64 = 5;
 
 fn connection(alloc: Global) -> Result<Vec<u8>, AllocError> {

@@ -6,8 +6,8 @@ use std::alloc::{AllocError, Global};
 use std::marker::Brand;
 use std::sync::ledger::{Blank, Ledger};
 
-/// The status of `record` over this input, which comes in pieces of that size, and what it wrote. Its
-/// clock answers these moments, and the sink fails at these calls.
+/// The status of `record` over this input, which comes in pieces of that size, and what it wrote.
+/// Its clock answers these moments, and the sink fails at these calls.
 pub fn told(
     alloc: Global,
     input: &[u8],

@@ -26,7 +26,8 @@ fn list_of(alloc: Global, texts: &[&str]) -> Result<Vec<u8>, AllocError> {
     Ok(list)
 }
 
-// A session that was made on one connection is there on the next one, and so are the ids that come after it.
+// A session that was made on one connection is there on the next one, and so are the ids that come
+// after it.
 #[test]
 fn the_next_connection_finds_the_session(rt: HostRuntime) -> Result<(), Fail> {
     let list = list_of(rt.alloc(), &[FIRST, SECOND])?;

@@ -24,10 +24,12 @@ use std::alloc::{AllocError, Global};
 use std::sync::Wait;
 use std::thread::Threads;
 
-/// Serves a new site without files on two ports: to readers by as many workers as the words say, and by one more to editors; and on a
-/// third, where the words name one, by one more to those who are shown drafts. The answer is the program's status: 1 for other words, 7
-/// where a listener can't be had, 8 where the workers can't have a thread each, 5 where memory was wanting. Otherwise it isn't meant to
-/// end. What it has to say at the start goes to `notices`, and the journal of each round to `journals`.
+/// Serves a new site without files on two ports: to readers by as many workers as the words say,
+/// and by one more to editors; and on a third, where the words name one, by one more to those who
+/// are shown drafts. The answer is the program's status: 1 for other words, 7 where a listener
+/// can't be had, 8 where the workers can't have a thread each, 5 where memory was wanting.
+/// Otherwise it isn't meant to end. What it has to say at the start goes to `notices`, and the
+/// journal of each round to `journals`.
 pub fn serve<R: Threads + Wait + Sync, B: Bind, W: Clocks + Sync, J: Sink, K: Sink>(
     rt: &R,
     alloc: Global,
@@ -106,8 +108,8 @@ fn among<R: Threads + Wait + Sync, A: Accept + Sync + Drop, W: Clocks + Sync, K:
     unreachable!()
 }
 
-// Serves one round after the other, and writes the journal of each. It ends where memory is wanting. Where drafts are shown there are no
-// rounds.
+// Serves one round after the other, and writes the journal of each. It ends where memory is
+// wanting. Where drafts are shown there are no rounds.
 fn rounds<R: Threads + Wait + Sync, A: Accept + Sync + Drop, W: Clocks + Sync, J: Sink>(
     rt: &R,
     alloc: Global,
@@ -162,7 +164,8 @@ fn listeners_of<B: Bind>(bind: &mut B, settings: &Settings) -> Result<Listeners<
     })
 }
 
-// How many passes it has: one for each worker, one for editors, and one for previews where there are any.
+// How many passes it has: one for each worker, one for editors, and one for previews where there
+// are any.
 fn passes_of(settings: &Settings) -> u8
     requires { settings.now.workers + count_of settings.now.preview_port ≤ 63 }
     ensures { result ≡ settings.now.workers + 1 + count_of settings.now.preview_port }

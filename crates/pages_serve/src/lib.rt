@@ -1,7 +1,8 @@
-//! The command `serve`: a site, or a site for each of several names, that many connections read while one at a time edits.
+//! The command `serve`: a site, or a site for each of several names, that many connections read
+//! while one at a time edits.
 //!
-//! Each connection is answered by `talk` over the port of a pass, or by `talk_contexts` over a port to each site, so what is promised of a
-//! connection holds of each.
+//! Each connection is answered by `talk` over the port of a pass, or by `talk_contexts` over a port
+//! to each site, so what is promised of a connection holds of each.
 #![tactic(auto)]
 
 mod command;

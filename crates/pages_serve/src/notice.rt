@@ -3,14 +3,16 @@ use http_out::write;
 use serve_words::Settings;
 use std::alloc::{AllocError, Global};
 
-/// What the journal takes at the most for a request: its Begin with the longest cookie, and all that it is promised.
+/// What the journal takes at the most for a request: its Begin with the longest cookie, and all
+/// that it is promised.
 const GREATEST_REQUEST: u64 = 4_325_504;
 
-/// What it takes for a page of twelve letters that keeps a number in a session: its Begin with the session's cookie, a Fetch, and the
-/// session's attributes.
+/// What it takes for a page of twelve letters that keeps a number in a session: its Begin with the
+/// session's cookie, a Fetch, and the session's attributes.
 const COUNTER_REQUEST: u64 = 333;
 
-/// Says where the site is, and how long its journal lasts; or nothing where there is no memory for that.
+/// Says where the site is, and how long its journal lasts; or nothing where there is no memory for
+/// that.
 pub(crate) fn announce<K: Sink>(alloc: Global, settings: &Settings, limit: u64, notices: &mut K) {
     if let Ok(line) = line(alloc, settings, limit) {
         write(notices, &mut false, line.as_bytes());

@@ -15,8 +15,9 @@ use std::alloc::{AllocError, Global};
 use std::sync::Wait;
 use std::thread::Threads;
 
-/// Serves a site without files for each name: to readers by as many workers as are said, and to editors by one more. It ends where
-/// memory is wanting; else it lasts as long as the listeners, and then the sites are dropped.
+/// Serves a site without files for each name: to readers by as many workers as are said, and to
+/// editors by one more. It ends where memory is wanting; else it lasts as long as the listeners,
+/// and then the sites are dropped.
 pub(crate) fn serve_contexts<'a, R: Threads + Wait + Sync, A: Accept + Sync, W: Clocks + Sync>(
     rt: &'a R,
     alloc: Global,

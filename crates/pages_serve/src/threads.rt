@@ -2,8 +2,8 @@ use std::sync::{Mutex, Wait};
 use std::thread;
 use std::thread::Threads;
 
-/// Whether so many threads can run beside this one. They are started, stand at a lock until the last of them is there, and end. Where
-/// fewer can run, workers would take turns unseen.
+/// Whether so many threads can run beside this one. They are started, stand at a lock until the
+/// last of them is there, and end. Where fewer can run, workers would take turns unseen.
 pub(crate) fn can_run<R: Threads + Wait + Sync>(rt: &R, count: usize) -> bool {
     let gate = Mutex::new(());
     let shared = &gate;

@@ -38,8 +38,9 @@ struct Row {
     answers: &'static [&'static str],
 }
 
-// Two requests are answered at once: one thread for all would answer nobody while the first operation is held, and so would a lock that is
-// held over a request. Readers can't edit. What is seen on the port of previews isn't seen on that of readers.
+// Two requests are answered at once: one thread for all would answer nobody while the first
+// operation is held, and so would a lock that is held over a request. Readers can't edit. What is
+// seen on the port of previews isn't seen on that of readers.
 const ROWS: [Row; 3] = [
     Row {
         said: Said {

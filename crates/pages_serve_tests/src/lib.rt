@@ -1,5 +1,5 @@
-//! Tests of a site that is served in threads: two requests are answered at the same time, readers can't edit, rounds go on from each other,
-//! and what words ask for.
+//! Tests of a site that is served in threads: two requests are answered at the same time, readers
+//! can't edit, rounds go on from each other, and what words ask for.
 #![tactic(auto)]
 
 #[cfg(test)]

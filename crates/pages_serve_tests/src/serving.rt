@@ -22,7 +22,8 @@ pub struct Said<'a> {
     pub previews: &'a [&'a str],
 }
 
-/// The site behind the round; what was written to each connection, to readers first and for previews last; and whether the gate gave up.
+/// The site behind the round; what was written to each connection, to readers first and for
+/// previews last; and whether the gate gave up.
 #[derive(Drop)]
 pub struct Came {
     pub site: Site<Made>,
@@ -30,7 +31,8 @@ pub struct Came {
     pub gave_up: bool,
 }
 
-/// Serves each of these connections once. The gate holds the first operation until something is written to a reader, where it is to.
+/// Serves each of these connections once. The gate holds the first operation until something is
+/// written to a reader, where it is to.
 pub fn come_of<R: Threads + Wait + Sync>(
     rt: &R,
     alloc: Global,

@@ -1,4 +1,5 @@
-//! Connections in memory, a listener that gives each of them once, and a gate that holds the first operation.
+//! Connections in memory, a listener that gives each of them once, and a gate that holds the first
+//! operation.
 use edges::{Accept, Accepted, Bind, Failed, Gate, MemSink, MemSource, Sink};
 use std::alloc::{AllocError, Global};
 use std::sync::atomic::{AtomicU64, Ordering};
@@ -122,8 +123,8 @@ impl<'a, R: Wait + Sync> Accept for WireAccept<'a, R> {
     }
 }
 
-/// A gate that holds the first operation until something was written to one of these connections, which then is another's answer. Where it
-/// looked often enough, it lets go and keeps that in mind.
+/// A gate that holds the first operation until something was written to one of these connections,
+/// which then is another's answer. Where it looked often enough, it lets go and keeps that in mind.
 #[derive(Drop)]
 pub struct HeldGate<'a> {
     pub wires: &'a [Wire],

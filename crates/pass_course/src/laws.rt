@@ -1,6 +1,7 @@
 ghost use Rattle.pass_course.specs.Laws.{CallsAreCourses, CoursesJoin, UnderIsTested};
 
-/// A call of a port is a course of one operation or of none, and courses one after the other are one.
+/// A call of a port is a course of one operation or of none, and courses one after the other are
+/// one.
 pub fn courses()
     ensures calls { CallsAreCourses }
     ensures join { CoursesJoin }

@@ -15,9 +15,9 @@ use preview_words::pictures;
 use site_words::Port;
 use std::alloc::Global;
 
-/// Answers the requests of one preview connection over a port to the live site, each before it reads
-/// the next. It has a draft of its own, which nobody publishes, and asks the site for pictures alone,
-/// so that nothing of it is seen elsewhere.
+/// Answers the requests of one preview connection over a port to the live site, each before it
+/// reads the next. It has a draft of its own, which nobody publishes, and asks the site for
+/// pictures alone, so that nothing of it is seen elsewhere.
 pub fn preview<P: Port<Made>, S: Source, K: Sink, L: Ledger>(
     alloc: Global,
     port: &mut P,
@@ -29,7 +29,8 @@ pub fn preview<P: Port<Made>, S: Source, K: Sink, L: Ledger>(
     ensures same { IsSamePort (P.pass port.old) (P.pass port.new) (P.opening port.old) (P.opening port.new)
         (P.home port.old) (P.home port.new) }
 
-    // The sink took the answers to the requests that stand in the bytes that came, and nothing else.
+    // The sink took the answers to the requests that stand in the bytes that came, and nothing
+    // else.
     ensures talk { HasPreviewed needs_at (P.opening port.old) (P.pass port.old) (P.seen port.old)
         (P.seen port.new) steps.old steps.new (S.left source.old) (S.left source.new) (K.faults sink.old)
         (K.faults sink.new) (K.taken sink.old) (K.taken sink.new) result }

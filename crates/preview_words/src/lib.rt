@@ -1,5 +1,5 @@
-//! What is said on a preview connection: what each request is answered and what it leaves. Definitions, and what follows
-//! from them.
+//! What is said on a preview connection: what each request is answered and what it leaves.
+//! Definitions, and what follows from them.
 #![tactic(auto)]
 
 mod laws;

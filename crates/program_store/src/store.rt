@@ -19,8 +19,8 @@ use std::sync::Arc;
 // One in so many paths is many: then all are gone over.
 const MANY: usize = 2;
 
-/// What is kept, in byte order of the paths, and which of the paths need a name. Contracts see the list of each path with its
-/// value.
+/// What is kept, in byte order of the paths, and which of the paths need a name. Contracts see the
+/// list of each path with its value.
 #[derive(Drop)]
 pub struct Store<P: Compiled> {
     pub shelves: Vec<Shelf<P>>,
@@ -51,7 +51,8 @@ impl<P: Compiled> Store<P> {
         }
     }
 
-    /// Keeps the value for the path, in the place of the one that was kept for it. Where memory ends all is as before.
+    /// Keeps the value for the path, in the place of the one that was kept for it. Where memory
+    /// ends all is as before.
     pub fn put(&mut self, path: Path, made: Arc<P>) -> Result<(), AllocError>
         ensures ok { OnOk result (kept_in self.new.shelves.items
             ≡ with_value path (arc_value made) (kept_in self.old.shelves.items)) }
@@ -64,7 +65,8 @@ impl<P: Compiled> Store<P> {
         Ok(())
     }
 
-    /// Keeps the value for the path where its needs stand so in the latest tree, and says whether they do.
+    /// Keeps the value for the path where its needs stand so in the latest tree, and says whether
+    /// they do.
     pub fn keep(&mut self, path: &Path, made: Arc<P>, latest: &Tree) -> Result<bool, AllocError>
         ensures ok { IfOk result (λ kept. (kept ≡ agrees (P.needed (arc_value made)) latest.now)
             × (kept_in self.new.shelves.items
@@ -79,15 +81,16 @@ impl<P: Compiled> Store<P> {
         Ok(true)
     }
 
-    /// The paths whose values need one of the names. Nothing is changed, so that a publishing can be weighed first. It looks at
-    /// these paths alone.
+    /// The paths whose values need one of the names. Nothing is changed, so that a publishing can
+    /// be weighed first. It looks at these paths alone.
     pub fn dirty(&self, names: &Names) -> Result<Names, AllocError>
         ensures { IfOk result (λ dirty. dirty ≡ dirty_in P.needed names.now (kept_in self.now.shelves.items)) }
     {
         self.deps.dirty(names)
     }
 
-    /// Takes out the values of these paths, which are those of all that is dirty where a publishing clears it. It takes no memory.
+    /// Takes out the values of these paths, which are those of all that is dirty where a publishing
+    /// clears it. It takes no memory.
     pub fn clear(&mut self, paths: &Names)
         ensures left { kept_in self.new.shelves.items ≡ without_values paths.now (kept_in self.old.shelves.items) }
         ensures clean { (names : List (List ℕ)) →
@@ -153,7 +156,8 @@ fn put<P: Drop>(shelves: &mut Vec<Shelf<P>>, shelf: Shelf<P>)
     }
 }
 
-// Takes out the shelves of the paths. Few are looked up one by one; for many all are gone over once.
+// Takes out the shelves of the paths. Few are looked up one by one; for many all are gone over
+// once.
 fn clear<P: Drop>(shelves: &mut Vec<Shelf<P>>, paths: &Names)
     requires { AreRising shelf_path shelves.old.items }
     ensures { shelves.new.items ≡ others shelf_path paths.now shelves.old.items }

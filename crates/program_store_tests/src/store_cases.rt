@@ -6,7 +6,8 @@ use std::test::Fail;
 
 const TAG: &str = "/WEB-INF/tags/t.tag";
 
-// What each version of a tree changes, what is asked of a store one after the other, and a line for each answer.
+// What each version of a tree changes, what is asked of a store one after the other, and a line for
+// each answer.
 const ROWS: [(&[&[&str]], &[Ask<'static>], &str); 3] = [
     // A publishing drops the pages that need what it changes.
     (

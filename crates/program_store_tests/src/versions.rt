@@ -3,7 +3,8 @@ use pg_text::{BadPath, Failure};
 use source_tree::{Edit, Edits, FileText, Tree};
 use std::alloc::Global;
 
-/// The versions of a tree that begins empty. Each puts files at these paths, with its number as their stamp, from 1 on.
+/// The versions of a tree that begins empty. Each puts files at these paths, with its number as
+/// their stamp, from 1 on.
 pub fn of_changes(alloc: Global, changes: &[&[&str]]) -> Result<Vec<Tree>, Failure<BadPath>> {
     let mut trees = Vec::new(alloc);
     let mut stamp: u64 = 0;

@@ -7,8 +7,8 @@ use packed_entries::History;
 use pg_text::Bytes;
 use word_equality::same_entries;
 
-/// Whether what was run again came to these answers, this end and this history, and took exactly the moments that were recorded.
-/// Afterwards its clock tells nothing of that any more.
+/// Whether what was run again came to these answers, this end and this history, and took exactly
+/// the moments that were recorded. Afterwards its clock tells nothing of that any more.
 pub(crate) fn is_same_talk(again: &mut Rerun, answers: &Bytes, ended: u8, history: &History) -> bool
     ensures { Decides result (IsSameTalk again.old answers.now ended history.now.items) }
 {

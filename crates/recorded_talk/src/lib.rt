@@ -1,4 +1,5 @@
-//! The talk of a journal, done again: one connection in memory, on the site that has the journal's opening.
+//! The talk of a journal, done again: one connection in memory, on the site that has the journal's
+//! opening.
 #![tactic(auto)]
 
 mod comparing;

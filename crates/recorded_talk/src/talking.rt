@@ -21,7 +21,8 @@ use talk_law::one_talk;
 /// The most bytes that are read at once.
 const PIECE_BYTES: usize = 4_096;
 
-/// What a connection came to that was run again: the number of its end, what was answered, the clock as it stands then, and the site.
+/// What a connection came to that was run again: the number of its end, what was answered, the
+/// clock as it stands then, and the site.
 #[derive(Drop)]
 pub(crate) struct Rerun {
     pub(crate) number: u8,
@@ -30,8 +31,9 @@ pub(crate) struct Rerun {
     pub(crate) site: Site<Made>,
 }
 
-/// Whether a talk is what is said on the one connection to a site at its beginning, with this history: one pass acts, the answers
-/// are those for the talk's bytes at its moments, exactly these moments are taken, every entry is used, and the end is the talk's.
+/// Whether a talk is what is said on the one connection to a site at its beginning, with this
+/// history: one pass acts, the answers are those for the talk's bytes at its moments, exactly these
+/// moments are taken, every entry is used, and the end is the talk's.
 pub fn is_right(
     alloc: Global,
     site: Site<Made>,
@@ -100,7 +102,8 @@ fn run_again<N: Ledger>(
     })
 }
 
-// The number by which a talk names how it ended. A source in memory doesn't fail, and a sink in memory only for want of it.
+// The number by which a talk names how it ended. A source in memory doesn't fail, and a sink in
+// memory only for want of it.
 fn number_of(ended: Ended) -> Result<u8, AllocError>
     ensures { IfOk result (λ number. IsByNumber number ended) }
 {

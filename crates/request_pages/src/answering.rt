@@ -35,7 +35,8 @@ use site_words::{Paged, Port};
 use std::alloc::{AllocError, Global};
 use std::sync::Arc;
 
-/// Answers a request that was begun: what stands at its path, where that isn't hidden. A page runs, with its forwards and its error page.
+/// Answers a request that was begun: what stands at its path, where that isn't hidden. A page runs,
+/// with its forwards and its error page.
 pub fn answer<'a, Q: Port<Made>, L: Ledger, K: Sink>(
     alloc: Global,
     request: &Request,

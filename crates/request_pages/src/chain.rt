@@ -40,7 +40,8 @@ pub(crate) enum ChainEnd {
     Failed(Failure),
 }
 
-/// A fault that ended the run of a page before anything was committed. The page has parameters of its own where it is a forward's target.
+/// A fault that ended the run of a page before anything was committed. The page has parameters of
+/// its own where it is a forward's target.
 #[derive(Drop)]
 pub(crate) struct Failure {
     pub(crate) raise: Raise,

@@ -28,7 +28,8 @@ pub struct Course {
     pub around: Around,
 }
 
-/// How a page is answered: with this status, on a connection that closes behind it or doesn't, and with its body or, as to HEAD, without.
+/// How a page is answered: with this status, on a connection that closes behind it or doesn't, and
+/// with its body or, as to HEAD, without.
 #[derive(Clone, Copy, Debug, PartialEq, Eq)]
 pub struct Way {
     pub status: Status,
@@ -36,7 +37,8 @@ pub struct Way {
     pub shown: bool,
 }
 
-/// Begins the run of a page that isn't included: one empty frame, and a writer of its own. Nothing may have been committed.
+/// Begins the run of a page that isn't included: one empty frame, and a writer of its own. Nothing
+/// may have been committed.
 pub(crate) fn begin_page(
     alloc: Global,
     program: &Program,

@@ -24,8 +24,8 @@ use std::sync::Arc;
 use translator::translate;
 use unit_build::build;
 
-/// The page at a path, where its file stands in the request's tree: what is kept of it, or else what is made of it, which is offered. `steps`
-/// counts the bytes that are read to make it.
+/// The page at a path, where its file stands in the request's tree: what is kept of it, or else
+/// what is made of it, which is offered. `steps` counts the bytes that are read to make it.
 pub(crate) fn find<Q: Port<Made>, L: Ledger>(
     alloc: Global,
     port: &mut Q,

@@ -34,8 +34,8 @@ impl<'a, Q, L: Ledger> RequestPort<'a, Q, L> {
     ghost use Rattle.request_port.specs.Leading.{IsLast};
     ghost use Rattle.site_words.specs.Running.{IsPaged};
 
-    /// What stands at a path that was looked at last, without another Fetch. A page that wasn't found last isn't told, as where
-    /// memory is wanting.
+    /// What stands at a path that was looked at last, without another Fetch. A page that wasn't
+    /// found last isn't told, as where memory is wanting.
     pub fn again(&self, path: &Path) -> Result<Paged<Program>, AllocError>
         requires last { IsLast self.now.tree.now self.now.last }
         ensures paged { IfOk result (λ found. IsPaged IsProgramOf IsFaultOf self.now.tree.now path.now found) }

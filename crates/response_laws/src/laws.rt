@@ -2,7 +2,8 @@ ghost use Rattle.response_laws.specs.Laws.{ChainsUnfold, RunsGrowOn};
 
 use page_meaning::{depth, parts};
 
-/// A chain of forwards is its first page's run with the chains of its targets, and whatever comes behind a run only adds to it.
+/// A chain of forwards is its first page's run with the chains of its targets, and whatever comes
+/// behind a run only adds to it.
 pub fn responses()
     ensures unfold { ChainsUnfold }
     ensures grow { RunsGrowOn }

@@ -22,9 +22,9 @@ pub enum Rolled<P: Compiled> {
     NoMemory(Site<P>),
 }
 
-/// Writes the journal of a site on which no request is under way, with the talk where one connection
-/// made it, and goes on as a new site. All memory is taken before the first byte goes out. Where the
-/// sink failed it has taken a part of the journal, perhaps none.
+/// Writes the journal of a site on which no request is under way, with the talk where one
+/// connection made it, and goes on as a new site. All memory is taken before the first byte goes
+/// out. Where the sink failed it has taken a part of the journal, perhaps none.
 pub fn roll<P: Compiled, K: Sink>(
     alloc: Global,
     site: Site<P>,

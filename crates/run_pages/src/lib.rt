@@ -1,5 +1,5 @@
-//! Pages of a site as they are served: what is told of a tree's paths stands there, and the run of a page's program does what the page
-//! means.
+//! Pages of a site as they are served: what is told of a tree's paths stands there, and the run of
+//! a page's program does what the page means.
 #![tactic(auto)]
 
 mod laws;

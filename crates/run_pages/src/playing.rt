@@ -21,7 +21,8 @@ use scopes::Scopes;
 use site_words::AppPort;
 use std::alloc::Global;
 
-/// Runs the program of a page, whose Fetch was charged before, over a port that tells the pages of its tree.
+/// Runs the program of a page, whose Fetch was charged before, over a port that tells the pages of
+/// its tree.
 pub fn play<P: AppPort<Program>, K: Sink>(
     alloc: Global,
     program: &Program,

@@ -22,14 +22,16 @@ pub(crate) fn entry_weight(step: &AppStep) -> u64
     step_weight(step).saturating_add(64)
 }
 
-/// Whether a page is asked for under a charge that lets nothing more be asked. Another file may always be asked for.
+/// Whether a page is asked for under a charge that lets nothing more be asked. Another file may
+/// always be asked for.
 pub(crate) fn is_refused(path: &Path, charge: u64) -> bool
     ensures { result ≡ (is_page path.now && nat_le charge_limit charge) }
 {
     is_page(path) && is_spent(charge)
 }
 
-/// What a look at a path is charged: for a page its Fetch and its Offer, and nothing for another file.
+/// What a look at a path is charged: for a page its Fetch and its Offer, and nothing for another
+/// file.
 pub(crate) fn look_charge(path: &Path) -> u64
     ensures claim { result ≡ page_claim path.now }
     ensures short { result ≤ MAX_PAGE_CHARGE }

@@ -3,11 +3,12 @@ use page_meaning::CHARGE_LIMIT;
 use pg_value::MAX_WEIGHT;
 use site_words::{OP_WEIGHT, PROMISE};
 
-/// What a step weighs beside its name, its value and its answer, of `MAX_WEIGHT` each: its operation and the 16 bytes of a
-/// text, rounded up above the charge of a look.
+/// What a step weighs beside its name, its value and its answer, of `MAX_WEIGHT` each: its
+/// operation and the 16 bytes of a text, rounded up above the charge of a look.
 const STEP_FRAME: u64 = 2_696;
 
-/// The greatest charge behind a step or a look: it is asked below `CHARGE_LIMIT`, and weighs a name, a value and an answer.
+/// The greatest charge behind a step or a look: it is asked below `CHARGE_LIMIT`, and weighs a
+/// name, a value and an answer.
 pub const MAX_ASKED_CHARGE: u64 = CHARGE_LIMIT + 3 * MAX_WEIGHT + STEP_FRAME;
 
 /// The charge of one more page's run, `MAX_PAGE_CHARGE`, rounded up.

@@ -13,7 +13,8 @@ use scopes::{HeldScope, Scopes};
 use site_words::{AppPort, AppReply, AppStep, Paged, answer_weight};
 use std::alloc::AllocError;
 
-/// What a page run is lent: its variables, its writer with the sink, what its request keeps across page runs, and the port to the site.
+/// What a page run is lent: its variables, its writer with the sink, what its request keeps across
+/// page runs, and the port to the site.
 #[derive(Drop)]
 pub struct Stage<'a, P, K> {
     pub scopes: &'a mut Scopes,
@@ -141,7 +142,8 @@ impl<'a, P: AppPort<Program>, K: Sink> World for Stage<'a, P, K> {
         Ok(reply)
     }
 
-    // Gives the request a session. It stands also where memory is wanting for the head to name it; no other failure comes.
+    // Gives the request a session. It stands also where memory is wanting for the head to name it;
+    // no other failure comes.
     fn fresh(&mut self) -> Result<(), Failure<RunFault>> {
         let made = self.port.fresh()?;
         self.scopes.start_session();

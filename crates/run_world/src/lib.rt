@@ -1,7 +1,8 @@
-//! What a page runs in: its program, the seat of its running code, and its world, the variables, the writer, the counts and the site that it may ask.
+//! What a page runs in: its program, the seat of its running code, and its world, the variables,
+//! the writer, the counts and the site that it may ask.
 //!
-//! `World` says of each call what it does of the meaning of pages, for whatever state the world stands for. All parts of a run are written
-//! over it.
+//! `World` says of each call what it does of the meaning of pages, for whatever state the world
+//! stands for. All parts of a run are written over it.
 #![tactic(auto)]
 
 mod around;

@@ -11,7 +11,8 @@ use page_code::{CallBody, Code, Fragment};
 use pg_text::Text;
 use tag_decl::VarScope;
 
-/// A variable that a tag file gives its caller: its name there, its name at the caller, and when it is copied.
+/// A variable that a tag file gives its caller: its name there, its name at the caller, and when it
+/// is copied.
 #[derive(Drop)]
 pub struct Export {
     pub own: Text,
@@ -19,8 +20,8 @@ pub struct Export {
     pub scope: VarScope,
 }
 
-/// A call of a tag file: the variables that it gives, the body and the fragments that it got, the place in the caller's code from
-/// which theirs are counted, and the frame of its caller.
+/// A call of a tag file: the variables that it gives, the body and the fragments that it got, the
+/// place in the caller's code from which theirs are counted, and the frame of its caller.
 #[derive(Drop)]
 pub struct CallSeat<'a> {
     pub tag: &'a TagProgram,

@@ -22,9 +22,11 @@ use scopes::{HeldScope, Scopes};
 use site_words::{AppReply, AppStep, Paged};
 use std::alloc::AllocError;
 
-/// What a running page stands in: its variables, its writer, its counts, and what it may ask of the site.
+/// What a running page stands in: its variables, its writer, its counts, and what it may ask of the
+/// site.
 pub trait World {
-    /// The second world was reached from the first, and stands for the state of a response that is counted from this origin.
+    /// The second world was reached from the first, and stands for the state of a response that is
+    /// counted from this origin.
     ghost reached: { Self → Origin → Self → State → Type 0 };
 
     /// The answers to the steps that were asked so far.

@@ -229,7 +229,8 @@ fn asked_of<'a>(given: &Given, contexts: Option<&'a str>) -> Option<Asked<'a>>
     Some(Asked { settings, contexts })
 }
 
-// Whether nothing was said that contexts can't have: each has sessions, a journal and a port of its own.
+// Whether nothing was said that contexts can't have: each has sessions, a journal and a port of its
+// own.
 fn can_have_contexts(given: &Given) -> bool
     ensures { result ≡ (is_none given.now.idle && (is_none given.now.round && (is_none given.now.editor_round
         && is_none given.now.preview_port))) }

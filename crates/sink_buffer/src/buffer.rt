@@ -11,8 +11,8 @@ use std::marker::Model;
 /// The most bytes that are gathered.
 const PIECE_BYTES: usize = 65_536;
 
-/// Bytes that a sink is to take behind what it took of a text, and whether it has failed in that text. It takes no memory
-/// but its own 64 KiB. Once the sink has failed it is given nothing more.
+/// Bytes that a sink is to take behind what it took of a text, and whether it has failed in that
+/// text. It takes no memory but its own 64 KiB. Once the sink has failed it is given nothing more.
 #[derive(Drop)]
 pub struct SinkBuffer {
     bytes: ArrayVec<u8, PIECE_BYTES>,
@@ -37,8 +37,8 @@ impl SinkBuffer {
         }
     }
 
-    /// Writes these bytes. What was gathered goes to the sink where they have no room beside it, and so do they where
-    /// they have none at all.
+    /// Writes these bytes. What was gathered goes to the sink where they have no room beside it,
+    /// and so do they where they have none at all.
     pub fn write<K: Sink>(&mut self, sink: &mut K, bytes: &[u8])
         ensures { Writes (K.taken sink.old) (K.taken sink.new) (K.faults sink.old) (K.faults sink.new)
             self.old self.new bytes.now }

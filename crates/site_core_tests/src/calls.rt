@@ -14,8 +14,8 @@ use site_words::{Acted, Compiled, Op, Refusal};
 use std::alloc::{AllocError, Global};
 use std::sync::Arc;
 
-/// Does what the lines ask for, one after the other. Of each line it reads what stands before ` > `, and it tells the line
-/// again with what it came to behind that.
+/// Does what the lines ask for, one after the other. Of each line it reads what stands before ` >
+/// `, and it tells the line again with what it came to behind that.
 pub fn told(
     alloc: Global,
     site: &mut Site<Word>,
@@ -105,7 +105,8 @@ fn file(
     Ok(file_text(alloc, &outcome, &path)?)
 }
 
-/// One operation of a pass, with a value for an Offer. None where it doesn't meet the condition of a step, and for a Roll.
+/// One operation of a pass, with a value for an Offer. None where it doesn't meet the condition of
+/// a step, and for a Roll.
 pub fn step(
     alloc: Global,
     site: &mut Site<Word>,
@@ -119,7 +120,8 @@ pub fn step(
     Ok(Some(ask(site, pass, op, word)))
 }
 
-// An operation that meets the condition of a step, with a value that is made from each tree and path.
+// An operation that meets the condition of a step, with a value that is made from each tree and
+// path.
 fn ask<P: Compiled>(site: &mut Site<P>, pass: u8, op: Op, made: Arc<P>) -> Acted<Given<P>, Refusal>
     requires fit { fits site.old.opening (after P.needs site.old.opening site.old.history) pass op ≡ true }
     requires other { is_roll op ≡ false }

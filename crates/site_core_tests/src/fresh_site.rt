@@ -6,7 +6,8 @@ use pg_text::{BadPath, Failure};
 use site_core::Site;
 use std::alloc::{AllocError, Global};
 
-/// What the lines come to on a new site whose journal weighs at most `limit`, for so many passes, once so many sessions were made.
+/// What the lines come to on a new site whose journal weighs at most `limit`, for so many passes,
+/// once so many sessions were made.
 pub fn played(
     alloc: Global,
     limit: u64,
@@ -44,7 +45,8 @@ fn unsound(alloc: Global) -> Result<String, AllocError> {
     String::from_str(alloc, "unsound\n")
 }
 
-/// The id of the session with this number on a site whose seed ends with this byte, and has noughts before.
+/// The id of the session with this number on a site whose seed ends with this byte, and has noughts
+/// before.
 pub fn session_id(alloc: Global, last: u8, number: u64) -> Result<String, AllocError> {
     let mut seed = [0; 32];
     seed[31] = last;

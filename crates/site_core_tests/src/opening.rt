@@ -13,7 +13,8 @@ pub const AMPLE: u64 = 2_147_483_648;
 #[derive(Debug, Drop)]
 pub struct Unsound;
 
-/// A site of this seed, whose journal weighs at most `limit`, for so many passes, with an idle time of 1,800 seconds.
+/// A site of this seed, whose journal weighs at most `limit`, for so many passes, with an idle time
+/// of 1,800 seconds.
 pub fn seeded(
     alloc: Global,
     seed: [u8; 32],

@@ -1,5 +1,5 @@
-//! Operations in words. A line has the number of the pass, what it asks for, and of what; an attribute is always `n`, and `-`
-//! stands for nothing.
+//! Operations in words. A line has the number of the pass, what it asks for, and of what; an
+//! attribute is always `n`, and `-` stands for nothing.
 use pg_text::{BadPath, Failure, Path, Text, resolve};
 use pg_value::{Attrs, Value};
 use site_words::{AppStep, Op};

@@ -19,8 +19,9 @@ use site_words::Opening;
 /// The mark at the beginning of a journal.
 const MARK: &[u8] = b"PGJRNL1\n";
 
-/// Writes the journal that ends a site: its opening, its history with a Roll behind it, and the talk where there is one. It goes
-/// to the sink in pieces of 64 KiB, or longer ones where a part of it is longer, and takes no memory.
+/// Writes the journal that ends a site: its opening, its history with a Roll behind it, and the
+/// talk where there is one. It goes to the sink in pieces of 64 KiB, or longer ones where a part of
+/// it is longer, and takes no memory.
 pub fn write_journal<K: Sink>(
     sink: &mut K,
     opening: &Opening,

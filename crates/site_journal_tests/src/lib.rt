@@ -3,7 +3,8 @@
 
 ghost use Rattle.site_journal_tests.specs.Examples.{IsFirst, IsOther};
 
-/// The definition of a journal's bytes gives these for two sites. This call does nothing: its contract says so.
+/// The definition of a journal's bytes gives these for two sites. This call does nothing: its
+/// contract says so.
 pub fn examples()
     ensures first { IsFirst }
     ensures other { IsOther }

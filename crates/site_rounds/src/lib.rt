@@ -1,7 +1,8 @@
-//! A site that is served in rounds: each pass of it in a thread that takes connections, and the site back once a round is over.
+//! A site that is served in rounds: each pass of it in a thread that takes connections, and the
+//! site back once a round is over.
 //!
-//! How a connection is answered is told by a [`Talk`], over the port of a pass. No clause says that a connection is answered, nor how
-//! many are at once.
+//! How a connection is answered is told by a [`Talk`], over the port of a pass. No clause says that
+//! a connection is answered, nor how many are at once.
 #![tactic(auto)]
 
 mod handler;

@@ -38,8 +38,9 @@ pub struct Talks<T> {
 /// A worker of the site: the port of a pass, and the mark that the round was over.
 pub type Worker<'a, P, G, R, E> = Served<SharedPort<'a, P, G, R>, E>;
 
-/// Serves one round of all listeners, each pass of the site in a thread: the last for previews, where there are any, the one before it
-/// for editors, one connection after the other, and the others for readers. Where there is no memory the site is dropped.
+/// Serves one round of all listeners, each pass of the site in a thread: the last for previews,
+/// where there are any, the one before it for editors, one connection after the other, and the
+/// others for readers. Where there is no memory the site is dropped.
 pub fn round<
     P: Compiled + Send + Sync,
     R: Threads + Wait + Sync,
@@ -77,8 +78,8 @@ pub fn round<
     Ok(site)
 }
 
-// The passes once the round is over for each, in their order. All memory is taken first, so that none is wanted once a worker is
-// made.
+// The passes once the round is over for each, in their order. All memory is taken first, so that
+// none is wanted once a worker is made.
 fn served<
     P: Compiled + Send + Sync,
     R: Threads + Wait + Sync,

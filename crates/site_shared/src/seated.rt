@@ -15,7 +15,8 @@ use site_core::{Act, Given, Site};
 use site_words::{Acted, Compiled, Entry, Opening, Refusal};
 use turn_table::{Object, Pass, Passes};
 
-/// A site on which passes take turns. It stands where it is while they come and go with its address.
+/// A site on which passes take turns. It stands where it is while they come and go with its
+/// address.
 #[derive(Drop)]
 pub struct Seated<P: Compiled> {
     pub site: Box<Site<P>>,

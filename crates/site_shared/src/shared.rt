@@ -15,8 +15,8 @@ use std::marker::Model;
 use std::sync::Wait;
 use turn_table::Turns;
 
-/// A site on which passes act in turns, each behind the gate. Contracts see which turns they are, how many passes they have,
-/// and the opening of the site.
+/// A site on which passes act in turns, each behind the gate. Contracts see which turns they are,
+/// how many passes they have, and the opening of the site.
 #[derive(Drop)]
 pub struct SharedSite<P: Compiled, G: Gate + Drop> {
     pub(crate) turns: Turns<Seated<P>>,
@@ -41,8 +41,8 @@ impl<P: Compiled, G: Gate + Drop> Model for SharedSite<P, G> {
     ghost invariant = { λ s. (s.turns.passes ≡ s.turns.opening.passes) × (is_sound s.turns.opening ≡ true) };
 }
 
-/// Shares a site, on which no request is under way, among as many passes as its opening says. Where there is no memory the
-/// site is dropped.
+/// Shares a site, on which no request is under way, among as many passes as its opening says. Where
+/// there is no memory the site is dropped.
 pub fn start<P: Compiled, G: Gate + Drop>(
     alloc: Global,
     site: Site<P>,
@@ -78,7 +78,8 @@ impl<P: Compiled, G: Gate + Drop> SharedSite<P, G> {
         &self.turns
     }
 
-    /// Gives the site back, once all passes are there. Where none of them has a request under way, the site has none.
+    /// Gives the site back, once all passes are there. Where none of them has a request under way,
+    /// the site has none.
     pub fn close(self, passes: SitePasses<P>) -> Site<P>
         requires { AreAll self passes.items }
         ensures opening { result.opening ≡ self.opening }

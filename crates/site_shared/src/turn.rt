@@ -38,7 +38,8 @@ pub struct Turn<'a, P: Compiled, G: Gate + Drop, R: Wait> {
     ghost sound: { is_sound site.now.opening ≡ true },
 }
 
-/// The port of a pass of a shared site. Its calls wait for their turns, and a request waits while its session is held.
+/// The port of a pass of a shared site. Its calls wait for their turns, and a request waits while
+/// its session is held.
 pub type SharedPort<'a, P, G, R> = Acting<P, Turn<'a, P, G, R>>;
 
 /// The pass of a port.
@@ -152,7 +153,8 @@ impl<'a, P: Compiled, G: Gate + Drop, R: Wait> Actor<P> for Turn<'a, P, G, R> {
     fn begin(&mut self, cookie: &Text, moment: u64) -> Acted<Given<P>, Refusal> {
         self.law();
         let rt = self.rt;
-        // The length of a front that was seen before the request is asked for, so a session that is free since is not missed.
+        // The length of a front that was seen before the request is asked for, so a session that is
+        // free since is not missed.
         let mut known = self.look();
         for _try in rt.forever() {
             let answer = self.ask_begin(cookie, moment);

@@ -23,8 +23,8 @@ fn prepared(alloc: Global, mut site: Site<Word>) -> Result<Site<Word>, Failure<B
     Ok(site)
 }
 
-/// The site once each of so many passes has done the job in a thread. None where no site may be opened so, or a request was
-/// under way.
+/// The site once each of so many passes has done the job in a thread. None where no site may be
+/// opened so, or a request was under way.
 pub fn worked<R: Threads + Wait + Sync>(
     rt: &R,
     alloc: Global,
@@ -40,8 +40,9 @@ pub fn worked<R: Threads + Wait + Sync>(
     }
 }
 
-/// How many entries the site's journal has, how many of its fetches found something, and to how many of its entries a second
-/// site gives the same answers; and then a picture of the site, and one of the second.
+/// How many entries the site's journal has, how many of its fetches found something, and to how
+/// many of its entries a second site gives the same answers; and then a picture of the site, and
+/// one of the second.
 pub fn account(
     alloc: Global,
     site: Option<Site<Word>>,

@@ -47,7 +47,8 @@ fn add_entry(alloc: Global, lines: &mut String, entry: &PackedEntry) -> Result<(
     lines.push_str(line.as_str())
 }
 
-/// How many entries of the history have the answers that a site gives which does them again, one after the other.
+/// How many entries of the history have the answers that a site gives which does them again, one
+/// after the other.
 pub fn agreeing(
     alloc: Global,
     again: &mut Site<Word>,

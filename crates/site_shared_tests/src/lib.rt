@@ -1,4 +1,5 @@
-//! Tests of a site that many passes share: visits in threads, the journal done again on a second site, and a pass that waits.
+//! Tests of a site that many passes share: visits in threads, the journal done again on a second
+//! site, and a pass that waits.
 #![tactic(auto)]
 
 #[cfg(test)]

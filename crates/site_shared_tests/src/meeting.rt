@@ -1,4 +1,5 @@
-//! What a pass does in its thread: many visits, or one in which a pass waits for the session that another one holds.
+//! What a pass does in its thread: many visits, or one in which a pass waits for the session that
+//! another one holds.
 ghost use Rattle.std.specs.Prelude.{◌≡◌};
 ghost use Rattle.site_words.specs.Answers.{IsSamePort};
 ghost use Rattle.pass_course.specs.Course.{IsIdle};
@@ -44,8 +45,8 @@ impl Watch {
     }
 }
 
-/// A gate that counts how often the visitor comes to it, and how often the passes that wait for the session: those between 0 and
-/// the visitor.
+/// A gate that counts how often the visitor comes to it, and how often the passes that wait for the
+/// session: those between 0 and the visitor.
 #[derive(Drop)]
 pub struct Counting<'a> {
     pub watch: &'a Watch,

@@ -12,7 +12,8 @@ use std::sync::Wait;
 use std::thread;
 use std::thread::Threads;
 
-/// The site once each of its passes has done the job in a thread, and has come back. None where a request is under way.
+/// The site once each of its passes has done the job in a thread, and has come back. None where a
+/// request is under way.
 pub fn site_after<R: Threads + Wait + Sync>(
     rt: &R,
     alloc: Global,

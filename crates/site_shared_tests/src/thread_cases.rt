@@ -4,8 +4,9 @@ use crate::meeting::{Job, Watch};
 use std::sync::atomic::Ordering;
 use std::test::Fail;
 
-// How many passes visit, with which session and how often each; and the account of the site: its entries, the fetches that found something,
-// and the entries to which a second site gives the same answers; then a picture of both.
+// How many passes visit, with which session and how often each; and the account of the site: its
+// entries, the fetches that found something, and the entries to which a second site gives the same
+// answers; then a picture of both.
 const VISITS: [(u8, &str, u32, &str); 2] = [
     (
         2,
@@ -32,7 +33,8 @@ fn threads_visit_a_thousand_times(rt: HostRuntime) -> Result<(), Fail> {
     Ok(())
 }
 
-// How many passes do which job, with which session; and the entries from a place on. Of two passes one waits for the session that is held.
+// How many passes do which job, with which session; and the entries from a place on. Of two passes
+// one waits for the session that is held.
 const ENTRIES: [(u8, &str, Job, usize, &str); 3] = [
     (
         1,
@@ -67,7 +69,8 @@ fn passes_leave_their_entries(rt: HostRuntime) -> Result<(), Fail> {
     Ok(())
 }
 
-// How often the sixty passes that wait come to the gate at most: for each of the 124 entries once, and to end.
+// How often the sixty passes that wait come to the gate at most: for each of the 124 entries once,
+// and to end.
 const MOST_TRIES: u64 = 7_500;
 
 // How often the visitor comes to the gate: to begin, and to end.

@@ -1,4 +1,5 @@
-//! A pass visits a site: its request counts itself in its session, publishes, looks for a path and sets an attribute.
+//! A pass visits a site: its request counts itself in its session, publishes, looks for a path and
+//! sets an attribute.
 ghost use Rattle.site_words.specs.Answers.{IsSamePort};
 ghost use Rattle.pass_course.specs.Course.{IsIdle};
 ghost use Rattle.site_shared_tests.specs.Visits.{HasBegun, IsServing};
@@ -24,7 +25,8 @@ pub struct Errand {
     pub path: Path,
 }
 
-/// One visit. True where its request began with a session, all of it was done, and the path was found.
+/// One visit. True where its request began with a session, all of it was done, and the path was
+/// found.
 pub fn visit<P: Compiled, Q: Port<P>>(alloc: Global, port: &mut Q, errand: &Errand) -> bool
     requires { IsIdle (Q.opening port.old) (Q.pass port.old) (Q.seen port.old) }
     ensures same { IsSamePort (Q.pass port.old) (Q.pass port.new) (Q.opening port.old) (Q.opening port.new)

@@ -3,8 +3,8 @@ use crate::{journals, sessions, steps};
 use site_core_tests::{played, session_id};
 use std::test::Fail;
 
-/// Lines for a new site whose journal weighs at most `limit`, for so many passes, once so many sessions were made. Behind ` > ` a line has
-/// what it comes to.
+/// Lines for a new site whose journal weighs at most `limit`, for so many passes, once so many
+/// sessions were made. Behind ` > ` a line has what it comes to.
 #[derive(Clone, Copy)]
 pub struct Script<'a> {
     pub limit: u64,

@@ -1,4 +1,5 @@
-//! Worked histories of a site, computed by its definitions: each is a clause of a function without a body of its own.
+//! Worked histories of a site, computed by its definitions: each is a clause of a function without
+//! a body of its own.
 #![tactic(auto)]
 
 ghost use Rattle.site_words_tests.specs.AtLimits.{FullIsSound, OneGivesWay, TooManyFiles};

@@ -6,7 +6,8 @@ ghost use Rattle.talk_words.specs.Uses.{EachOnce};
 ghost use Rattle.talk_words.specs.Versions.{AreNeverOlder};
 ghost use Rattle.talk_words.specs.Work.{HasExactWork};
 
-/// What a connection's pass has seen at its end is one legal history that goes on from what it had seen, and no request is under way.
+/// What a connection's pass has seen at its end is one legal history that goes on from what it had
+/// seen, and no request is under way.
 pub fn one_history()
     ensures { HasOneHistory }
 {}
@@ -16,7 +17,8 @@ pub fn each_once()
     ensures { EachOnce }
 {}
 
-/// No request has an older version than one before it, whoever began that, nor than what its pass had seen.
+/// No request has an older version than one before it, whoever began that, nor than what its pass
+/// had seen.
 pub fn versions()
     ensures { AreNeverOlder }
 {}
@@ -26,7 +28,8 @@ pub fn exact_refusals()
     ensures { HasExactRefusals }
 {}
 
-/// A connection reads exactly the files on which the pages depend that it missed, each page in its request's tree.
+/// A connection reads exactly the files on which the pages depend that it missed, each page in its
+/// request's tree.
 pub fn exact_work()
     ensures { HasExactWork }
 {}

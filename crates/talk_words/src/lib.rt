@@ -1,4 +1,5 @@
-//! What is said on a connection to a site: what each request is answered and what it leaves, and the laws of whole connections.
+//! What is said on a connection to a site: what each request is answered and what it leaves, and
+//! the laws of whole connections.
 #![tactic(auto)]
 
 mod laws;

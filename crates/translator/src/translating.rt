@@ -11,7 +11,8 @@ use std::alloc::{AllocError, Global};
 use std::sync::Arc;
 use unit_nodes::{Unit, UnitBody};
 
-/// What is kept of a unit: its page as the program, or its fault, with the stamps of its dependencies.
+/// What is kept of a unit: its page as the program, or its fault, with the stamps of its
+/// dependencies.
 pub fn translate(alloc: Global, unit: &Unit) -> Result<Made, AllocError>
     ensures by { IfOk result (λ made. IsMadeBy made unit.now) }
     ensures made { (tree : List File) (path : List ℕ) → IsUnitOf unit.now tree path →

@@ -1,4 +1,5 @@
-//! The pages of a tree: each is read, translated and run in one call, which does what the page means.
+//! The pages of a tree: each is read, translated and run in one call, which does what the page
+//! means.
 #![tactic(auto)]
 
 mod making;

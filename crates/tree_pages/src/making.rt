@@ -13,8 +13,8 @@ use std::alloc::{AllocError, Global};
 use translator::translate;
 use unit_build::build;
 
-/// What is made of the page at a path of a tree where a file stands. `steps` counts the bytes of the files that it needs, each once, unless
-/// memory is wanting before they are read.
+/// What is made of the page at a path of a tree where a file stands. `steps` counts the bytes of
+/// the files that it needs, each once, unless memory is wanting before they are read.
 pub fn make<L: Ledger>(
     alloc: Global,
     tree: &Tree,

@@ -27,7 +27,8 @@ use site_words::AppPort;
 use source_tree::Tree;
 use std::alloc::Global;
 
-/// What comes of the page at a path: it has a fault, it ran, or memory was wanting before it could run.
+/// What comes of the page at a path: it has a fault, it ran, or memory was wanting before it could
+/// run.
 #[derive(Drop)]
 pub enum PageEnd {
     Faulty(PageFault),
@@ -35,8 +36,9 @@ pub enum PageEnd {
     NoMemory,
 }
 
-/// Reads the page at a path of a tree where a file stands, translates it and runs it, over a port of this tree. Its Fetch was charged before.
-/// `steps` counts the bytes of the files that the page needs, each once.
+/// Reads the page at a path of a tree where a file stands, translates it and runs it, over a port
+/// of this tree. Its Fetch was charged before. `steps` counts the bytes of the files that the page
+/// needs, each once.
 pub fn run_at<P: AppPort<Program>, K: Sink, L: Ledger>(
     alloc: Global,
     tree: &Tree,

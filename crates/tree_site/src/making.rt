@@ -35,7 +35,8 @@ fn uncounted<N: Ledger>(
     make(alloc, tree, path, &mut steps)
 }
 
-/// What stands at a path of a tree: no file, the text of one that is no page, or what is made of a page.
+/// What stands at a path of a tree: no file, the text of one that is no page, or what is made of a
+/// page.
 pub fn paged(alloc: Global, tree: &Tree, path: &Path) -> Result<Paged<Program>, AllocError>
     requires limits { IsWithinLimits tree.now }
     ensures { IfOk result (λ paged. IsPaged IsProgramOf IsFaultOf tree.now path.now paged) }

@@ -1,4 +1,5 @@
-//! Whether words of a site are equal: openings, entries of a history, replies, and what they are made of.
+//! Whether words of a site are equal: openings, entries of a history, replies, and what they are
+//! made of.
 #![tactic(auto)]
 
 mod attributes;
