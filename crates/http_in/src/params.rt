@@ -1,11 +1,9 @@
-ghost use Rattle.std.specs.Prelude.{◌≡◌, ◌++◌, [], unwrap_or, IfOk, OnOk};
+ghost use Rattle.std.specs.Prelude.{◌≡◌, ◌++◌, [], unwrap_or, IfOk, OnOk, if◌then◌else◌};
 ghost use Rattle.std.specs.Option.{option_map};
-ghost use Rattle.http_in.specs.Params.{has_form, is_form_type, params_in, params_of};
-ghost use Rattle.http_in.specs.Target.{query_of};
+ghost use Rattle.http_in.specs.Params.{has_form, is_form_type, params_in};
 
 use crate::Field;
 use crate::lookups::{is_named, is_same};
-use crate::target::query_of;
 use crate::trim::trim;
 use form_urlencoded::parse;
 use pg_text::{Duplicate, Listed, Text};
@@ -35,13 +33,14 @@ impl Duplicate for Param {
 pub fn params_of(
     alloc: Global,
     method: &str,
-    target: &str,
+    query: Option<&str>,
     fields: &[Field],
     body: &[u8],
 ) -> Result<Listed<Param>, AllocError>
-    ensures { IfOk result (λ params. params ≡ params_of method.now target.now fields.now body.now) }
+    ensures { IfOk result (λ params. params ≡ params_in (unwrap_or (option_map (λ text. text.now) query.entry) [])
+        ++ (if has_form method.now fields.now then params_in body.now else [])) }
 {
-    let mut params = query_params(alloc, query_of(target).unwrap_or(""))?;
+    let mut params = query_params(alloc, query.unwrap_or(""))?;
     if has_form(method, fields) {
         add_params(&mut params, alloc, body)?;
     }

@@ -5,7 +5,7 @@ use crate::cookie::session_of;
 use crate::limits::SESSION_ID_BYTES;
 use crate::lookups::asks_to_close;
 use crate::params::params_of;
-use crate::target::{path_of, query_of};
+use crate::target::{decoded_path, parts_of};
 use crate::{Field, Param};
 use pg_text::{Bytes, Listed, Path, Text};
 use std::alloc::{AllocError, Global};
@@ -43,7 +43,7 @@ impl Request {
     }
 
     // The request of these parts.
-    #[tactic(auto, unfolding(crate::specs::Request::request_of))]
+    #[tactic(auto, unfolding(crate::specs::Request::request_of, crate::specs::Target::path_of))]
     pub(crate) fn of(
         alloc: Global,
         method: Text,
@@ -54,20 +54,23 @@ impl Request {
         ensures request { IfOk result (λ request. request ≡ request_of method target fields body) }
         ensures cookie { IfOk result (λ request. length request.cookie ≤ SESSION_ID_BYTES) }
     {
-        let query = match query_of(target.as_str()) {
+        let (sent, query) = parts_of(target.as_str());
+        let path = decoded_path(alloc, sent)?;
+        let params = params_of(
+            alloc,
+            method.as_str(),
+            query,
+            fields.as_slice(),
+            body.as_slice(),
+        )?;
+        let query = match query {
             Some(query) => Some(Text::copy_of(alloc, query)?),
             None => None,
         };
         Ok(Request {
-            path: path_of(alloc, target.as_str())?,
+            path,
             query,
-            params: params_of(
-                alloc,
-                method.as_str(),
-                target.as_str(),
-                fields.as_slice(),
-                body.as_slice(),
-            )?,
+            params,
             cookie: session_of(alloc, fields.as_slice())?,
             close: asks_to_close(fields.as_slice()),
             method,
