@@ -1,4 +1,5 @@
 ghost use Rattle.std.specs.Prelude.{◌≡◌, ◌++◌, [], unwrap_or, IfOk, OnOk, if◌then◌else◌};
+ghost use Rattle.std.specs.Cow.{cow_str_bytes};
 ghost use Rattle.std.specs.Option.{option_map};
 ghost use Rattle.http_in.specs.Params.{has_form, is_form_type, params_in};
 
@@ -8,6 +9,7 @@ use crate::trim::trim;
 use form_urlencoded::parse;
 use pg_text::{Duplicate, Listed, Text};
 use std::alloc::{AllocError, Global};
+use std::borrow::CowStr;
 
 const CONTENT_TYPE: &str = "content-type";
 
@@ -64,11 +66,21 @@ fn add_params(params: &mut Listed<Param>, alloc: Global, text: &[u8]) -> Result<
     for pair in parse(alloc, text) {
         let (name, value) = pair?;
         params.push(Param {
-            name: Text::new(name.into_owned(alloc)?)?,
-            value: Text::new(value.into_owned(alloc)?)?,
+            name: text_from(alloc, name)?,
+            value: text_from(alloc, value)?,
         })?;
     }
     Ok(())
+}
+
+// The text that a part is. A short one takes no memory where it stands as it was sent.
+fn text_from(alloc: Global, part: CowStr<'_, Global>) -> Result<Text, AllocError>
+    ensures { IfOk result (λ text. text ≡ cow_str_bytes part.entry) }
+{
+    match part {
+        CowStr::Borrowed(text) => Text::copy_of(alloc, text),
+        CowStr::Owned(text) => Text::new(text),
+    }
 }
 
 // Whether a request of this method and fields has a form for its body.
