@@ -1,6 +1,7 @@
 pub mod Answered
 pub mod Cookies
 pub mod EmptyLines
+pub mod Escapes
 pub mod FieldLemmas
 pub mod FoundHeads
 pub mod GoodHeads

@@ -18,10 +18,14 @@ pub fn parts_of(target: &str) -> (&str, Option<&str>)
     }
 }
 
-// The path that stands before a query, where it is one. One without escapes isn't copied for it.
+// The path that stands before a query, where it is one. One without escapes is a text as it
+// stands, and isn't copied.
 pub fn decoded_path(alloc: Global, sent: &str) -> Result<Option<Path>, AllocError>
     ensures { IfOk result (λ path. path ≡ path_in (percent_decode sent.now)) }
 {
+    if !sent.as_bytes().contains(&b'%') {
+        return path_at(alloc, sent);
+    }
     let decoded = percent_decode(sent.as_bytes()).into_cow(alloc)?;
     path_in(alloc, &decoded)
 }
@@ -30,9 +34,16 @@ pub fn decoded_path(alloc: Global, sent: &str) -> Result<Option<Path>, AllocErro
 fn path_in(alloc: Global, bytes: &[u8]) -> Result<Option<Path>, AllocError>
     ensures { IfOk result (λ path. path ≡ path_in bytes.now) }
 {
-    let Ok(text) = str::from_utf8(bytes) else {
-        return Ok(None);
-    };
+    match str::from_utf8(bytes) {
+        Ok(text) => path_at(alloc, text),
+        Err(_) => Ok(None),
+    }
+}
+
+// The path that a text stands for, where it stands for one.
+fn path_at(alloc: Global, text: &str) -> Result<Option<Path>, AllocError>
+    ensures { IfOk result (λ path. path ≡ path_in text.now) }
+{
     match resolve(alloc, None, text) {
         Ok(path) => Ok(Some(path)),
         Err(Failure::Fault(_)) => Ok(None),
