@@ -33,9 +33,9 @@ pub(crate) fn head_text(
     add_field(&mut text, b"Content-Type: ", &head.content_type, LINE_END)?;
     add_field(&mut text, SESSION_ID, &head.set_cookie, SESSION_END)?;
     add_field(&mut text, b"Location: ", &head.location, LINE_END)?;
-    text.extend_from_slice(where_set(head.allow, ALLOW))?;
+    add_where(&mut text, head.allow, ALLOW)?;
     add_length(&mut text, length)?;
-    text.extend_from_slice(where_set(head.close, b"Connection: close\r\n"))?;
+    add_where(&mut text, head.close, b"Connection: close\r\n")?;
     text.extend_from_slice(b"\r\n")?;
     Ok(text)
 }
@@ -70,9 +70,12 @@ fn add_field(
     Ok(())
 }
 
-// The field, or nothing where it is not set.
-fn where_set(flag: bool, field: &'static [u8]) -> &'static [u8]
-    ensures { result.now ≡ (if flag then field.now else []) }
+// Adds a field where it is set.
+fn add_where(text: &mut Vec<u8>, flag: bool, field: &[u8]) -> Result<(), AllocError>
+    ensures { OnOk result (text.new.items ≡ text.old.items ++ (if flag then field.now else [])) }
 {
-    if flag { field } else { b"" }
+    if !flag {
+        return Ok(());
+    }
+    text.extend_from_slice(field)
 }

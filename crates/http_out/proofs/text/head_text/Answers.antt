@@ -5,12 +5,10 @@ pub returns : goal.returns
 unfolding head_text
 returns c =
     rw (
-      c.in_ok-extend_from_slice-6.ensures.items,
-      c.in_ok-extend_from_slice-5.ensures.items,
-      c.where_set-2.ensures,
-      c.in_ok-add_length.ensures,
       c.in_ok-extend_from_slice-4.ensures.items,
-      c.where_set.ensures,
+      c.in_ok-add_where-2.ensures,
+      c.in_ok-add_length.ensures,
+      c.in_ok-add_where.ensures,
       c.in_ok-add_field-3.ensures,
       c.in_ok-add_field-2.ensures,
       c.in_ok-add_field.ensures,
