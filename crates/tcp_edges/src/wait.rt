@@ -61,6 +61,11 @@ const END: [u8; 4] = *b"\r\n\r\n";
 
 impl HeadEnd {
     fn note(&mut self, bytes: &[u8]) {
+        // So do most pieces: a whole request without a body.
+        if bytes.ends_with(&END) {
+            self.matched = END.len();
+            return;
+        }
         for byte in bytes {
             let Some(wanted) = END.get(self.matched) else {
                 return;
