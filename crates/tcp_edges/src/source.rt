@@ -73,7 +73,7 @@ impl<'a, R: Clock> TcpSource<'a, R> {
         let came = &into[..count];
         match &mut self.begun {
             Some(begun) => begun.note(came),
-            None => self.begun = Some(Begun::new(Instant::now(self.rt)?, came)),
+            None => self.begun = Some(Begun::new(came)),
         }
         Ok(count)
     }
@@ -92,7 +92,7 @@ impl<'a, R: Clock> TcpSource<'a, R> {
             self.pieces = pieces;
             self.begun = None;
         }
-        let seconds = match &self.begun {
+        let seconds = match &mut self.begun {
             None => BETWEEN_SECONDS,
             Some(begun) => match begun.patience(Instant::now(self.rt)?) {
                 Some(seconds) => seconds,

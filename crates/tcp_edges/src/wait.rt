@@ -12,16 +12,17 @@ const LEAST_BYTES: u64 = 500;
 /// A request that is under way.
 #[derive(Clone, Copy, Drop)]
 pub(crate) struct Begun {
-    since: Instant,
+    // When more of it was first waited for.
+    since: Option<Instant>,
     bytes: u64,
     end: HeadEnd,
 }
 
 impl Begun {
-    /// A request of which these bytes came, at this moment.
-    pub(crate) fn new(since: Instant, bytes: &[u8]) -> Self {
+    /// A request of which these bytes came.
+    pub(crate) fn new(bytes: &[u8]) -> Self {
         let mut begun = Begun {
-            since,
+            since: None,
             bytes: 0,
             end: HeadEnd { matched: 0 },
         };
@@ -35,9 +36,11 @@ impl Begun {
         self.end.note(bytes);
     }
 
-    /// How many seconds more the peer may be silent. None where its time is over.
-    pub(crate) fn patience(&self, now: Instant) -> Option<u64> {
-        let passed = now.duration_since(self.since).as_secs();
+    /// How many seconds more the peer may be silent, whose time begins when more is first waited for. None where it is over.
+    pub(crate) fn patience(&mut self, now: Instant) -> Option<u64> {
+        let since = self.since.unwrap_or(now);
+        self.since = Some(since);
+        let passed = now.duration_since(since).as_secs();
         let given = if self.end.is_reached() {
             (self.bytes / LEAST_BYTES).saturating_add(INSIDE_SECONDS)
         } else {
