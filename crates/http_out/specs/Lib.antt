@@ -1,3 +1,4 @@
+pub mod ContentType
 pub mod Full
 pub mod Head
 pub mod Methods

@@ -1,9 +1,8 @@
-ghost use Rattle.std.specs.Prelude.{◌≡◌, IfOk};
+ghost use Rattle.std.specs.Prelude.{◌≡◌};
 ghost use Rattle.http_out.specs.Head.{head_of, plain_head};
 
-use crate::Status;
+use crate::{ContentType, Status};
 use pg_text::Text;
-use std::alloc::{AllocError, Global};
 
 /// The type of a plain answer.
 pub const PLAIN_TYPE: &str = "text/plain;charset=UTF-8";
@@ -12,7 +11,7 @@ pub const PLAIN_TYPE: &str = "text/plain;charset=UTF-8";
 #[derive(Drop)]
 pub struct Head {
     pub status: Status,
-    pub content_type: Option<Text>,
+    pub content_type: Option<ContentType>,
     /// The id of the session that begins with this response.
     pub set_cookie: Option<Text>,
     pub location: Option<Text>,
@@ -38,13 +37,13 @@ impl Head {
     }
 
     /// The head of a plain answer, which is text. It names the methods where the method was not one of them.
-    pub fn plain(alloc: Global, status: Status, close: bool) -> Result<Self, AllocError>
-        ensures { IfOk result (λ head. head ≡ plain_head status close) }
+    pub fn plain(status: Status, close: bool) -> Self
+        ensures { result ≡ plain_head status close }
     {
-        Ok(Head {
-            content_type: Some(Text::copy_of(alloc, PLAIN_TYPE)?),
+        Head {
+            content_type: Some(ContentType::known(PLAIN_TYPE)),
             allow: status == Status::MethodNotAllowed,
             ..Head::of(status, close)
-        })
+        }
     }
 }

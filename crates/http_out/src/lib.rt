@@ -5,6 +5,7 @@
 #![tactic(auto)]
 
 mod chunk;
+mod content_type;
 mod full;
 mod head;
 mod law;
@@ -16,6 +17,7 @@ mod text;
 mod whole;
 
 pub use chunk::{write_chunk, write_end};
+pub use content_type::ContentType;
 pub use full::full_line;
 pub use head::{Head, PLAIN_TYPE};
 pub use law::parts_join;

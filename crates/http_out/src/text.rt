@@ -1,8 +1,8 @@
-ghost use Rattle.std.specs.Prelude.{◌≡◌, ◌++◌, [], OnOk, IfOk, if◌then◌else◌};
+ghost use Rattle.std.specs.Prelude.{◌≡◌, ◌++◌, [], OnOk, IfOk, codes, if◌then◌else◌};
 ghost use Rattle.http_out.specs.Head.{field, head_text, measured};
 
-use crate::Head;
 use crate::methods::ALLOW;
+use crate::{ContentType, Head};
 use itoa::Buffer;
 use pg_text::Text;
 use std::alloc::{AllocError, Global};
@@ -30,7 +30,7 @@ pub(crate) fn head_text(
     text.extend_from_slice(b"HTTP/1.1 ")?;
     text.extend_from_slice(head.status.as_str().as_bytes())?;
     text.extend_from_slice(LINE_END)?;
-    add_field(&mut text, b"Content-Type: ", &head.content_type, LINE_END)?;
+    add_type(&mut text, &head.content_type)?;
     add_field(&mut text, SESSION_ID, &head.set_cookie, SESSION_END)?;
     add_field(&mut text, b"Location: ", &head.location, LINE_END)?;
     add_where(&mut text, head.allow, ALLOW)?;
@@ -52,6 +52,17 @@ fn add_length(text: &mut Vec<u8>, length: Option<usize>) -> Result<(), AllocErro
     text.extend_from_slice(b"\r\n")
 }
 
+// Adds the field for the type of the body, where it has one.
+fn add_type(text: &mut Vec<u8>, content_type: &Option<ContentType>) -> Result<(), AllocError>
+    ensures { OnOk result (text.new.items
+        ≡ text.old.items ++ field (codes "Content-Type: ") content_type.now (codes "\r\n")) }
+{
+    match content_type {
+        None => Ok(()),
+        Some(name) => add_line(text, b"Content-Type: ", name.as_bytes(), LINE_END),
+    }
+}
+
 // Adds a field where it has a value.
 fn add_field(
     text: &mut Vec<u8>,
@@ -61,13 +72,19 @@ fn add_field(
 ) -> Result<(), AllocError>
     ensures { OnOk result (text.new.items ≡ text.old.items ++ field name.now value.now end.now) }
 {
-    let Some(value) = value else {
-        return Ok(());
-    };
+    match value {
+        None => Ok(()),
+        Some(value) => add_line(text, name, value.as_bytes(), end),
+    }
+}
+
+// Adds a field with its value.
+fn add_line(text: &mut Vec<u8>, name: &[u8], value: &[u8], end: &[u8]) -> Result<(), AllocError>
+    ensures { OnOk result (text.new.items ≡ text.old.items ++ (name.now ++ value.now ++ end.now)) }
+{
     text.extend_from_slice(name)?;
-    text.extend_from_slice(value.as_bytes())?;
-    text.extend_from_slice(end)?;
-    Ok(())
+    text.extend_from_slice(value)?;
+    text.extend_from_slice(end)
 }
 
 // Adds a field where it is set.

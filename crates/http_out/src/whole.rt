@@ -83,7 +83,7 @@ pub fn write_plain<K: Sink>(
         (failed.old ≡ true → Rose before (K.faults sink.old)) → failed.new ≡ true →
         Rose before (K.faults sink.new) }
 {
-    let head = Head::plain(alloc, status, close)?;
+    let head = Head::plain(status, close);
     let mut body = Vec::with_capacity(alloc, line.len().saturating_add(1))?;
     body.extend_from_slice(line)?;
     body.extend_from_slice(b"\n")?;

@@ -1,7 +1,7 @@
 // Pages that are written act by act, and what is told of them.
 use crate::texts::whole;
 use edges::MemSink;
-use http_out::{Head, Status};
+use http_out::{ContentType, Head, Status};
 use out_buffer::{Failure, RunFault, Writer};
 use pg_text::Text;
 use std::alloc::{AllocError, Global};
@@ -57,7 +57,7 @@ pub fn told_of(alloc: Global, row: &Row) -> Result<String, AllocError> {
 
 // Does what a row says, and ends the page.
 fn run(alloc: Global, row: &Row, sink: &mut MemSink, told: &mut String) -> Result<(), AllocError> {
-    let mut writer = page(alloc, row.kilobytes, row.autoflush, row.shown)?;
+    let mut writer = page(alloc, row.kilobytes, row.autoflush, row.shown);
     for act in row.acts {
         done(alloc, act, &mut writer, sink, told)?;
     }
@@ -72,20 +72,20 @@ fn fails(alloc: Global, call: Option<u64>) -> Result<Vec<u64>, AllocError> {
     Ok(fails)
 }
 
-fn page(alloc: Global, kilobytes: u8, autoflush: bool, shown: bool) -> Result<Writer, AllocError> {
+fn page(alloc: Global, kilobytes: u8, autoflush: bool, shown: bool) -> Writer {
     let head = Head {
         status: Status::Ok,
-        content_type: Some(Text::copy_of(alloc, "text/html;charset=UTF-8")?),
+        content_type: Some(ContentType::known("text/html;charset=UTF-8")),
         set_cookie: None,
         location: None,
         allow: false,
         close: false,
     };
     if kilobytes == 0 {
-        return Ok(Writer::new(alloc, head, None, autoflush, shown));
+        return Writer::new(alloc, head, None, autoflush, shown);
     }
     let size = kilobytes as u32 * 1_024;
-    Ok(Writer::new(alloc, head, Some(size), autoflush, shown))
+    Writer::new(alloc, head, Some(size), autoflush, shown)
 }
 
 fn done(
@@ -162,7 +162,7 @@ fn clear(writer: &mut Writer, told: &mut String) -> Result<(), AllocError> {
 }
 
 fn not_found(alloc: Global, writer: &mut Writer) -> Result<(), AllocError> {
-    let head = Head::plain(alloc, Status::NotFound, false)?;
+    let head = Head::plain(Status::NotFound, false);
     let id = Text::copy_of(alloc, "00ff")?;
     if !writer.committed() {
         writer.set_head(head);

@@ -87,7 +87,7 @@ fn a_plain_response_has_a_line(rt: HostRuntime) -> Result<(), Fail> {
 
 // A response whose body comes in one chunk, of so many letters `a` and a `b`.
 fn chunked(alloc: Global, count: usize) -> Result<String, AllocError> {
-    let head = Head::plain(alloc, Status::Ok, false)?;
+    let head = Head::plain(Status::Ok, false);
     let mut piece = vec![in alloc; b'a'; count]?;
     piece.push(b'b')?;
     let mut sink = MemSink::new(alloc, Vec::new(alloc));

@@ -5,7 +5,7 @@ ghost use Rattle.std.specs.Option.{ForSome};
 use crate::unreadable::Unreadable;
 use crate::words::{count, first_word, text, value};
 use http_in::{Field, Param, Request};
-use http_out::{Head, Status};
+use http_out::{ContentType, Head, Status};
 use pg_text::{Bytes, Listed, Place, Text, resolve};
 use pg_value::{Attrs, RunFault, Value};
 use run_world::Raise;
@@ -181,13 +181,13 @@ fn request(alloc: Global) -> Result<Request, AllocError> {
 }
 
 /// The head of a page's response before it runs.
-pub fn head(alloc: Global) -> Result<Head, AllocError> {
-    Ok(Head {
+pub fn head() -> Head {
+    Head {
         status: Status::Ok,
-        content_type: Some(Text::copy_of(alloc, "text/html;charset=UTF-8")?),
+        content_type: Some(ContentType::known("text/html;charset=UTF-8")),
         set_cookie: None,
         location: None,
         allow: false,
         close: false,
-    })
+    }
 }

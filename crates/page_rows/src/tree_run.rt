@@ -61,12 +61,11 @@ pub fn run_page<N: Ledger>(
 {
     let session = surroundings.session.take();
     let has_session = session.is_some();
-    let head = head(alloc)?;
     let mut scopes = Scopes::new(alloc, first_attributes(alloc, has_session))?;
     let answers = mem::replace(&mut surroundings.answers, Vec::new(alloc));
     let mut site = TreeSite::new(alloc, tree, answers, has_session);
     let buffer = buffer_size(surroundings.buffer);
-    let mut writer = Writer::new(alloc, head, buffer, surroundings.auto_flush, true);
+    let mut writer = Writer::new(alloc, head(), buffer, surroundings.auto_flush, true);
     let mut sink = MemSink::new(alloc, Vec::new(alloc));
     let charge = surroundings.charge.unwrap_or(page_charge(path));
     let exception = surroundings.exception.take();

@@ -79,7 +79,7 @@ pub fn answer<'a, Q: Port<Made>, L: Ledger, K: Sink>(
     match look(path, &mut course.around, port) {
         Err(AllocError) => Err(AllocError),
         Ok(Paged::Absent) => not_found(alloc),
-        Ok(Paged::Plain(text)) => file(alloc, Status::Ok, path, &text),
+        Ok(Paged::Plain(text)) => file(Status::Ok, path, &text),
         Ok(Paged::Bad(fault)) => page_fault(alloc, &fault),
         Ok(Paged::Page(program)) => first_page(
             alloc, program, request, close, shown, course, sink, port,

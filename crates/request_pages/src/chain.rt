@@ -135,7 +135,7 @@ fn tell_target(
         IfOk result (λ reply. IsTargetReply tree status path.now reply) }
 {
     match found {
-        Paged::Plain(text) => file(alloc, status, path, text),
+        Paged::Plain(text) => file(status, path, text),
         Paged::Bad(fault) => page_fault(alloc, fault),
         Paged::Absent => not_found(alloc),
         Paged::Page(_) => unreachable!(),

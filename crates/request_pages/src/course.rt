@@ -10,7 +10,7 @@ ghost use Rattle.request_pages.specs.Course.{head_for};
 ghost use Rattle.run_world.specs.Origin.{Origin};
 ghost use Rattle.site_words.specs.Running.{Asking};
 
-use http_out::{Head, Status};
+use http_out::{ContentType, Head, Status};
 use out_buffer::Writer;
 use pg_text::Text;
 use run_world::{Around, Program};
@@ -61,7 +61,7 @@ pub(crate) fn begin_page(
     ensures err { OnErr result (course.new ≡ course.old) }
 {
     let head = Head {
-        content_type: Some(program.settings.content_type.copy()?),
+        content_type: Some(ContentType::named(program.settings.content_type.copy()?)),
         set_cookie: new_id(&course.around)?,
         ..Head::of(way.status, way.close)
     };

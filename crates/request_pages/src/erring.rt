@@ -84,7 +84,7 @@ pub(crate) fn run_error<'a, Q: Port<Made>, L: Ledger, K: Sink>(
         Err(AllocError) => Err(AllocError),
         Ok(Paged::Absent) => run_fault(alloc, &raise),
         Ok(Paged::Bad(_)) => run_fault(alloc, &raise),
-        Ok(Paged::Plain(text)) => file(alloc, way.status, &path, &text),
+        Ok(Paged::Plain(text)) => file(way.status, &path, &text),
         Ok(Paged::Page(target)) => {
             let Ok(line) = run_fault(alloc, &raise) else {
                 return Err(AllocError);

@@ -1,6 +1,6 @@
 use crate::body::Body;
 use http_in::Param;
-use http_out::Status;
+use http_out::{ContentType, Status};
 use pg_text::{Listed, Path, Text};
 use run_world::Raise;
 
@@ -14,7 +14,7 @@ pub enum Reply {
     /// This body, of which nothing was committed.
     Whole {
         status: Status,
-        content_type: Option<Text>,
+        content_type: Option<ContentType>,
         location: Option<Text>,
         body: Body,
     },

@@ -8,7 +8,7 @@ ghost use Rattle.run_world.specs.Seats.{raise_of};
 use crate::body::Body;
 use crate::reply::Reply;
 use fault_line::page_fault_line;
-use http_out::{PLAIN_TYPE, Status};
+use http_out::{ContentType, PLAIN_TYPE, Status};
 use pg_text::{PageFault, Path, Text};
 use run_values::run_fault_line;
 use run_world::Raise;
@@ -22,7 +22,7 @@ pub(crate) fn plain(alloc: Global, status: Status, line: &[u8]) -> Result<Reply,
     body.extend_from_slice(b"\n")?;
     Ok(Reply::Whole {
         status,
-        content_type: Some(Text::copy_of(alloc, PLAIN_TYPE)?),
+        content_type: Some(ContentType::known(PLAIN_TYPE)),
         location: None,
         body: Body::made(body),
     })
@@ -37,17 +37,12 @@ pub(crate) fn not_found(alloc: Global) -> Result<Reply, AllocError>
 }
 
 /// A file that is no page, as it is.
-pub(crate) fn file(
-    alloc: Global,
-    status: Status,
-    path: &Path,
-    text: &Text,
-) -> Result<Reply, AllocError>
+pub(crate) fn file(status: Status, path: &Path, text: &Text) -> Result<Reply, AllocError>
     ensures { IfOk result (λ told. told ≡ Reply.Whole status (Some (file_type path.now)) None text.now) }
 {
     Ok(Reply::Whole {
         status,
-        content_type: Some(Text::copy_of(alloc, file_type(path))?),
+        content_type: Some(ContentType::known(file_type(path))),
         location: None,
         body: Body::file(text)?,
     })
