@@ -12,6 +12,8 @@ use http_out::{Status, write_plain};
 use std::alloc::{AllocError, Global};
 
 /// Answers a fault of reading where it has an answer, and ends.
+#[cold]
+#[inline(never)]
 pub(crate) fn refuse<K: Sink>(alloc: Global, fault: HttpFault, sink: &mut K) -> Ended
     ensures ended { Refuses fault (K.taken sink.old) (K.taken sink.new) result }
     ensures shown { (told : HttpFault) → result ≡ Ended.Refused told → IsShown told }

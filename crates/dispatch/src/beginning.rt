@@ -12,6 +12,7 @@ use scopes::Scopes;
 use std::alloc::{AllocError, Global};
 
 /// What a request keeps that has just begun, with the session that it found.
+#[inline(always)]
 pub(crate) fn begin_course(
     alloc: Global,
     cookie: &Text,

@@ -20,6 +20,8 @@ use site_words::Refusal;
 use std::alloc::{AllocError, Global};
 
 /// Answers a request of a method that no page takes.
+#[cold]
+#[inline(never)]
 pub(crate) fn not_taken<K: Sink>(
     alloc: Global,
     request: &Request,
@@ -50,6 +52,8 @@ pub(crate) fn not_taken<K: Sink>(
 }
 
 /// Answers a request for which the journal had no room.
+#[cold]
+#[inline(never)]
 pub(crate) fn full<K: Sink>(
     alloc: Global,
     refusal: &Refusal,

@@ -213,6 +213,8 @@ fn finish<Q: Port<Made>, K: Sink>(
 
 // Abandons a request whose pages were cut short. What was committed stands; else the answer says
 // that memory was wanting.
+#[cold]
+#[inline(never)]
 fn give_up<Q: Port<Made>, K: Sink>(
     port: &mut Q,
     number: u64,
@@ -245,6 +247,8 @@ fn give_up<Q: Port<Made>, K: Sink>(
 }
 
 // Abandons a request of which nothing was committed, and says that memory was wanting.
+#[cold]
+#[inline(never)]
 fn abandon<Q: Port<Made>, K: Sink>(
     port: &mut Q,
     number: u64,

@@ -14,7 +14,8 @@ const DIGITS: usize = 16;
 /// Room for a size, before the end of its line.
 const LINE: [u8; 18] = *b"0000000000000000\r\n";
 
-/// Writes one chunk of a body, and takes no memory. An empty piece would end the body, so a piece isn't empty.
+/// Writes one chunk of a body, and takes no memory. An empty piece would end the body, so a piece
+/// isn't empty.
 pub fn write_chunk<K: Sink>(sink: &mut K, failed: &mut bool, piece: &[u8])
     requires { 0 < length piece.now }
     ensures sent { (old : Option (List ℕ)) (text : List ℕ) →

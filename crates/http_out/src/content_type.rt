@@ -27,6 +27,7 @@ impl Model for ContentType {
 }
 
 impl ContentType {
+    /// A type that the server knows. It takes no memory.
     pub fn known(name: &'static str) -> Self
         ensures { result ≡ name.now }
     {
@@ -35,6 +36,7 @@ impl ContentType {
         }
     }
 
+    /// A type that a page names.
     pub fn named(name: Text) -> Self
         ensures { result ≡ name }
     {
@@ -43,6 +45,7 @@ impl ContentType {
         }
     }
 
+    /// The type as it stands in a head.
     pub fn as_bytes(&self) -> &[u8]
         ensures { result.now ≡ self.now }
     {

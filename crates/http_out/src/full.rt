@@ -7,7 +7,8 @@ use std::alloc::{AllocError, Global};
 /// Room for the word, two numbers and what separates them.
 const LINE_BYTES: usize = 56;
 
-/// The line that tells a full journal: its weight, and what of the rest is promised. It has no line end.
+/// The line that tells a full journal: its weight, and what of the rest is promised. It has no line
+/// end.
 pub fn full_line(alloc: Global, weight: u64, promised: u64) -> Result<Vec<u8>, AllocError>
     ensures { IfOk result (λ line. line.items ≡ full_line weight promised) }
 {

@@ -36,7 +36,8 @@ impl Head {
         }
     }
 
-    /// The head of a plain answer, which is text. It names the methods where the method was not one of them.
+    /// The head of a plain answer, which is text. It names the methods where the method was not one
+    /// of them.
     pub fn plain(status: Status, close: bool) -> Self
         ensures { result ≡ plain_head status close }
     {

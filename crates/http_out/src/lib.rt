@@ -1,7 +1,8 @@
 //! The bytes of responses of HTTP/1.1.
 //!
-//! A response is written whole, with its length in its head, or in chunks while it is made. Each call writes to a sink that
-//! may have failed already in this response: then it writes nothing more, and its clause still says what text was to come.
+//! A response is written whole, with its length in its head, or in chunks while it is made. Each
+//! call writes to a sink that may have failed already in this response: then it writes nothing
+//! more, and its clause still says what text was to come.
 #![tactic(auto)]
 
 mod chunk;

@@ -16,7 +16,8 @@ const SESSION_ID: &[u8] = b"Set-Cookie: JSESSIONID=";
 
 const SESSION_END: &[u8] = b"; Path=/; HttpOnly\r\n";
 
-/// The head of a response, with the length of its body where that is known before. It has room for so many bytes behind it.
+/// The head of a response, with the length of its body where that is known before. It has room for
+/// so many bytes behind it.
 #[tactic(auto, unfolding(crate::specs::Head::head_text))]
 pub(crate) fn head_text(
     alloc: Global,

@@ -11,11 +11,12 @@ use crate::{Head, Status};
 use edges::Sink;
 use std::alloc::{AllocError, Global};
 
-/// A body of at most so many bytes goes out in one piece with its head. It is the size of a page's buffer where the page names none.
+/// A body of at most so many bytes goes out in one piece with its head. It is the size of a page's
+/// buffer where the page names none.
 const MOST_JOINED: usize = 8_192;
 
-/// Writes a response of one piece, at once. The body is left out where it isn't to be shown, as for HEAD. Without memory
-/// nothing was written.
+/// Writes a response of one piece, at once. The body is left out where it isn't to be shown, as for
+/// HEAD. Without memory nothing was written.
 pub fn write_whole<K: Sink>(
     alloc: Global,
     sink: &mut K,
@@ -90,7 +91,8 @@ pub fn write_plain<K: Sink>(
     write_whole(alloc, sink, failed, &head, &body, shown)
 }
 
-/// Writes a plain answer of one line as all of a response, and says whether the sink failed. Without memory nothing was written.
+/// Writes a plain answer of one line as all of a response, and says whether the sink failed.
+/// Without memory nothing was written.
 pub fn tell_plain<K: Sink>(
     alloc: Global,
     sink: &mut K,

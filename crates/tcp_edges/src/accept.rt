@@ -15,10 +15,12 @@ use std::{io, thread};
 /// How many seconds a peer may take no byte of an answer.
 const WRITE_SECONDS: u64 = 20;
 
-/// How many milliseconds a listener sleeps that failed, as one does where no file descriptor is left.
+/// How many milliseconds a listener sleeps that failed, as one does where no file descriptor is
+/// left.
 const PAUSE_MILLIS: u64 = 10;
 
-/// A listener on a port. A number is drawn before each connection, and the round is over for whoever draws one that isn't in it.
+/// A listener on a port. A number is drawn before each connection, and the round is over for
+/// whoever draws one that isn't in it.
 #[derive(Drop)]
 pub struct TcpAccept<'a, R: Clock> {
     pub(crate) rt: &'a R,
@@ -70,7 +72,8 @@ impl<'a, R: Net<Stream = TcpStream> + Clock> TcpAccept<'a, R> {
         })
     }
 
-    // One number more is settled. Behind the last of them the round is over, and all who wait are woken.
+    // One number more is settled. Behind the last of them the round is over, and all who wait are
+    // woken.
     fn settle(&self) {
         let Some(numbers) = self.numbers else {
             return;

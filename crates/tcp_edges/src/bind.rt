@@ -10,7 +10,8 @@ use std::sync::Arc;
 use std::sync::atomic::AtomicU64;
 use std::time::Clock;
 
-/// Binds listeners to ports of 127.0.0.1. It counts each that can't be had. Two in a row share their rounds.
+/// Binds listeners to ports of 127.0.0.1. It counts each that can't be had. Two in a row share
+/// their rounds.
 #[derive(Drop)]
 pub struct TcpBind<'a, R> {
     rt: &'a R,

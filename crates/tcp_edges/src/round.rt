@@ -61,7 +61,8 @@ impl Round {
         self.is_over.store(false, Ordering::SeqCst);
     }
 
-    /// Wakes one of those who wait, at each listener. Whoever is woken wakes the next, so that nobody waits on behind the round.
+    /// Wakes one of those who wait, at each listener. Whoever is woken wakes the next, so that
+    /// nobody waits on behind the round.
     pub(crate) fn wake<R: Net<Stream = TcpStream>>(&self, rt: &R) {
         self.first.wake(rt);
         self.second.wake(rt);

@@ -12,14 +12,16 @@ use std::sync::atomic::Ordering;
 /// The most bytes of a chunk that are kept until its end comes.
 const MOST_HELD: usize = 65_536;
 
-/// What goes to the peer of a connection. The first line of a chunk is held until the chunk is whole, so that it goes out in one
-/// piece; where a call fails, what it held is lost with the connection.
+/// What goes to the peer of a connection. The first line of a chunk is held until the chunk is
+/// whole, so that it goes out in one piece; where a call fails, what it held is lost with the
+/// connection.
 #[derive(Drop)]
 pub struct TcpSink {
     link: Shared,
     held: Vec<u8>,
 
-    /// Whether the socket took a part alone of what came last. Then what comes next is the rest of it.
+    /// Whether the socket took a part alone of what came last. Then what comes next is the rest of
+    /// it.
     in_part: bool,
     faults: u64,
 }

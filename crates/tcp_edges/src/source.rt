@@ -78,7 +78,8 @@ impl<'a, R: Clock> TcpSource<'a, R> {
         Ok(count)
     }
 
-    // Whether the round is over between two requests. A connection that hasn't asked yet may ask once.
+    // Whether the round is over between two requests. A connection that hasn't asked yet may ask
+    // once.
     fn ends_here(&self) -> bool {
         self.begun.is_none() && self.pieces > 0 && self.round.is_over()
     }

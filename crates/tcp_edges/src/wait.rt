@@ -3,7 +3,8 @@ use std::time::Instant;
 /// How many seconds a peer may be silent before a request.
 pub(crate) const BETWEEN_SECONDS: u64 = 5;
 
-/// How many seconds a peer may be silent inside a request, how many it has for the head, and how many beyond its bytes.
+/// How many seconds a peer may be silent inside a request, how many it has for the head, and how
+/// many beyond its bytes.
 pub(crate) const INSIDE_SECONDS: u64 = 20;
 
 /// How many bytes of a request have to come in a second, on the whole.
@@ -36,7 +37,8 @@ impl Begun {
         self.end.note(bytes);
     }
 
-    /// How many seconds more the peer may be silent, whose time begins when more is first waited for. None where it is over.
+    /// How many seconds more the peer may be silent, whose time begins when more is first waited
+    /// for. None where it is over.
     pub(crate) fn patience(&mut self, now: Instant) -> Option<u64> {
         let since = self.since.unwrap_or(now);
         self.since = Some(since);
