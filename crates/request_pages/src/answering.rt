@@ -31,7 +31,7 @@ use request_port::RequestPort;
 use response_laws::responses;
 use run_stage::MAX_ASKED_CHARGE;
 use run_world::Program;
-use site_words::{Paged, Port};
+use site_words::{Paged, Port, has_prefix};
 use std::alloc::{AllocError, Global};
 use std::sync::Arc;
 
@@ -158,5 +158,5 @@ fn first_page<'a, Q: Port<Made>, L: Ledger, K: Sink>(
 fn is_hidden(path: &Path) -> bool
     ensures { result ≡ is_hidden path.now }
 {
-    path.as_bytes().starts_with(b"/WEB-INF/")
+    has_prefix(path.as_bytes(), b"/WEB-INF/")
 }

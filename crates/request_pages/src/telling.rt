@@ -12,6 +12,7 @@ use http_out::{ContentType, PLAIN_TYPE, Status};
 use pg_text::{PageFault, Path, Text};
 use run_values::run_fault_line;
 use run_world::Raise;
+use site_words::has_suffix;
 use std::alloc::{AllocError, Global};
 
 /// A plain answer of one line.
@@ -53,13 +54,13 @@ fn file_type(path: &Path) -> &'static str
     ensures { result.now ≡ file_type path.now }
 {
     let bytes = path.as_bytes();
-    if bytes.ends_with(b".html") {
+    if has_suffix(bytes, b".html") {
         "text/html;charset=UTF-8"
-    } else if bytes.ends_with(b".css") {
+    } else if has_suffix(bytes, b".css") {
         "text/css;charset=UTF-8"
-    } else if bytes.ends_with(b".js") {
+    } else if has_suffix(bytes, b".js") {
         "text/javascript;charset=UTF-8"
-    } else if bytes.ends_with(b".json") {
+    } else if has_suffix(bytes, b".json") {
         "application/json;charset=UTF-8"
     } else {
         PLAIN_TYPE

@@ -1,6 +1,7 @@
 //! The words of a site: operations, replies, histories, and what an opening is.
 #![tactic(auto)]
 
+mod affixes;
 mod app_port;
 mod compiled;
 mod copies;
@@ -12,6 +13,7 @@ mod port;
 mod weights;
 mod words;
 
+pub use affixes::{has_prefix, has_suffix};
 pub use app_port::{AppPort, Paged};
 pub use compiled::Compiled;
 pub use copies::{copy_op, copy_reply, copy_step};

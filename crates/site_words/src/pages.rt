@@ -4,6 +4,7 @@ ghost use Rattle.site_words.specs.PageSteps.{page_charge};
 ghost use Rattle.site_words.specs.Running.{is_page};
 
 use crate::MAX_PAGE_CHARGE;
+use crate::affixes::has_suffix;
 use pg_text::Path;
 
 /// Whether a path is that of a page. What stands at another is sent as it is.
@@ -11,7 +12,7 @@ pub fn is_page(path: &Path) -> bool
     ensures { result ≡ is_page path.now }
 {
     let bytes = path.as_bytes();
-    bytes.ends_with(b".jsp") || bytes.ends_with(b".jspx")
+    has_suffix(bytes, b".jsp") || has_suffix(bytes, b".jspx")
 }
 
 /// What the run of a page is charged: its Fetch and its Offer.

@@ -3,6 +3,7 @@ ghost use Rattle.talk_words.specs.Said.{is_editors, way_of};
 
 use crate::role::Role;
 use http_in::Request;
+use site_words::has_prefix;
 
 const EDITORS: &[u8] = b"/_editor/";
 
@@ -22,7 +23,7 @@ pub enum Way {
 pub fn way_for(role: Role, request: &Request) -> Way
     ensures { result ≡ way_of role (is_editors request.now.target) }
 {
-    if !request.target.as_bytes().starts_with(EDITORS) {
+    if !has_prefix(request.target.as_bytes(), EDITORS) {
         return Way::Asks;
     }
     match role {
