@@ -56,6 +56,7 @@ pub enum Kind {
 }
 
 // The kind of an entry. What stands apart comes to this place.
+#[inline(always)]
 pub(crate) fn kind_of(pass: u8, op: Op, reply: Reply, place: Option<Box<Entry>>) -> Kind
     requires pairs { Pairs op reply }
     requires place { is_some place ≡ stands_apart op }
@@ -72,6 +73,7 @@ pub(crate) fn kind_of(pass: u8, op: Op, reply: Reply, place: Option<Box<Entry>>)
 }
 
 // The kind of an operation that doesn't stand apart.
+#[inline(always)]
 fn slotted(op: Op, reply: Reply) -> Kind
     requires pairs { Pairs op reply }
     requires slot { stands_apart op ≡ false }
@@ -105,6 +107,7 @@ fn slotted(op: Op, reply: Reply) -> Kind
 }
 
 // The kind of a Begin.
+#[inline(always)]
 fn begun(cookie: Text, moment: u64, request: u64, version: u64, session: Option<u64>) -> Kind
     ensures op { op_of result ≡ op.Begin cookie moment }
     ensures reply { reply_of result ≡ reply.Begun request version session }

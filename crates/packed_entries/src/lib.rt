@@ -1,4 +1,5 @@
-//! The entries of a history in few bytes: those of the frequent kinds stand in their slots, the others in memory of their own.
+//! The entries of a history in few bytes: those of the frequent kinds stand in their slots, the
+//! others in memory of their own.
 #![tactic(auto)]
 
 mod kind;

@@ -32,6 +32,7 @@ impl Model for PackedEntry {
 
 impl PackedEntry {
     /// The entry of a pass, with a reply of the operation's kind. It takes no memory but the room.
+    #[inline(always)]
     pub fn new(pass: u8, op: Op, reply: Reply, room: Room) -> Self
         requires pairs { Pairs op reply }
         requires room { room ≡ stands_apart op }

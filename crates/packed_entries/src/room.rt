@@ -21,6 +21,7 @@ impl Model for Room {
 
 impl Room {
     /// That of an operation's entry.
+    #[inline(always)]
     pub fn new(alloc: Global, op: &Op) -> Result<Self, AllocError>
         ensures room { IfOk result (λ room. room ≡ stands_apart op.now) }
         ensures slot { stands_apart op.now ≡ false → IsOk result }
@@ -40,6 +41,7 @@ impl Room {
     }
 
     /// The place itself.
+    #[inline(always)]
     pub(crate) fn into_place(self) -> Option<Box<Entry>>
         ensures { is_some result ≡ self }
     {

@@ -47,6 +47,7 @@ impl<P: Compiled, A: Actor<P>> Acting<P, A> {
     }
 
     // An operation without a value.
+    #[inline(always)]
     fn ask(&mut self, op: Op) -> Acted<Given<P>, Refusal>
         requires may { May (A.opening self.old.actor) (A.seen self.old.actor) (A.pass self.old.actor)
             (own (A.pass self.old.actor) (A.seen self.old.actor)) op }

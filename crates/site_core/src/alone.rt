@@ -57,6 +57,7 @@ impl<P: Compiled> Actor<P> for Alone<P> {
         self.site.law();
     }
 
+    #[inline(always)]
     fn act(&mut self, act: Act<P>) -> Acted<Given<P>, Refusal>
         requires may { May self.old.site.opening self.old.site.history 0 (own 0 self.old.site.history) act.op }
         requires made { IsMade P.made self.old.site.opening self.old.site.history
@@ -73,6 +74,7 @@ impl<P: Compiled> Actor<P> for Alone<P> {
         answer
     }
 
+    #[inline(always)]
     fn begin(&mut self, cookie: &Text, moment: u64) -> Acted<Given<P>, Refusal> {
         self.site.law();
         let Ok(cookie) = cookie.copy() else {

@@ -5,6 +5,7 @@ use site_words::{Begun, Fresh, Reply, Snapped};
 use std::sync::Arc;
 
 /// A request that has begun, by what was given.
+#[inline(always)]
 pub(crate) fn begun<P: Drop>(given: Given<P>) -> Begun
     requires { CanBegin given.reply given.gift }
     ensures { IsBegunBy given.reply given.gift result }
@@ -60,6 +61,7 @@ pub(crate) fn snapped<P: Drop>(given: Given<P>) -> Snapped
 }
 
 /// The value that was found, by what was given.
+#[inline(always)]
 pub(crate) fn found<P: Drop>(given: Given<P>) -> Option<Arc<P>>
     requires { CanFind given.reply given.gift }
     ensures { IsFoundBy given.reply given.gift result }

@@ -47,8 +47,8 @@ impl<P: Compiled> Model for Site<P> {
     ghost invariant = { λ s. IsSite P.needs P.made s.opening s.history.items (parts_of s.held) s.history.room };
 }
 
-/// A new site of these application attributes and this tree, whose journal weighs at most `limit`, for as many passes, whose
-/// sessions end once they weren't used for more than `idle` seconds.
+/// A new site of these application attributes and this tree, whose journal weighs at most `limit`,
+/// for as many passes, whose sessions end once they weren't used for more than `idle` seconds.
 pub fn start<P: Compiled>(
     alloc: Global,
     seed: [u8; 32],
@@ -161,8 +161,9 @@ impl<P: Compiled> Site<P> {
         session_id(self.alloc, self.opening.seed, number)
     }
 
-    /// Does one operation of a pass, which adds one entry; or refuses it or finds no memory, which leaves all as it was. The
-    /// last operation of a request takes no memory and is never refused.
+    /// Does one operation of a pass, which adds one entry; or refuses it or finds no memory, which
+    /// leaves all as it was. The last operation of a request takes no memory and is never refused.
+    #[inline(always)]
     pub fn apply(&mut self, pass: u8, act: Act<P>) -> Acted<Given<P>, Refusal>
         requires may { May self.old.opening self.old.history pass (own pass self.old.history) act.op }
         requires made { IsMade P.made self.old.opening self.old.history (run_of (own pass self.old.history))

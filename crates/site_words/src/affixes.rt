@@ -1,4 +1,5 @@
-// How texts of few bytes begin and end. The kit's own tests are for long ones, which they look at in groups.
+// How texts of few bytes begin and end. The kit's own tests are for long ones, which they look at
+// in groups.
 ghost use Rattle.std.specs.Prelude.{◌≡◌, nat_eq};
 ghost use Rattle.std.specs.List.{ends_with, starts_with};
 

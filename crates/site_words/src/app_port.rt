@@ -12,7 +12,8 @@ use pg_text::{PageFault, Path, Text};
 use std::alloc::AllocError;
 use std::sync::Arc;
 
-/// What stands at a path: no file, the text of a file that is no page, the fault of a page, or the page.
+/// What stands at a path: no file, the text of a file that is no page, the fault of a page, or the
+/// page.
 #[derive(Drop)]
 pub enum Paged<P> {
     Absent,
@@ -21,7 +22,8 @@ pub enum Paged<P> {
     Page(Arc<P>),
 }
 
-/// What a running page asks of its request: steps on the application's attributes, a session, and other pages.
+/// What a running page asks of its request: steps on the application's attributes, a session, and
+/// other pages.
 pub trait AppPort<P> {
     /// What a page of a tree and a path is.
     ghost made: { P → List File → List ℕ → Type 0 };

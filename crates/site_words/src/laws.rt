@@ -1,7 +1,8 @@
 //! The laws of legal histories, each a clause of a function without a body of its own.
 ghost use Rattle.site_words.specs.Laws.{BeginsLatest, DoneIsLegal, FitsMay, MayFits, MayLasts, NeedsStand, NeverBusyAlone, NeverOlder, NextIsSound, OrderStays, OwnDecides, PromisesAreKept, RequestsHaveTheirTrees, RollsOver, SessionsAreApart, SessionsAreGood, StampsNameFiles, StampsNameTexts, SureLasts, TreeIsSound, UnchangedStands, VersionCounts};
 
-/// What a pass may do is decided by its own entries and by what is published, and lasts until it acts.
+/// What a pass may do is decided by its own entries and by what is published, and lasts until it
+/// acts.
 pub fn passes()
     ensures decides { OwnDecides }
     ensures may_lasts { MayLasts }

@@ -41,7 +41,8 @@ pub struct Fresh {
     pub id: Text,
 }
 
-/// A picture of the site: its latest tree, the application's attributes and those of the session where there is one.
+/// A picture of the site: its latest tree, the application's attributes and those of the session
+/// where there is one.
 #[derive(Drop)]
 pub struct Snapped {
     pub version: u64,
@@ -79,7 +80,8 @@ pub trait Port<P: Compiled> {
         ensures call { Calls P.needs (opening self.old) (pass self.old) (seen self.old) (seen self.new)
             (op.Publish base edits.now) (of_published result) };
 
-    /// Begins a request at this moment. A busy session is waited for, at the same moment, so only a full journal refuses.
+    /// Begins a request at this moment. A busy session is waited for, at the same moment, so only a
+    /// full journal refuses.
     fn begin(&mut self, cookie: &Text, moment: u64) -> Acted<Begun, Refusal>
         requires may { May (opening self.old) (seen self.old) (pass self.old)
             (own (pass self.old) (seen self.old)) (op.Begin cookie.now moment) }

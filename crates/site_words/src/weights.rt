@@ -47,8 +47,8 @@ fn names_weight(names: &Names) -> Option<u64>
     Some(weight)
 }
 
-/// What the entry of a publishing weighs, with the reply that names what it made old. None where 64 bits don't hold the weight,
-/// which is then over every limit.
+/// What the entry of a publishing weighs, with the reply that names what it made old. None where 64
+/// bits don't hold the weight, which is then over every limit.
 pub fn publishing_weight(edits: &Edits, dirty: &Names) -> Option<u64>
     ensures { result ≡ weight_held (OP_WEIGHT + edits_weight edits.now + names_weight dirty.now) }
 {
@@ -57,7 +57,8 @@ pub fn publishing_weight(edits: &Edits, dirty: &Names) -> Option<u64>
         .checked_add(names_weight(dirty)?)
 }
 
-/// The weight of a step, which stops at the greatest `u64`. The entry of a step weighs 64 more, and its answer.
+/// The weight of a step, which stops at the greatest `u64`. The entry of a step weighs 64 more, and
+/// its answer.
 pub fn step_weight(step: &AppStep) -> u64
     ensures { result ≡ capped (step_weight step.now) }
 {
