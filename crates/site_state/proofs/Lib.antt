@@ -10,4 +10,5 @@ pub mod JournalSteps
 pub mod Arms
 pub mod UseLemmas
 pub mod HeldCross
+pub mod Spares
 pub mod Spelling

@@ -6,8 +6,8 @@ use pg_text::Text;
 use site_words::MAX_SESSIONS;
 use std::alloc::Global;
 
-/// Texts that were found to be ids of sessions, by the numbers of these: as many as there may be sessions. So an id that comes with each
-/// request of a visitor is worked out once.
+/// Texts that were found to be ids of sessions, by the numbers of these: as many as there may be
+/// sessions. So an id that comes with each request of a visitor is worked out once.
 #[derive(Drop)]
 pub struct KnownIds {
     places: Vec<Option<KnownId>>,
@@ -85,7 +85,8 @@ impl KnownIds {
     }
 }
 
-// The place of the id with this number, which others share whose numbers lie a multiple of all places away.
+// The place of the id with this number, which others share whose numbers lie a multiple of all
+// places away.
 fn place_of(number: u64) -> usize
     ensures { result < MAX_SESSIONS }
 {

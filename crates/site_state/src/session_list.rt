@@ -14,8 +14,8 @@ use site_words::{KeptSession, MAX_SESSIONS};
 use std::alloc::{AllocError, Global};
 use std::marker::Model;
 
-/// The sessions in their order. Contracts see the list of sessions. Finding a session by its number,
-/// taking it out and moving it to the end cost the same whatever the length.
+/// The sessions in their order. Contracts see the list of sessions. Finding a session by its
+/// number, taking it out and moving it to the end cost the same whatever the length.
 #[derive(Drop)]
 pub struct SessionList {
     // By number. The session at the end of the list is the most recently used.
