@@ -1,4 +1,5 @@
 pub mod Answered
+pub mod Buffered
 pub mod Cookies
 pub mod EmptyLines
 pub mod Escapes

@@ -1,7 +1,8 @@
 //! Requests of HTTP/1.1, read from a source in whatever pieces it gives its bytes.
 //!
-//! Requests stand one after the other. CR LF pairs before the first line of a request are skipped; its head ends with the
-//! first CR LF CR LF after them, and its body has the size that the head names.
+//! Requests stand one after the other. CR LF pairs before the first line of a request are skipped;
+//! its head ends with the first CR LF CR LF after them, and its body has the size that the head
+//! names.
 #![tactic(auto)]
 
 mod cookie;
@@ -14,6 +15,7 @@ mod limits;
 mod lookups;
 mod params;
 mod read;
+mod read_buffer;
 mod request;
 mod rest;
 mod scan;

@@ -49,7 +49,8 @@ pub fn params_of(
     Ok(params)
 }
 
-/// The parameters in a query, in their order, as [`read_request`](crate::read_request) reads those of a request.
+/// The parameters in a query, in their order, as [`read_request`](crate::read_request) reads those
+/// of a request.
 pub fn query_params(alloc: Global, query: &str) -> Result<Listed<Param>, AllocError>
     ensures { IfOk result (λ params. params ≡ params_in query.now) }
 {

@@ -16,9 +16,10 @@ use edges::Source;
 use pg_text::{Bytes, Failure};
 use std::alloc::{AllocError, Global};
 
-/// Reads the next request, in whatever pieces the source gives its bytes, and takes it out of `rest`. None means that the
-/// input ended between requests. After None, a fault or want of memory all that was read stands in `rest`; after want of
-/// memory the same request may be asked for again.
+/// Reads the next request, in whatever pieces the source gives its bytes, and takes it out of
+/// `rest`. None means that the input ended between requests. After None, a fault or want of memory
+/// all that was read stands in `rest`; after want of memory the same request may be asked for
+/// again.
 pub fn read_request<S: Source>(
     alloc: Global,
     source: &mut S,
@@ -43,7 +44,8 @@ pub fn read_request<S: Source>(
     Ok(Some(take_request(alloc, rest, len, end, head)?))
 }
 
-// Reads until a whole head stands at the front, and answers its length. None means that the input ended before it began.
+// Reads until a whole head stands at the front, and answers its length. None means that the input
+// ended before it began.
 fn read_head<S: Source>(
     source: &mut S,
     rest: &mut Rest,
@@ -109,7 +111,8 @@ fn read_body<S: Source>(
     Ok(())
 }
 
-// The request at the front, whose body stands from `len` to `end`; it is taken away. Where memory is wanting nothing is.
+// The request at the front, whose body stands from `len` to `end`; it is taken away. Where memory
+// is wanting nothing is.
 fn take_request(
     alloc: Global,
     rest: &mut Rest,

@@ -15,7 +15,8 @@ use std::alloc::{AllocError, Global};
 pub struct Request {
     /// The method, such as `GET`. Its case counts.
     pub method: Text,
-    /// The target as it was sent: a path, which begins with `/`, and maybe a query, neither of them decoded.
+    /// The target as it was sent: a path, which begins with `/`, and maybe a query, neither of them
+    /// decoded.
     pub target: Text,
     /// The path, decoded. None where it isn't UTF-8, or stands for no path of a site.
     pub path: Option<Path>,
@@ -33,8 +34,8 @@ pub struct Request {
 }
 
 impl Request {
-    /// The same request with another target, which its path, query and parameters follow. Where memory is wanting the
-    /// request is dropped.
+    /// The same request with another target, which its path, query and parameters follow. Where
+    /// memory is wanting the request is dropped.
     pub fn retarget(self, alloc: Global, target: Text) -> Result<Self, AllocError>
         ensures request { IfOk result (λ request. request ≡ request_of self.method target self.fields self.body) }
         ensures cookie { IfOk result (λ request. length request.cookie ≤ SESSION_ID_BYTES) }

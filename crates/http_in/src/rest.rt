@@ -7,6 +7,7 @@ ghost use Rattle.http_in.specs.HeadEnd.{front_of, head_len};
 use crate::HttpFault;
 use crate::head_end::front_of;
 use crate::limits::{MAX_HEAD_BYTES, MAX_PIECE_BYTES};
+use crate::read_buffer::ReadBuffer;
 use crate::scan::Scan;
 use edges::Source;
 use pg_text::Failure;
@@ -16,7 +17,7 @@ use std::marker::Model;
 /// The bytes that were read from a source and not used yet. Contracts see the list of them.
 #[derive(Drop)]
 pub struct Rest {
-    bytes: Vec<u8>,
+    bytes: ReadBuffer,
     // How far they were looked through for the end of the first head.
     scan: Scan,
 }
@@ -28,9 +29,9 @@ impl Model for Rest {
 
     ghost Value = { List ℕ };
 
-    ghost view = { λ r. r.bytes.items };
+    ghost view = { λ r. r.bytes };
 
-    ghost invariant = { λ r. HasLooked r.scan (front_of r.bytes.items) };
+    ghost invariant = { λ r. HasLooked r.scan (front_of r.bytes) };
 }
 
 impl Rest {
@@ -41,7 +42,7 @@ impl Rest {
         ensures { result ≡ [] }
     {
         Rest {
-            bytes: Vec::new(alloc),
+            bytes: ReadBuffer::new(alloc),
             scan: Scan::Pairs(0),
         }
     }
@@ -49,7 +50,7 @@ impl Rest {
     pub fn as_slice(&self) -> &[u8]
         ensures { result.now ≡ self.now }
     {
-        &self.bytes
+        self.bytes.as_slice()
     }
 
     pub fn len(&self) -> usize
@@ -61,16 +62,17 @@ impl Rest {
     pub fn is_empty(&self) -> bool
         ensures { result ≡ (length self.now == 0) }
     {
-        self.bytes.is_empty()
+        self.bytes.len() == 0
     }
 
-    // The length of the head that ends among the first bytes. What was looked through before isn't looked at again.
+    // The length of the head that ends among the first bytes. What was looked through before isn't
+    // looked at again.
     pub(crate) fn head_len(&mut self) -> Option<usize>
         ensures value { result ≡ head_len (front_of self.old) }
         ensures within { IfSome result (λ len. (len ≤ MAX_HEAD_BYTES) × (len ≤ length self.old)) }
         ensures same { self.new ≡ self.old }
     {
-        self.scan.head_len(front_of(&self.bytes))
+        self.scan.head_len(front_of(self.bytes.as_slice()))
     }
 
     // Drops the first bytes, and the mark with them.
@@ -78,14 +80,12 @@ impl Rest {
         requires { count ≤ length self.old }
         ensures { self.new ≡ drop count self.old }
     {
-        let left = self.bytes.len() - count;
-        self.bytes.copy_within(count.., 0);
-        self.bytes.truncate(left);
+        self.bytes.drop_front(count);
         self.scan = Scan::Pairs(0);
     }
 
-    // Reads the next piece. The answer says whether any came: if none did, the input has ended. Where memory is wanting
-    // nothing was read.
+    // Reads the next piece. The answer says whether any came: if none did, the input has ended.
+    // Where memory is wanting nothing was read.
     pub(crate) fn fill<S: Source>(&mut self, source: &mut S) -> Result<bool, Failure<HttpFault>>
         ensures more { IfOk result (λ came. IsTrue came → length self.old < length self.new) }
         ensures ended { IfOk result (λ came. came ≡ false →
@@ -97,12 +97,6 @@ impl Rest {
         ensures later { S.faults source.old ≤ S.faults source.new }
         ensures unfailing { S.unfailing source.old → IfFault result (λ _. ⊥) × S.unfailing source.new }
     {
-        let mut piece = [0; MAX_PIECE_BYTES];
-        self.bytes.reserve(MAX_PIECE_BYTES)?;
-        let Ok(count) = source.read(&mut piece) else {
-            return Err(Failure::Fault(HttpFault::ReadFault));
-        };
-        self.bytes.extend_from_slice(&piece[..count])?;
-        Ok(count > 0)
+        Ok(self.bytes.fill(source)? > 0)
     }
 }

@@ -4,8 +4,8 @@ ghost use Rattle.http_in.specs.Scan.{HasLooked};
 
 use crate::head_end::{skip_pairs, through_empty_line};
 
-// How far bytes were looked through for the end of a head, so that none is looked at again when more bytes come, or when
-// the same head is asked for once more.
+// How far bytes were looked through for the end of a head, so that none is looked at again when
+// more bytes come, or when the same head is asked for once more.
 #[derive(Clone, Copy)]
 pub enum Scan {
     // So many bytes are CR LF pairs, and at most one stands behind them.
@@ -18,8 +18,8 @@ pub enum Scan {
 const EMPTY_LINE_BYTES: usize = 4;
 
 impl Scan {
-    // The length of the head at the front, with the pairs before its first line. Bytes that were looked through before
-    // stand there still.
+    // The length of the head at the front, with the pairs before its first line. Bytes that were
+    // looked through before stand there still.
     pub fn head_len(&mut self, bytes: &[u8]) -> Option<usize>
         requires { HasLooked self.old bytes.now }
         ensures value { result ≡ head_len bytes.now }

@@ -7,7 +7,8 @@ use percent_encoding::percent_decode;
 use pg_text::{Failure, Path, resolve};
 use std::alloc::{AllocError, Global};
 
-// What stands before the first question mark of a target, and what stands behind it, where there is one.
+// What stands before the first question mark of a target, and what stands behind it, where there is
+// one.
 pub fn parts_of(target: &str) -> (&str, Option<&str>)
     ensures path { result.0.now ≡ before_query target.now }
     ensures query { option_map (λ query. query.now) result.1 ≡ query_of target.now }

@@ -197,7 +197,8 @@ fn given<'a>(name: Option<&Text>, call: &'a CallSeat) -> Given<'a>
     }
 }
 
-// Runs the body, or the fragment of a name, that the call around gives; what wasn't given gives nothing.
+// Runs the body, or the fragment of a name, that the call around gives; what wasn't given gives
+// nothing.
 #[cycle(machine)]
 pub(crate) fn given_call<W: World>(
     alloc: Global,

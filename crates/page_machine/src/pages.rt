@@ -209,7 +209,8 @@ fn include_text<W: World>(
     }
 }
 
-// Runs an included page in a frame of its own. Its fault stands at the include, and a redirect ends it alone.
+// Runs an included page in a frame of its own. Its fault stands at the include, and a redirect ends
+// it alone.
 #[cycle(machine)]
 fn included_page<W: World>(
     alloc: Global,

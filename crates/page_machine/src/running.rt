@@ -37,8 +37,8 @@ pub enum RunEnd {
     NoMemory,
 }
 
-/// Runs a page, whose Fetch was charged before. What `around` counts is raised, and its depth is that of the target where the page ends
-/// by a forward.
+/// Runs a page, whose Fetch was charged before. What `around` counts is raised, and its depth is
+/// that of the target where the page ends by a forward.
 pub fn run<P: AppPort<Program>, K: Sink>(
     alloc: Global,
     program: &Program,

@@ -7,7 +7,8 @@ use pg_value::RunFault;
 #[derive(Drop)]
 pub enum End {
     Normal,
-    /// The page is over, and the one at this path runs with these parameters and so many levels left below it.
+    /// The page is over, and the one at this path runs with these parameters and so many levels
+    /// left below it.
     Forward {
         path: Path,
         params: Listed<Param>,

@@ -1,4 +1,5 @@
-// Frequent operations: each is done in place, and goes on behind itself or falls, so that its answer is small.
+// Frequent operations: each is done in place, and goes on behind itself or falls, so that its
+// answer is small.
 ghost use Rattle.std.specs.Prelude.{◌≡◌, ◌≤◌, IsTrue, Ok, length};
 ghost use Rattle.el_ops.specs.Operators.{unary_of};
 ghost use Rattle.page_code.specs.Ops.{takes};
@@ -43,8 +44,8 @@ pub fn is_quick(op: &Op) -> bool
     )
 }
 
-/// Does a frequent operation up to its landing: whoever goes on behind it, or where its fault leads, has made one move of the
-/// instruction table.
+/// Does a frequent operation up to its landing: whoever goes on behind it, or where its fault
+/// leads, has made one move of the instruction table.
 #[inline(always)]
 pub fn quick<W: World>(
     alloc: Global,

@@ -155,7 +155,8 @@ pub fn named_path(alloc: Global, seat: &Seat, target: &str) -> Result<Path, Fail
     }
 }
 
-// Where a page is left for: X9 behind a commit, X11 where no path is named, X17, and then what stands at the path.
+// Where a page is left for: X9 behind a commit, X11 where no path is named, X17, and then what
+// stands at the path.
 fn ask_forward<W: World>(
     alloc: Global,
     served: &Served,

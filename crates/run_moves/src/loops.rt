@@ -10,8 +10,8 @@ use run_values::{Rounds, StatusKeys};
 use std::alloc::{AllocError, Global};
 use std::marker::Model;
 
-/// An open loop: its variables, the keys of its statuses where it has a variable for them, the values
-/// that it was given under their names, the last first, and its rounds to come.
+/// An open loop: its variables, the keys of its statuses where it has a variable for them, the
+/// values that it was given under their names, the last first, and its rounds to come.
 #[derive(Drop)]
 pub struct Loop {
     pub variable: Option<Name>,

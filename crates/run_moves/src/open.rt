@@ -102,7 +102,8 @@ impl Stack {
     }
 }
 
-/// An open catch: where a fault goes on, and how many values, kept bodies and loops there were at its start.
+/// An open catch: where a fault goes on, and how many values, kept bodies and loops there were at
+/// its start.
 #[derive(Clone, Copy, Debug, PartialEq, Eq)]
 pub struct OpenCatch {
     pub to: usize,

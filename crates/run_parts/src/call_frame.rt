@@ -13,8 +13,8 @@ use run_values::{measured, table_of};
 use std::alloc::{AllocError, Global};
 use tag_decl::{TagDecl, declared};
 
-/// The variables of a call: its declared attributes, and the record of the others, where they are taken: X20. Of two values of one name
-/// the first that was written stands.
+/// The variables of a call: its declared attributes, and the record of the others, where they are
+/// taken: X20. Of two values of one name the first that was written stands.
 pub fn first_frame(
     alloc: Global,
     decl: &TagDecl,

@@ -113,7 +113,8 @@ fn changed_to(name: &Text, value: Option<&Value>) -> Result<Change, AllocError>
     })
 }
 
-// What each variable that is copied at this time gets at the caller: what it is in the current frame under its own name.
+// What each variable that is copied at this time gets at the caller: what it is in the current
+// frame under its own name.
 fn own_changes(
     alloc: Global,
     time: CopyTime,
@@ -134,7 +135,8 @@ fn own_changes(
     Ok(changes)
 }
 
-/// What brings the NESTED variables back at the caller: what stands under their names there in the current frame.
+/// What brings the NESTED variables back at the caller: what stands under their names there in the
+/// current frame.
 pub fn nested_changes(
     alloc: Global,
     exports: &[Export],
@@ -207,8 +209,8 @@ pub fn copy_out<W: World>(
     Ok(())
 }
 
-/// The end of a call that went well: AT_BEGIN and AT_END variables are copied to the caller, and NESTED ones get back what they were
-/// before.
+/// The end of a call that went well: AT_BEGIN and AT_END variables are copied to the caller, and
+/// NESTED ones get back what they were before.
 pub fn give_back<W: World>(
     alloc: Global,
     exports: &[Export],

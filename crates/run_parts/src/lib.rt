@@ -1,4 +1,5 @@
-//! The parts of a run that go well or raise a fault: variables looked up and set, properties, exports, objects, targets, and the operations on values.
+//! The parts of a run that go well or raise a fault: variables looked up and set, properties,
+//! exports, objects, targets, and the operations on values.
 //!
 //! Each call does one part of the meaning of pages, over any world.
 #![tactic(auto)]

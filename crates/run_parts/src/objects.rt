@@ -89,7 +89,8 @@ pub(crate) fn implicit_value<W: World>(
     }
 }
 
-// The variable of a scope whose name is the text of a value; null under null, and nothing is asked: X20, X22.
+// The variable of a scope whose name is the text of a value; null under null, and nothing is asked:
+// X20, X22.
 pub(crate) fn scope_entry<W: World>(
     alloc: Global,
     scope: Scope,

@@ -111,7 +111,8 @@ pub fn count_visits<W: World>(count: u32, world: &mut W) -> Result<(), Failure<R
     Ok(())
 }
 
-/// What an operation does with the values that it takes, in the order in which they were pushed: the value that it leaves, if any.
+/// What an operation does with the values that it takes, in the order in which they were pushed:
+/// the value that it leaves, if any.
 pub fn operate<W: World>(
     alloc: Global,
     served: &Served,

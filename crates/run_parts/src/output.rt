@@ -7,7 +7,8 @@ use pg_value::RunFault;
 use run_world::World;
 use std::alloc::Global;
 
-/// Writes a text with `<`, `>`, `&` and the two quotes escaped: itself where none of them stands in it.
+/// Writes a text with `<`, `>`, `&` and the two quotes escaped: itself where none of them stands in
+/// it.
 pub fn put_escaped<W: World>(
     alloc: Global,
     text: &str,

@@ -12,8 +12,8 @@ use pg_value::Value;
 use run_values::{all_values, cookie_records, first_values, record};
 use std::alloc::{AllocError, Global};
 
-/// The records of the parameters and the cookies that a page run has looked at. Each is made once, and
-/// shared by all looks.
+/// The records of the parameters and the cookies that a page run has looked at. Each is made once,
+/// and shared by all looks.
 #[derive(Drop)]
 pub struct RequestRecords {
     pub param: Option<Value>,

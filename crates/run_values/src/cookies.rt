@@ -11,8 +11,8 @@ use pg_text::{Listed, Text};
 use pg_value::{Attrs, Value};
 use std::alloc::{AllocError, Global};
 
-// The cookies of a request in the order sent: of each piece between semicolons of its Cookie fields the name and the value at the sides
-// of the first `=`, where there is one with a name before it.
+// The cookies of a request in the order sent: of each piece between semicolons of its Cookie fields
+// the name and the value at the sides of the first `=`, where there is one with a name before it.
 fn cookies(alloc: Global, request: &Request) -> Result<Listed<Param>, AllocError>
     ensures { IfOk result (λ found. found ≡ cookies request.now) }
 {

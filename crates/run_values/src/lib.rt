@@ -1,5 +1,6 @@
-//! The values that a run of a page makes: coerced and joined ones, records and lists, the rounds of loops, properties, addresses with their
-//! params, and what a page sees of its request. They look at values and texts alone.
+//! The values that a run of a page makes: coerced and joined ones, records and lists, the rounds of
+//! loops, properties, addresses with their params, and what a page sees of its request. They look
+//! at values and texts alone.
 #![tactic(auto)]
 
 mod addresses;

@@ -51,7 +51,8 @@ fn items_over(
     }
 }
 
-// The items of a value: of a list, of a record its entries, of a text its tokens at commas, of null none; else X7.
+// The items of a value: of a list, of a record its entries, of a text its tokens at commas, of null
+// none; else X7.
 fn items_in(alloc: Global, value: &Value) -> Result<Items, Failure<RunFault>>
     ensures { AnswersAs items_of (given_items (Some (datum_of value.now))) result }
 {
@@ -67,8 +68,8 @@ fn items_in(alloc: Global, value: &Value) -> Result<Items, Failure<RunFault>>
     }
 }
 
-/// The status of a round, as a record, under the keys that the loop keeps, or under new ones. A place
-/// or a count past the largest number is answered as want of memory.
+/// The status of a round, as a record, under the keys that the loop keeps, or under new ones. A
+/// place or a count past the largest number is answered as want of memory.
 pub fn status_record(
     alloc: Global,
     keys: &Option<StatusKeys>,

@@ -27,7 +27,8 @@ pub fn property_of(name: &str, value: &Value) -> Result<Value, Failure<RunFault>
     }
 }
 
-/// A new value coerced to the kind of the old one, where that is a text, a number or a truth value: X1, X2, X4, X20.
+/// A new value coerced to the kind of the old one, where that is a text, a number or a truth value:
+/// X1, X2, X4, X20.
 pub fn replaced(alloc: Global, old: &Value, new: &Value) -> Result<Value, Failure<RunFault>>
     ensures { AnswersAs datum_of (coerced (like (datum_of old.now)) (datum_of new.now)) result }
 {
@@ -39,7 +40,8 @@ pub fn replaced(alloc: Global, old: &Value, new: &Value) -> Result<Value, Failur
     }
 }
 
-// What a parameter makes of the old value of a property: lists and records stay, and so does a value whose parameter is empty or absent.
+// What a parameter makes of the old value of a property: lists and records stay, and so does a
+// value whose parameter is empty or absent.
 fn by_parameter(
     alloc: Global,
     params: &Attrs,
@@ -56,7 +58,8 @@ fn by_parameter(
     }
 }
 
-// A parameter coerced to the kind of an old value, or the old value where the parameter is empty or absent.
+// A parameter coerced to the kind of an old value, or the old value where the parameter is empty or
+// absent.
 fn replaced_or_old(
     alloc: Global,
     old: &Value,
@@ -82,7 +85,8 @@ fn filled(value: Option<&Value>) -> Option<&Value>
     }
 }
 
-// The entries, with each of these properties as the parameter of its name makes it: X1, X2, X4, X20.
+// The entries, with each of these properties as the parameter of its name makes it: X1, X2, X4,
+// X20.
 fn all_by_parameters(
     alloc: Global,
     params: &Attrs,
@@ -127,7 +131,8 @@ fn with_property(name: &Text, new: &Value, entries: Attrs) -> Result<Attrs, Allo
     Ok(changed)
 }
 
-/// The entries of a record, with all its properties set by the parameters of their names: X14 of another value, X1, X2, X4, X20.
+/// The entries of a record, with all its properties set by the parameters of their names: X14 of
+/// another value, X1, X2, X4, X20.
 pub fn changed_all(alloc: Global, params: &Attrs, value: &Value) -> Result<Attrs, Failure<RunFault>>
     ensures { Answers (changed_all params.now (datum_of value.now)) result }
 {
@@ -138,8 +143,8 @@ pub fn changed_all(alloc: Global, params: &Attrs, value: &Value) -> Result<Attrs
     all_by_parameters(alloc, params, record.as_slice(), entries)
 }
 
-/// The entries of a record, with a property set by a parameter, or None where that is empty or absent: X14 of another value, X5, X1, X2,
-/// X4, X20.
+/// The entries of a record, with a property set by a parameter, or None where that is empty or
+/// absent: X14 of another value, X5, X1, X2, X4, X20.
 pub fn changed_one(
     alloc: Global,
     params: &Attrs,

@@ -40,7 +40,8 @@ fn param_entries(alloc: Global, params: &[Param]) -> Result<Vec<(Text, Value)>, 
     Ok(entries)
 }
 
-// The fields of a request, with their values as texts, in which bytes that aren't UTF-8 are replaced.
+// The fields of a request, with their values as texts, in which bytes that aren't UTF-8 are
+// replaced.
 fn header_texts(alloc: Global, request: &Request) -> Result<Listed<Param>, AllocError>
     ensures { IfOk result (λ texts. texts ≡ header_texts request.now) }
 {
@@ -65,7 +66,8 @@ pub fn headers(alloc: Global, request: &Request, object: HeaderObject) -> Result
     }
 }
 
-/// The request as `pageContext` has it: the record of `contextPath`, `method`, `queryString` and `requestURI`.
+/// The request as `pageContext` has it: the record of `contextPath`, `method`, `queryString` and
+/// `requestURI`.
 pub fn request_record(alloc: Global, request: &Request) -> Result<Value, AllocError>
     ensures { IfOk result (λ made. datum_of made ≡ request_record request.now) }
 {
@@ -100,7 +102,8 @@ pub fn session_value(alloc: Global, id: Option<&Text>) -> Result<Value, AllocErr
     record(entries)
 }
 
-/// The entry of an object of the request's fields under a value, in lower case; null under null: X20.
+/// The entry of an object of the request's fields under a value, in lower case; null under null:
+/// X20.
 pub fn header_entry(
     alloc: Global,
     request: &Request,

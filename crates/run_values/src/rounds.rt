@@ -31,7 +31,8 @@ pub struct Mark {
     pub is_last: bool,
 }
 
-/// The rounds of a loop that are still to come, of which only the next is made. Contracts see the list of them.
+/// The rounds of a loop that are still to come, of which only the next is made. Contracts see the
+/// list of them.
 #[derive(Drop)]
 pub struct Rounds {
     items: Items,
@@ -159,7 +160,8 @@ fn pair(alloc: Global, key: &Text, value: &Value) -> Result<Value, AllocError>
 }
 
 impl Rounds {
-    /// The rounds over these items, or over the numbers: from `begin`, `step` apart, up to `end`; X8 of a begin below 0 or a step below 1.
+    /// The rounds over these items, or over the numbers: from `begin`, `step` apart, up to `end`;
+    /// X8 of a begin below 0 or a step below 1.
     pub fn new(
         items: Items,
         begin: Option<i64>,

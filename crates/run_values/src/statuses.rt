@@ -79,8 +79,9 @@ impl StatusKeys {
         Ok(entries)
     }
 
-    /// The status of a round, as a record. A place or a count past the largest number is answered as
-    /// want of memory: no contract ties them to the visits of a request, of which there are far fewer.
+    /// The status of a round, as a record. A place or a count past the largest number is answered
+    /// as want of memory: no contract ties them to the visits of a request, of which there are far
+    /// fewer.
     pub fn record(
         &self,
         alloc: Global,

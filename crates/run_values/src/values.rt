@@ -85,7 +85,8 @@ pub fn list_of(alloc: Global, items: &[Value]) -> Result<Value, Failure<RunFault
     measured(Value::List(Values::new(copy)?))
 }
 
-/// The record of these pairs, each a key and its value: X20. A key is coerced to text, and of equal keys the last stands.
+/// The record of these pairs, each a key and its value: X20. A key is coerced to text, and of equal
+/// keys the last stands.
 pub fn record_of(alloc: Global, pairs: &[Value]) -> Result<Value, Failure<RunFault>>
     ensures { AnswersAs datum_of (record_of (pairs_in (map datum_of pairs.now))) result }
 {
