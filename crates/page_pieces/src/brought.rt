@@ -66,14 +66,14 @@ impl Brought {
         })
     }
 
-    /// Copies of the prefixes that the include directive with this first byte brings come behind
-    /// those that are there.
+    /// The prefixes that the include directive with this first byte brings come behind those that
+    /// are there.
     pub fn register(&self, byte: u32, prefixes: &mut Prefixes) -> Result<(), AllocError>
         ensures { OnOk result (prefixes.new ≡ prefixes.old ++ brought_at byte self.now) }
     {
         for bringing in self.near(byte) {
             if bringing.byte == byte {
-                prefixes.push_all(bringing.prefixes.as_slice())?;
+                prefixes.append(&bringing.prefixes)?;
             }
         }
         Ok(())

@@ -14,6 +14,8 @@ mod head_reader;
 mod mark;
 mod misread;
 mod name_list;
+mod name_run;
+mod name_set;
 mod names;
 mod piece;
 mod piece_reader;

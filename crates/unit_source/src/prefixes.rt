@@ -6,11 +6,13 @@ ghost use Rattle.page_directives.specs.Taglibs.{prefixes_of};
 
 use crate::WrittenDirective;
 use page_pieces::{Attributes, Prefixes};
+use pg_text::{Listed, Text};
 use std::alloc::{AllocError, Global};
 
 // Adds the prefix that a directive with this name registers by itself.
 pub(crate) fn push_own(
-    prefixes: &mut Prefixes,
+    alloc: Global,
+    prefixes: &mut Listed<Text>,
     name: &str,
     attributes: &Attributes,
 ) -> Result<(), AllocError>
@@ -19,22 +21,41 @@ pub(crate) fn push_own(
 {
     if name == "taglib" {
         if let Some(prefix) = attributes.plain("prefix") {
-            return prefixes.push_copy(prefix);
+            return prefixes.push(Text::copy_of(alloc, prefix)?);
         }
     }
     Ok(())
 }
 
 // The prefixes that directives register.
+fn listed_prefixes(
+    alloc: Global,
+    directives: &[WrittenDirective],
+) -> Result<Listed<Text>, AllocError>
+    ensures { IfOk result (λ prefixes. prefixes ≡ prefixes_of directives.now) }
+{
+    let mut prefixes = Listed::empty(alloc);
+    for directive in directives {
+        push_own(
+            alloc,
+            &mut prefixes,
+            directive.name(),
+            directive.attributes(),
+        )?;
+    }
+    Ok(prefixes)
+}
+
+// The prefixes that directives register, to be looked up and to be shared.
 pub(crate) fn prefixes_of(
     alloc: Global,
     directives: &[WrittenDirective],
 ) -> Result<Prefixes, AllocError>
     ensures { IfOk result (λ prefixes. prefixes ≡ prefixes_of directives.now) }
 {
+    let listed = listed_prefixes(alloc, directives)?;
     let mut prefixes = Prefixes::new(alloc);
-    for directive in directives {
-        push_own(&mut prefixes, directive.name(), directive.attributes())?;
-    }
+    prefixes.push_all(listed.as_slice())?;
+    prefixes.close()?;
     Ok(prefixes)
 }

@@ -47,10 +47,13 @@ impl Progress {
         }
     }
 
-    pub fn prefixes(&self) -> &Prefixes
-        ensures { result.now ≡ self.now.going.prefixes }
+    // A copy of the prefixes, which shares them.
+    pub fn shared_prefixes(&mut self) -> Result<Prefixes, AllocError>
+        ensures prefixes { IfOk result (λ prefixes. prefixes ≡ self.old.going.prefixes) }
+        ensures same { OnOk result (self.new ≡ self.old) }
     {
-        &self.prefixes
+        self.prefixes.close()?;
+        self.prefixes.copy()
     }
 
     // The names of the files that were included.

@@ -65,7 +65,7 @@ pub(crate) fn read_alone(
     let alloc = files.alloc();
     let brought = progress.read_brought(files, chain, source.text().len(), source.own())?;
     let setting = Setting {
-        prefixes: progress.prefixes().copy()?,
+        prefixes: progress.shared_prefixes()?,
         brought,
         el: settings.el,
         hash_is_text: settings.hash_is_text,

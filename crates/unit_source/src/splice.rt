@@ -240,8 +240,8 @@ fn enter_within(
         progress.fill();
         return Ok(FoundNodes::nothing(files.alloc(), Entry::Unread(bytes)));
     }
-    let prefixes = progress.prefixes().copy()?;
     progress.count_file(bytes);
+    let prefixes = progress.shared_prefixes()?;
     let nodes = read_file(
         files,
         file.settings,

@@ -8,25 +8,26 @@ ghost use Rattle.unit_source.specs.Splice.{deeper, registered};
 use crate::prefixes::push_own;
 use crate::progress::MAX_NESTING;
 use crate::{PlacedNode, WrittenDirective};
-use page_pieces::{Leaf, Prefixes};
+use page_pieces::Leaf;
+use pg_text::{Listed, Text};
 use std::alloc::{AllocError, Global};
 
 // What changes how the reading of a file goes on.
 #[derive(Drop)]
 pub(crate) enum Step {
     // Prefixes are registered.
-    Registers(Prefixes),
+    Registers(Listed<Text>),
     // An include directive within so many open elements.
     Includes(usize, WrittenDirective),
 }
 
 // The prefixes that a leaf registers.
-fn registered(alloc: Global, kind: &Leaf) -> Result<Prefixes, AllocError>
+fn registered(alloc: Global, kind: &Leaf) -> Result<Listed<Text>, AllocError>
     ensures { (place : Place) → IfOk result (λ prefixes. prefixes ≡ registered kind.now place) }
 {
-    let mut prefixes = Prefixes::new(alloc);
+    let mut prefixes = Listed::empty(alloc);
     if let Leaf::Directive(name, attributes) = kind {
-        push_own(&mut prefixes, name.as_str(), attributes)?;
+        push_own(alloc, &mut prefixes, name.as_str(), attributes)?;
     }
     Ok(prefixes)
 }
