@@ -11,3 +11,4 @@ mod Worked
 mod WorkedJson
 pub mod Places
 pub mod PutBack
+pub mod Placed

@@ -1,5 +1,5 @@
 -- The entries of a record.
-use Rattle.std.specs.Prelude.{ℕ, List, [], ◌∷◌, filter, map, reverse, not, Option, Result}
+use Rattle.std.specs.Prelude.{ℕ, zero, suc, List, [], ◌∷◌, filter, map, reverse, not, Option, Result}
 use Rattle.std.specs.BTreeMap.{insert_entry}
 use Rattle.std.specs.Cmp.Lexicographic.{slice_cmp}
 use Rattle.std.specs.List.Sorted.{IsStrictlySortedBy}
@@ -20,6 +20,12 @@ entry_at key entries = lookup (bytes_eq key) entries
 -- the entries in order, with the datum under the key
 abbrev pub with_entry : List (List ℕ × Datum) → List ℕ → Datum → List (List ℕ × Datum)
 with_entry entries key d = insert_entry (slice_cmp nat_cmp) entries key d
+
+-- the entries with the datum at a place, under the key that stands there
+abbrev pub with_value_at : List (List ℕ × Datum) → ℕ → Datum → List (List ℕ × Datum)
+with_value_at [] at d = []
+with_value_at (e ∷ es) zero d = (e.0, d) ∷ es
+with_value_at (e ∷ es) (suc at) d = e ∷ with_value_at es at d
 
 -- the entries under other keys
 abbrev pub without_entry : List (List ℕ × Datum) → List ℕ → List (List ℕ × Datum)

@@ -1,9 +1,9 @@
-ghost use Rattle.std.specs.Prelude.{◌≡◌, ◌≢◌, ℕ, List, [], Some, None, filter, reverse, not, ◌==◌, ◌-◌, ◌^◌, min, length, map, option_map, IfOk, IfSome, Ok, OnOk, OnErr};
+ghost use Rattle.std.specs.Prelude.{◌≡◌, ◌≢◌, ◌<◌, ℕ, List, [], Some, None, filter, reverse, not, ◌==◌, ◌-◌, ◌^◌, min, length, map, option_map, IfOk, IfSome, Ok, OnOk, OnErr};
 ghost use Rattle.std.specs.Cmp.Lexicographic.{slice_cmp};
 ghost use Rattle.std.specs.List.Sorted.{IsStableBy};
 ghost use Rattle.std.specs.Ordering.{nat_cmp, is_lt};
 ghost use Rattle.std.specs.Str.{bytes_eq};
-ghost use Rattle.pg_value.specs.Attrs.{AreInOrder, entry_at, with_entry, without_entry, place_of, of_entries, of_first_entries};
+ghost use Rattle.pg_value.specs.Attrs.{AreInOrder, entry_at, with_entry, with_value_at, without_entry, place_of, of_entries, of_first_entries};
 ghost use Rattle.pg_value.specs.Datum.{rec, entries_of};
 ghost use Rattle.pg_value.specs.Depth.{depth_of};
 ghost use Rattle.pg_value.specs.Value.{datum_of, entry_of};
@@ -234,6 +234,14 @@ pub fn put(entries: &mut Vec<(Text, Value)>, key: Text, value: Value) -> Result<
 fn replace(entries: &mut Vec<(Text, Value)>, at: usize, key: &Text, value: Value)
     requires { place_of key.now entries.old.items ≡ Ok at }
     ensures { map entry_of entries.new.items ≡ with_entry (map entry_of entries.old.items) key.now (datum_of value) }
+{
+    entries[at].1 = value;
+}
+
+// Puts the value in the place of the one at this place.
+pub fn set_at(entries: &mut Vec<(Text, Value)>, at: usize, value: Value)
+    requires { at < length (map entry_of entries.old.items) }
+    ensures { map entry_of entries.new.items ≡ with_value_at (map entry_of entries.old.items) at (datum_of value) }
 {
     entries[at].1 = value;
 }

@@ -1,5 +1,5 @@
-ghost use Rattle.std.specs.Prelude.{◌≡◌, ◌==◌, ◌-◌, ◌^◌, min, length, map, option_map, IfOk, IfSome, OnOk, OnErr};
-ghost use Rattle.pg_value.specs.Attrs.{AreInOrder, entry_at, with_entry};
+ghost use Rattle.std.specs.Prelude.{◌≡◌, ◌==◌, ◌<◌, ◌-◌, ◌^◌, min, length, map, option_map, IfOk, IfSome, OnOk, OnErr};
+ghost use Rattle.pg_value.specs.Attrs.{AreInOrder, entry_at, with_entry, with_value_at};
 ghost use Rattle.pg_value.specs.Datum.{rec, entries_of};
 ghost use Rattle.pg_value.specs.Depth.{depth_of};
 ghost use Rattle.pg_value.specs.Value.{datum_of, entry_of};
@@ -107,6 +107,23 @@ impl Record {
         Ok(())
     }
 
+    /// Puts the value in the place of the one at this place, under the key that stands there. The entries are copied where
+    /// other records share them.
+    pub fn set_at(&mut self, at: usize, value: Value) -> Result<(), AllocError>
+        requires { at < length self.old }
+        ensures ok { OnOk result (self.new ≡ with_value_at self.old at (datum_of value)) }
+        ensures err { OnErr result (self.new ≡ self.old) }
+    {
+        let keeps_measures = measures::keeps_measures(self.entries.as_slice(), at, &value);
+        put_at(&mut self.entries, at, value)?;
+        if !keeps_measures {
+            let (weight, depth) = measures::measures_of_entries(self.entries.as_slice());
+            self.weight = weight;
+            self.depth = depth;
+        }
+        Ok(())
+    }
+
     pub fn as_slice(&self) -> &[(Text, Value)]
         ensures entries { map entry_of result.now ≡ self.now }
         ensures order { AreInOrder self.now }
@@ -156,6 +173,23 @@ fn put(shared: &mut Arc<Vec<(Text, Value)>>, key: Text, value: Value) -> Result<
     }
     let mut entries = attrs::copied(*shared.allocator(), shared.as_slice())?;
     attrs::put(&mut entries, key, value)?;
+    *shared = Arc::new(*entries.allocator(), entries)?;
+    Ok(())
+}
+
+// Puts the value in its place, in the list itself where no other record shares it, and else in a copy.
+fn put_at(shared: &mut Arc<Vec<(Text, Value)>>, at: usize, value: Value) -> Result<(), AllocError>
+    requires { at < length (map entry_of shared.old.value.items) }
+    ensures ok { OnOk result (map entry_of shared.new.value.items
+        ≡ with_value_at (map entry_of shared.old.value.items) at (datum_of value)) }
+    ensures err { OnErr result (shared.new.value.items ≡ shared.old.value.items) }
+{
+    if let Some(entries) = Arc::get_mut(shared) {
+        attrs::set_at(entries, at, value);
+        return Ok(());
+    }
+    let mut entries = attrs::copied(*shared.allocator(), shared.as_slice())?;
+    attrs::set_at(&mut entries, at, value);
     *shared = Arc::new(*entries.allocator(), entries)?;
     Ok(())
 }
