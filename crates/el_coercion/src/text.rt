@@ -3,11 +3,12 @@ ghost use Rattle.std.specs.Int.{w64};
 ghost use Rattle.el_coercion.specs.Number.{number_of_text};
 ghost use Rattle.el_coercion.specs.Text as spec;
 ghost use Rattle.el_coercion.specs.Text.{inner_text, items_text, entries_text, separator_before, text_of};
-ghost use Rattle.pg_value.specs.Datum.{items_of, entries_of};
+ghost use Rattle.pg_value.specs.Datum.{items_of, entries_of, truth};
 ghost use Rattle.pg_text.specs.Failure.{Answers};
 ghost use Rattle.pg_value.specs.Value.{datum_of, entry_of};
 
-use pg_text::decimal;
+use itoa::Buffer;
+use pg_text::push_decimal;
 use pg_value::{Failure, MAX_WEIGHT, RunFault, Text, Value};
 use std::alloc::{AllocError, Global};
 
@@ -21,8 +22,8 @@ pub fn to_text(alloc: Global, value: &Value) -> Result<Text, Failure<RunFault>>
     match value {
         Value::Null => Ok(Text::new(String::new(alloc))?),
         Value::Text(text) => Ok(text.copy()?),
-        Value::Bool(_) => Ok(Text::new(inner_text(alloc, value)?)?),
-        Value::Int(number) => Ok(Text::new(decimal(alloc, *number)?)?),
+        Value::Bool(holds) => Ok(Text::copy_of(alloc, truth_text(*holds))?),
+        Value::Int(number) => Ok(Text::copy_of(alloc, Buffer::new().format(*number))?),
         Value::List(_) | Value::Rec(_) => made_text(inner_text(alloc, value)?),
     }
 }
@@ -37,34 +38,41 @@ pub fn made_text(text: String) -> Result<Text, Failure<RunFault>>
     Ok(Text::new(text)?)
 }
 
+#[tactic(auto, unfolding(crate::specs::Text::true_text, crate::specs::Text::false_text))]
+fn truth_text(holds: bool) -> &'static str
+    ensures { result.now ≡ inner_text (truth holds) }
+{
+    if holds { "true" } else { "false" }
+}
+
 fn inner_text(alloc: Global, value: &Value) -> Result<String, AllocError>
     ensures { IfOk result (λ text. string_bytes text ≡ inner_text (datum_of value.now)) }
 {
     let mut text = String::new(alloc);
-    write_value(alloc, value, &mut text)?;
+    write_value(value, &mut text)?;
     Ok(text)
 }
 
 // Writes a value as it stands in a list or a record.
 #[cycle(write)]
 #[tactic(auto, using(pg_value::proofs::Sizes::sizes, crate::proofs::Joined::joined), unfolding(crate::specs::Text::null_text, crate::specs::Text::true_text, crate::specs::Text::false_text))]
-fn write_value(alloc: Global, value: &Value, text: &mut String) -> Result<(), AllocError>
+fn write_value(value: &Value, text: &mut String) -> Result<(), AllocError>
     ensures { OnOk result (string_bytes text.new ≡ string_bytes text.old ++ inner_text (datum_of value.now)) }
 {
     match value {
         Value::Null => text.push_str("null"),
         Value::Bool(true) => text.push_str("true"),
         Value::Bool(false) => text.push_str("false"),
-        Value::Int(number) => text.push_str(&decimal(alloc, *number)?),
+        Value::Int(number) => push_decimal(text, *number),
         Value::Text(inner) => text.push_str(inner.as_str()),
         Value::List(items) => {
             text.push('[')?;
-            write_items(alloc, items.as_slice(), text)?;
+            write_items(items.as_slice(), text)?;
             text.push(']')
         }
         Value::Rec(entries) => {
             text.push('{')?;
-            write_entries(alloc, entries.as_slice(), text)?;
+            write_entries(entries.as_slice(), text)?;
             text.push('}')
         }
     }
@@ -72,24 +80,20 @@ fn write_value(alloc: Global, value: &Value, text: &mut String) -> Result<(), Al
 
 #[cycle(write)]
 #[tactic(auto, using(pg_value::proofs::Sizes::sizes, crate::proofs::Joined::joined), unfolding(crate::specs::Text::null_text, crate::specs::Text::true_text, crate::specs::Text::false_text))]
-fn write_items(alloc: Global, items: &[Value], text: &mut String) -> Result<(), AllocError>
+fn write_items(items: &[Value], text: &mut String) -> Result<(), AllocError>
     ensures { OnOk result (string_bytes text.new ≡ string_bytes text.old ++ items_text
         (items_of (map datum_of items.now))) }
 {
     for (i, item) in items.iter().enumerate() {
         separate(i, text)?;
-        write_value(alloc, item, text)?;
+        write_value(item, text)?;
     }
     Ok(())
 }
 
 #[cycle(write)]
 #[tactic(auto, using(pg_value::proofs::Sizes::sizes, crate::proofs::Joined::joined), unfolding(crate::specs::Text::null_text, crate::specs::Text::true_text, crate::specs::Text::false_text))]
-fn write_entries(
-    alloc: Global,
-    entries: &[(Text, Value)],
-    text: &mut String,
-) -> Result<(), AllocError>
+fn write_entries(entries: &[(Text, Value)], text: &mut String) -> Result<(), AllocError>
     ensures { OnOk result (string_bytes text.new ≡ string_bytes text.old ++ entries_text
         (entries_of (map entry_of entries.now))) }
 {
@@ -97,7 +101,7 @@ fn write_entries(
         separate(i, text)?;
         text.push_str(key.as_str())?;
         text.push('=')?;
-        write_value(alloc, value, text)?;
+        write_value(value, text)?;
     }
     Ok(())
 }
