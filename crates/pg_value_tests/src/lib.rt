@@ -1,4 +1,5 @@
-//! Tests of values and their coercions, and of how much a session keeps. What rows can say of them is in `value_rows` and `page_rows`.
+//! Tests of values and their coercions, of variables, and of how much a session keeps. What rows
+//! can say of them is in `value_rows` and `page_rows`.
 #![tactic(auto)]
 
 #[cfg(test)]
@@ -9,3 +10,5 @@ mod functions;
 mod session;
 #[cfg(test)]
 mod values;
+#[cfg(test)]
+mod variables;

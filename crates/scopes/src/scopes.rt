@@ -5,6 +5,7 @@ ghost use Rattle.scopes.specs.Scopes.{starting, entries_in, found_in, found, wit
 ghost use Rattle.scopes.specs.Scopes.{with_frame, with_frame_of, without_frame, turned_to, with_session};
 
 use crate::attributes;
+use crate::frame::Frame;
 use crate::held_scope::HeldScope;
 use pg_value::{Attrs, Failure, Record, RunFault, Text, Value};
 use std::alloc::{AllocError, Global};
@@ -14,9 +15,9 @@ use std::marker::Model;
 /// session where the request has one. Contracts see a record of them.
 #[derive(Drop)]
 pub struct Scopes {
-    frames: Vec<Attrs>,
+    frames: Vec<Frame>,
     current: u32,
-    request: Attrs,
+    request: Frame,
     session: Option<Attrs>,
 }
 
@@ -41,11 +42,11 @@ impl Scopes {
         ensures { IfOk result (λ scopes. scopes ≡ starting session) }
     {
         let mut frames = Vec::with_capacity(alloc, 1)?;
-        frames.push(Attrs::empty(alloc))?;
+        frames.push(Frame::empty(alloc))?;
         Ok(Scopes {
             frames,
             current: 0,
-            request: Attrs::empty(alloc),
+            request: Frame::empty(alloc),
             session,
         })
     }
@@ -63,7 +64,11 @@ impl Scopes {
     pub fn find_in(&self, scope: HeldScope, name: &str) -> Option<&Value>
         ensures { option_map (λ value. datum_of value.now) result ≡ found_in self.now scope name.now }
     {
-        self.entries(scope)?.get(name)
+        match scope {
+            HeldScope::Page => self.frames[self.current as usize].get(name),
+            HeldScope::Request => self.request.get(name),
+            HeldScope::Session => self.session.as_ref()?.get(name),
+        }
     }
 
     /// Puts the value under the name, in the place of what stood there. X13 in session scope without a session, and X21
@@ -116,13 +121,11 @@ impl Scopes {
     pub fn as_rec(&self, scope: HeldScope) -> Result<Value, Failure<RunFault>>
         ensures { Answers (record_answer (unwrap_or (entries_in self.now scope) [])) result }
     {
-        let Some(entries) = self.entries(scope) else {
-            return Ok(Value::Rec(Record::new(Attrs::empty(*self.frames.allocator()))?));
-        };
-        if attributes::is_too_large(entries) {
+        let entries = self.entries(scope)?;
+        if attributes::is_too_large(&entries) {
             return Err(Failure::Fault(RunFault::ValueTooLarge));
         }
-        Ok(Value::Rec(Record::new(entries.copy()?)?))
+        Ok(Value::Rec(Record::new(entries)?))
     }
 
     /// The number of frames.
@@ -146,8 +149,8 @@ impl Scopes {
         ensures ok { OnOk result (self.new ≡ with_frame self.old) }
         ensures err { OnErr result (self.new ≡ self.old) }
     {
-        let frame = Attrs::empty(*self.frames.allocator());
-        self.push_frame_of(frame)
+        let entries = Attrs::empty(*self.frames.allocator());
+        self.push_frame_of(entries)
     }
 
     /// Puts a frame with these entries behind the others, as [`push_frame`](Self::push_frame) does an empty one.
@@ -158,7 +161,7 @@ impl Scopes {
         let Ok(number) = u32::try_from(self.frames.len()) else {
             return Err(AllocError);
         };
-        self.frames.push(entries)?;
+        self.frames.push(Frame::of(entries))?;
         self.current = number;
         Ok(())
     }
@@ -177,7 +180,7 @@ impl Scopes {
     pub fn restart(&mut self)
         ensures { self.new ≡ restarted self.old }
     {
-        let frame = Attrs::empty(*self.frames.allocator());
+        let frame = Frame::empty(*self.frames.allocator());
         self.frames.truncate(1);
         self.frames[0] = frame;
         self.current = 0;
@@ -218,14 +221,17 @@ impl Scopes {
         }
     }
 
-    // The entries of a scope, or None for an absent session.
-    fn entries(&self, scope: HeldScope) -> Option<&Attrs>
-        ensures { option_map (λ entries. entries.now) result ≡ entries_in self.now scope }
+    // A copy of the entries of a scope: none where the session is absent.
+    fn entries(&self, scope: HeldScope) -> Result<Attrs, AllocError>
+        ensures { IfOk result (λ entries. entries ≡ unwrap_or (entries_in self.now scope) []) }
     {
         match scope {
-            HeldScope::Page => Some(&self.frames[self.current as usize]),
-            HeldScope::Request => Some(&self.request),
-            HeldScope::Session => self.session.as_ref(),
+            HeldScope::Page => self.frames[self.current as usize].to_attrs(),
+            HeldScope::Request => self.request.to_attrs(),
+            HeldScope::Session => match &self.session {
+                Some(session) => session.copy(),
+                None => Ok(Attrs::empty(*self.frames.allocator())),
+            },
         }
     }
 }
