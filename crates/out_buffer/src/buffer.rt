@@ -67,6 +67,7 @@ impl Buffer {
 
 // Puts bytes behind those of a buffer of this size, which they fit. The first take room for more at
 // once.
+#[inline(always)]
 fn keep(buffer: &mut Vec<u8>, size: usize, bytes: &[u8]) -> Result<(), AllocError>
     ensures items { OnOk result (buffer.new.items ≡ buffer.old.items ++ bytes.now) }
     ensures len { OnOk result (length buffer.new.items ≡ length buffer.old.items + length bytes.now) }

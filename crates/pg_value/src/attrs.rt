@@ -312,6 +312,7 @@ fn take_out(entries: &mut Vec<(Text, Value)>, key: &str)
     entries.retain(|entry| !is_at(entry, key));
 }
 
+#[inline(always)]
 fn is_at(entry: &(Text, Value), key: &str) -> bool
     ensures { result ≡ bytes_eq key.now entry.now.0 }
 {
