@@ -207,7 +207,7 @@ fn binary_top(alloc: Global, op: BinOp, stack: &mut Stack) -> Result<(), Failure
     let Some(left) = stack.pop() else {
         unreachable!()
     };
-    let made = binary(alloc, op, &left, &right);
+    let made = binary(alloc, op, left, &right);
     push_made(made, stack)
 }
 

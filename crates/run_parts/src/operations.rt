@@ -1,6 +1,7 @@
 // What the operations do that take values from the stack and leave one or none.
 ghost use Rattle.std.specs.Prelude.{◌≡◌, ◌<◌, ◌^◌, length, map};
 ghost use Rattle.std.specs.declared.option.Option.TheVariants.{Some};
+ghost use Rattle.el_ops.specs.Operators.{binary_of};
 ghost use Rattle.page_code.specs.Ops.{takes};
 ghost use Rattle.page_meaning.specs.Core.{set_or_remove};
 ghost use Rattle.page_table.specs.Operations.{operation, visits};
@@ -24,7 +25,7 @@ use el_ops::{binary, index, unary};
 use jstl_functions::call;
 use page_code::{Op, ScopedName};
 use pg_text::Failure;
-use pg_value::{RunFault, Value};
+use pg_value::{BinOp, RunFault, Value};
 use run_values::{coerced, header_entry, joined, list_of, record_of, text_of, url};
 use run_world::{Seat, Served, World};
 use std::alloc::Global;
@@ -57,6 +58,13 @@ fn one(made: Result<Value, Failure<RunFault>>) -> Result<Option<Value>, Failure<
     }
 }
 
+// What an operator answers of two values, which stay as they are.
+fn operated(alloc: Global, op: BinOp, a: &Value, b: &Value) -> Result<Value, Failure<RunFault>>
+    ensures { AnswersAs datum_of (binary_of op (datum_of a.now) (datum_of b.now)) result }
+{
+    binary(alloc, op, a.copy()?, b)
+}
+
 // The value that an operation makes of values alone.
 fn compute(alloc: Global, op: &Op, args: &[Value]) -> Result<Value, Failure<RunFault>>
     requires args { length args.now ≡ takes op.now }
@@ -67,7 +75,7 @@ fn compute(alloc: Global, op: &Op, args: &[Value]) -> Result<Value, Failure<RunF
         Op::Const(value) => Ok(value.copy()?),
         Op::Index => index(alloc, &args[0], &args[1]),
         Op::Unary(op) => Ok(unary(*op, &args[0])?),
-        Op::Binary(op) => binary(alloc, *op, &args[0], &args[1]),
+        Op::Binary(op) => operated(alloc, *op, &args[0], &args[1]),
         Op::Coerce(coercion) => coerced(alloc, *coercion, &args[0]),
         Op::MakeList(_) => list_of(alloc, args),
         Op::MakeMap(_) => record_of(alloc, args),

@@ -77,7 +77,7 @@ pub fn two_told(
     if act == "index" {
         return value_told(alloc, index(alloc, left, right));
     }
-    value_told(alloc, binary(alloc, binary_of(word), left, right))
+    value_told(alloc, binary(alloc, binary_of(word), left.copy()?, right))
 }
 
 // What a function answers for a list of as many arguments as it has.

@@ -32,8 +32,8 @@ returns-in-Binary c =
     let many : length c.args.args.now ≡ 2 = c.requires.args ∙ ap takes c.in-Binary.is in
     let first = first_at c.args.args.now c.index-args-0-in-Binary.result (omega (arith, many)) c.index-args-0-in-Binary.is in
     let second = second_at c.args.args.now c.index-args-1-in-Binary.result (omega (arith, many)) c.index-args-1-in-Binary.is in
-    computes c.args.op.now (op.Binary c.in-Binary.op) (map datum_of c.args.args.now) c.binary.result c.in-Binary.is
-    (subst (λ e. AnswersAs datum_of e c.binary.result) (ap (λ d. binary_of c.in-Binary.op d (datum_of c.index-args-1-in-Binary.result)) first ∙ ap (binary_of c.in-Binary.op (value_at 0 (map datum_of c.args.args.now))) second) c.binary.ensures)
+    computes c.args.op.now (op.Binary c.in-Binary.op) (map datum_of c.args.args.now) c.operated.result c.in-Binary.is
+    (subst (λ e. AnswersAs datum_of e c.operated.result) (ap (λ d. binary_of c.in-Binary.op d (datum_of c.index-args-1-in-Binary.result)) first ∙ ap (binary_of c.in-Binary.op (value_at 0 (map datum_of c.args.args.now))) second) c.operated.ensures)
 
 pub returns-in-Coerce : goal.returns-in-Coerce
 returns-in-Coerce c =
