@@ -90,13 +90,13 @@ pub fn list_of(alloc: Global, items: &[Value]) -> Result<Value, Failure<RunFault
 pub fn record_of(alloc: Global, pairs: &[Value]) -> Result<Value, Failure<RunFault>>
     ensures { AnswersAs datum_of (record_of (pairs_in (map datum_of pairs.now))) result }
 {
-    let mut entries = Attrs::empty(alloc);
+    let mut entries = Vec::with_capacity(alloc, pairs.len() / 2)?;
     let mut rest = pairs;
     while let [key, value, behind @ ..] = rest {
-        entries.insert(to_text(alloc, key)?, value.copy()?)?;
+        entries.push((to_text(alloc, key)?, value.copy()?))?;
         rest = behind;
     }
-    measured(Value::Rec(Record::new(entries)?))
+    measured(Value::Rec(Record::new(Attrs::from_entries(entries)?)?))
 }
 
 /// Texts joined, without anything between them: X20.
