@@ -1,8 +1,9 @@
 -- The innermost loop, which stands last among those that are held.
-use Rattle.std.proofs.Common.{◌≡◌, ◌<◌, ℕ, zero, suc, List, [], ◌∷◌, ◌++◌, length, get_or, refl, sym, ap, ◌∙◌, subst, arith}
+use Rattle.std.proofs.Common.{◌≡◌, ◌<◌, ◌≤◌, ℕ, zero, suc, List, [], ◌∷◌, ◌++◌, length, get_or, refl, sym, ap, ◌∙◌, subst, arith}
 use Rattle.std.specs.Prelude.{map, reverse, slice_set}
 use Rattle.std.proofs.lemmas.List.{reverse-append}
 use Rattle.page_table.specs.Open.{Loop}
+use Rattle.run_moves.proofs.RoundArms.{same_first}
 use Rattle.run_moves.specs.Loops.{advanced, loop_of}
 use Rattle.run_moves.specs.declared.loops.Loop as machine_loop
 use Rattle.run_values.specs.Rounds.{behind_round}
@@ -42,3 +43,22 @@ last_advanced held n innermost changed seen h is e view =
     let r = last_at loop_of held n changed innermost h in
     let same : innermost ≡ r.last = is ∙ r.there in
     r.changed ∙ ap (λ l. l ∷ r.rest) (e ∙ ap (λ x. let l = loop_of x in record l { rounds = behind_round l.rounds }) same) ∙ ap advanced (sym r.seen ∙ view)
+
+-- there is a loop where one is open
+pub none_open : (held : List machine_loop.Loop) (seen : List Loop) → reverse (map loop_of held) ≡ seen → (0 < length held → ⊥) → 1 ≤ length seen → ⊥
+none_open [] seen e none some = omega (arith, ap length e, some)
+none_open (l ∷ held) seen e none some = none (omega arith)
+
+-- the innermost loop changes unseen
+pub last_kept : (held : List machine_loop.Loop) (n : ℕ) (innermost changed : machine_loop.Loop) (seen : List Loop) → length held ≡ suc n → innermost ≡ get_or held n innermost
+    → loop_of changed ≡ loop_of innermost → reverse (map loop_of held) ≡ seen → reverse (map loop_of (slice_set held n changed)) ≡ seen
+last_kept held n innermost changed seen h is e view =
+    let r = last_at loop_of held n changed innermost h in
+    r.changed ∙ ap (λ l. l ∷ r.rest) (e ∙ ap loop_of (is ∙ r.there)) ∙ sym r.seen ∙ view
+
+-- it is seen first
+pub last_seen : (held : List machine_loop.Loop) (n : ℕ) (innermost : machine_loop.Loop) (seen : List Loop) → length held ≡ suc n → innermost ≡ get_or held n innermost
+    → reverse (map loop_of held) ≡ seen → (l : Loop) (outer : List Loop) → seen ≡ l ∷ outer → loop_of innermost ≡ l
+last_seen held n innermost seen h is view l outer first =
+    let r = last_at loop_of held n innermost innermost h in
+    same_first (loop_of innermost) l r.rest outer (ap (λ x. loop_of x ∷ r.rest) (is ∙ r.there) ∙ sym r.seen ∙ view ∙ first)

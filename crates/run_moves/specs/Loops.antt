@@ -1,13 +1,12 @@
 -- Open loops, in the words of the table.
-use Rattle.std.specs.Prelude.{List, [], ◌∷◌, map}
+use Rattle.std.specs.Prelude.{List, [], ◌∷◌}
 use Rattle.run_moves.specs.declared.loops.Loop as machine_loop
 use Rattle.run_values.specs.Rounds.{behind_round}
 use Rattle.page_table.specs.Open.{Loop}
-use Rattle.pg_value.specs.Value.{entry_of}
 
 -- an open loop
 abbrev pub loop_of : machine_loop.Loop → Loop
-loop_of l = record { variable = l.variable; status = l.status; values = map entry_of l.values.items; rounds = l.rounds }
+loop_of l = record { variable = l.variable; status = l.status; values = l.statuses; rounds = l.rounds }
 
 -- the innermost loop without its next round
 abbrev pub advanced : List Loop → List Loop

@@ -1,23 +1,27 @@
 // The open loops of a running code.
-ghost use Rattle.std.specs.Prelude.{◌≡◌, [], ◌∷◌, length, List, OnOk, OnErr, MatchOption};
+ghost use Rattle.std.specs.Prelude.{◌≡◌, ◌≤◌, [], ◌∷◌, length, List, OnOk, OnErr, MatchOption};
+ghost use Rattle.page_meaning.specs.Loops.{round_begun};
+ghost use Rattle.page_meaning.specs.Rounds.{Round};
 ghost use Rattle.page_table.specs.Open.{Loop as Loop'};
 ghost use Rattle.run_moves.specs.Loops.{advanced, loop_of};
+ghost use Rattle.run_world.specs.Part.{Doing};
 
+use crate::rounds_arm;
 use page_code::Name;
-use pg_text::Text;
-use pg_value::Value;
-use run_values::{Rounds, StatusKeys};
+use pg_text::Failure;
+use pg_value::RunFault;
+use run_values::{Mark, Rounds, Statuses};
+use run_world::World;
 use std::alloc::{AllocError, Global};
 use std::marker::Model;
 
-/// An open loop: its variables, the keys of its statuses where it has a variable for them, the
-/// values that it was given under their names, the last first, and its rounds to come.
+/// An open loop: its variables, the values that it was given under their names, the last first,
+/// with the statuses that are made of them, and its rounds to come.
 #[derive(Drop)]
 pub struct Loop {
     pub variable: Option<Name>,
     pub status: Option<Name>,
-    pub keys: Option<StatusKeys>,
-    pub values: Vec<(Text, Value)>,
+    pub statuses: Statuses,
     pub rounds: Rounds,
 }
 
@@ -76,6 +80,28 @@ impl Loops {
             ≡ loop_of innermost.now ∷ outer)) }
     {
         self.loops.last()
+    }
+
+    /// The next round of the innermost loop begins: X18, X20. It isn't left behind.
+    pub fn begin_round<W: World>(
+        &mut self,
+        alloc: Global,
+        mark: &Mark,
+        world: &mut W,
+    ) -> Result<(), Failure<RunFault>>
+        requires covered { W.covered world.old }
+        requires opened { 1 ≤ length self.old }
+        ensures covered { W.covered world.new }
+        ensures same { self.new ≡ self.old }
+        ensures does { (l : Loop') (outer : List Loop') (r : Round) (rest : List Round) → self.old ≡ l ∷ outer
+            → l.rounds ≡ r ∷ rest → r.index ≡ mark.now.index → r.count ≡ mark.now.count
+            → r.is_last ≡ mark.now.is_last → Doing W.reached W.replies (λ u. u)
+            (λ place. round_begun place l.variable l.status l.values r) world.old world.new result }
+    {
+        let Some(innermost) = self.loops.last_mut() else {
+            unreachable!()
+        };
+        rounds_arm::begin_round(alloc, innermost, mark, world)
     }
 
     /// The innermost loop goes on behind its next round.

@@ -1,5 +1,5 @@
 // The beginning of a loop, and its rounds.
-ghost use Rattle.std.specs.Prelude.{◌≡◌, ◌+◌, ◌-◌, ◌<◌, ◌≤◌, ◌^◌, ◌∷◌, length, map, reverse, take, List, Some, IfOk};
+ghost use Rattle.std.specs.Prelude.{◌≡◌, ◌+◌, ◌-◌, ◌<◌, ◌≤◌, ◌^◌, ◌∷◌, length, reverse, take, List, Some, IfOk};
 ghost use Rattle.page_meaning.specs.Attributes.{table_of};
 ghost use Rattle.page_meaning.specs.Loops.{round_begun, set_status, with_named};
 ghost use Rattle.page_meaning.specs.Rounds.{Round, status_record};
@@ -8,7 +8,7 @@ ghost use Rattle.page_meaning.specs.Work.{visit};
 ghost use Rattle.page_table.specs.LoopMoves.{loop_next, loop_opened};
 ghost use Rattle.page_table.specs.Move.{On, popped_all};
 ghost use Rattle.pg_text.specs.Failure.{AnswersAs};
-ghost use Rattle.pg_value.specs.Value.{datum_of, entry_of};
+ghost use Rattle.pg_value.specs.Value.{datum_of};
 ghost use Rattle.run_moves.specs.Acted.{Acted};
 ghost use Rattle.run_moves.specs.Loops.{loop_of};
 ghost use Rattle.run_moves.specs.Opened.{open_of};
@@ -22,9 +22,9 @@ use crate::loops::Loop;
 use crate::open::Open;
 use crate::raising::remove_named;
 use page_code::{LoopKind, Name};
-use pg_text::{Failure, Place, Text};
+use pg_text::{Failure, Place};
 use pg_value::{RunFault, Value};
-use run_values::{Mark, StatusKeys, measured, rounds_of, status_record, table_of};
+use run_values::{Mark, Statuses, measured, rounds_of, table_of};
 use run_world::World;
 use scopes::HeldScope;
 use std::alloc::{AllocError, Global};
@@ -76,18 +76,9 @@ fn opened(alloc: Global, kind: &LoopKind, open: &Open) -> Result<Loop, Failure<R
     Ok(Loop {
         variable: copied(&kind.variable)?,
         status: copied(&kind.status)?,
-        keys: keys_for(alloc, &kind.status)?,
-        values,
+        statuses: Statuses::new(values),
         rounds,
     })
-}
-
-// The keys of a loop's statuses, where it has a variable for them.
-fn keys_for(alloc: Global, status: &Option<Name>) -> Result<Option<StatusKeys>, AllocError> {
-    match status {
-        Some(_) => Ok(Some(StatusKeys::new(alloc)?)),
-        None => Ok(None),
-    }
 }
 
 fn copied(name: &Option<Name>) -> Result<Option<Name>, AllocError>
@@ -129,7 +120,7 @@ pub(crate) fn loop_next<W: World>(
         remove_named(&ended.status, world);
         return Flow::Go(pc + 1);
     };
-    match begin_round(alloc, innermost, &mark, world) {
+    match open.loops.begin_round(alloc, &mark, world) {
         Ok(()) => {
             open.loops.advance();
             Flow::Go(pc - size)
@@ -138,20 +129,21 @@ pub(crate) fn loop_next<W: World>(
     }
 }
 
-// A round begins: its visit is counted, and both variables are set: X18, X20.
-fn begin_round<W: World>(
+/// A round of a loop begins: its visit is counted, and both variables are set: X18, X20.
+pub(crate) fn begin_round<W: World>(
     alloc: Global,
-    looping: &Loop,
+    looping: &mut Loop,
     mark: &Mark,
     world: &mut W,
 ) -> Result<(), Failure<RunFault>>
     requires covered { W.covered world.old }
     ensures covered { W.covered world.new }
-    ensures does { (r : Round) (rest : List Round) → looping.now.rounds ≡ r ∷ rest →
+    ensures same { loop_of looping.new ≡ loop_of looping.old }
+    ensures does { (r : Round) (rest : List Round) → looping.old.rounds ≡ r ∷ rest →
         r.index ≡ mark.now.index → r.count ≡ mark.now.count → r.is_last ≡ mark.now.is_last
         → Doing W.reached W.replies (λ u. u)
-        (λ place. round_begun place looping.now.variable looping.now.status
-        (map entry_of looping.now.values.items) r) world.old world.new result }
+        (λ place. round_begun place looping.old.variable looping.old.status looping.old.statuses r)
+        world.old world.new result }
 {
     count_visit(world)?;
     let item = looping.rounds.item(alloc)?;
@@ -159,15 +151,7 @@ fn begin_round<W: World>(
         return set_named(&looping.variable, item, world);
     };
     set_named(&looping.variable, item.copy()?, world)?;
-    set_status(
-        alloc,
-        status,
-        &looping.keys,
-        &looping.values,
-        mark,
-        item,
-        world,
-    )
+    set_status(status, &mut looping.statuses, mark, item, world)
 }
 
 // Counts a visit: X18.
@@ -202,21 +186,20 @@ fn set_named<W: World>(
 
 // Sets the status of a round: X20.
 fn set_status<W: World>(
-    alloc: Global,
     name: &Name,
-    keys: &Option<StatusKeys>,
-    values: &[(Text, Value)],
+    statuses: &mut Statuses,
     mark: &Mark,
     item: Value,
     world: &mut W,
 ) -> Result<(), Failure<RunFault>>
     requires covered { W.covered world.old }
     ensures covered { W.covered world.new }
+    ensures same { statuses.new ≡ statuses.old }
     ensures does { Doing W.reached W.replies (λ u. u)
-        (λ place. set_status place (Some name.now) (status_record (map entry_of values.now) (round_at mark.now)
+        (λ place. set_status place (Some name.now) (status_record statuses.old (round_at mark.now)
         (datum_of item))) world.old world.new result }
 {
-    let status = status_record(alloc, keys, values, mark, item)?;
-    let status = measured(status)?;
+    let made = statuses.status(mark, item)?;
+    let status = measured(made)?;
     world.set(HeldScope::Page, name.as_text(), status)
 }

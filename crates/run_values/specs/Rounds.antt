@@ -1,5 +1,5 @@
 -- What the rounds of a loop go over, in the words of the meaning.
-use Rattle.std.specs.Prelude.{ℕ, ◌==◌, pos, ◌^◌, List, [], ◌∷◌, map, Option, Some, None, Result, Ok, codes}
+use Rattle.std.specs.Prelude.{◌≡◌, ℕ, zero, suc, ◌==◌, pos, ◌^◌, Bool, false, List, [], ◌∷◌, map, Option, Some, None, Result, Ok, codes, ⊤}
 use Rattle.el_ops.specs.Indexing.{or_null}
 use Rattle.jstl_functions.specs.Functions.{measured}
 use Rattle.jstl_functions.specs.Texts.{tokens}
@@ -40,15 +40,32 @@ behind_round (r ∷ rest) = rest
 abbrev pub round_at : Mark → Round
 round_at mark = record { item = Ok null; index = mark.index; count = mark.count; is_last = mark.is_last }
 
--- the keys of a status, in their order
-abbrev pub status_keys : List (List ℕ)
-status_keys = codes "begin" ∷ codes "count" ∷ codes "current" ∷ codes "end" ∷ codes "first" ∷ codes "index" ∷ codes "last" ∷ codes "step" ∷ []
-
 -- the entries of a round's status
 abbrev pub status_entries : Values → Round → Datum → Values
 status_entries vs r current =
     (codes "begin", or_null (value_at (codes "begin") vs)) ∷ (codes "count", number (pos r.count)) ∷ (codes "current", current) ∷ (codes "end", or_null (value_at (codes "end") vs))
     ∷ (codes "first", truth (r.count == 1)) ∷ (codes "index", number (pos r.index)) ∷ (codes "last", truth r.is_last) ∷ (codes "step", or_null (value_at (codes "step") vs)) ∷ []
+
+-- no round: its numbers are 0
+abbrev pub no_round : Round
+no_round = record { item = Ok null; index = 0; count = 0; is_last = false }
+
+-- these are the entries of a status of a loop with these values, whatever its round is
+pub record IsStatusOf (vs es : Values) : Type 0 where
+  pub round : Round
+  pub current : Datum
+  pub is : es ≡ status_entries vs round current
+
+-- the same where there are entries
+abbrev pub IfStatusOf : Values → Option Values → Type 0
+IfStatusOf vs None = ⊤
+IfStatusOf vs (Some es) = IsStatusOf vs es
+
+-- entries with the datum at a place, under the key that stands there
+abbrev pub with_value_at : Values → ℕ → Datum → Values
+with_value_at [] at d = []
+with_value_at (e ∷ es) zero d = (e.0, d) ∷ es
+with_value_at (e ∷ es) (suc at) d = e ∷ with_value_at es at d
 
 -- what the rounds of a loop go over, by its values: X7
 abbrev pub items_answer : Over → Values → Result (Option (List (Result Datum RunFault))) RunFault

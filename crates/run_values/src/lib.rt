@@ -22,7 +22,7 @@ pub use addresses::{params_in, url};
 pub use cookies::cookie_records;
 pub use faults::{fault_record, run_fault_line};
 pub use loop_values::table_of;
-pub use loops::{rounds_of, status_record};
+pub use loops::rounds_of;
 pub use properties::{
     FoundProperty, changed_all, changed_one, measured_record, property_found, property_of,
     property_replaced, replaced,
@@ -32,6 +32,6 @@ pub use request::{
     all_values, before_query, first_values, header_entry, headers, request_record, session_value,
 };
 pub use rounds::{Items, Mark, Rounds};
-pub use statuses::StatusKeys;
+pub use statuses::Statuses;
 pub use texts::text_of;
 pub use values::{coerced, is_coerced, joined, list_of, measured, record_of};

@@ -1,14 +1,13 @@
-ghost use Rattle.std.specs.Prelude.{◌≡◌, map, IfOk};
+ghost use Rattle.std.specs.Prelude.{map};
 ghost use Rattle.std.specs.declared.option.Option.TheVariants.{Some};
-ghost use Rattle.run_values.specs.Rounds.{items_answer, items_of, round_at};
-ghost use Rattle.page_meaning.specs.Rounds.{given_items, status_record};
+ghost use Rattle.page_meaning.specs.Rounds.{given_items};
 ghost use Rattle.page_table.specs.LoopMoves.{loop_rounds};
 ghost use Rattle.pg_text.specs.Failure.{AnswersAs};
 ghost use Rattle.pg_value.specs.Value.{datum_of, entry_of};
+ghost use Rattle.run_values.specs.Rounds.{items_answer, items_of};
 
 use crate::loop_values::{number_at, text_at, value_at};
-use crate::rounds::{Items, Mark, Rounds};
-use crate::statuses::StatusKeys;
+use crate::rounds::{Items, Rounds};
 use jstl_functions::tokens;
 use page_code::Over;
 use pg_text::{Failure, Listed, Text};
@@ -65,23 +64,5 @@ fn items_in(alloc: Global, value: &Value) -> Result<Items, Failure<RunFault>>
             Ok(Items::Texts(Listed::new(found)))
         }
         Value::Bool(_) | Value::Int(_) => Err(Failure::Fault(RunFault::NotIterable)),
-    }
-}
-
-/// The status of a round, as a record, under the keys that the loop keeps, or under new ones. A
-/// place or a count past the largest number is answered as want of memory.
-pub fn status_record(
-    alloc: Global,
-    keys: &Option<StatusKeys>,
-    table: &[(Text, Value)],
-    mark: &Mark,
-    current: Value,
-) -> Result<Value, AllocError>
-    ensures { IfOk result (λ made. datum_of made ≡ status_record (map entry_of table.now) (round_at mark.now)
-        (datum_of current)) }
-{
-    match keys {
-        Some(keys) => keys.record(alloc, table, mark, current),
-        None => StatusKeys::new(alloc)?.record(alloc, table, mark, current),
     }
 }

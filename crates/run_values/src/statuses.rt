@@ -1,136 +1,173 @@
-ghost use Rattle.std.specs.Prelude.{◌≡◌, map, pos, IfOk};
+ghost use Rattle.std.specs.Prelude.{◌≡◌, ◌<◌, length, map, pos, IfOk};
 ghost use Rattle.el_ops.specs.Indexing.{or_null};
-ghost use Rattle.page_meaning.specs.Attributes.{value_at};
+ghost use Rattle.page_meaning.specs.Attributes.{Values, value_at};
 ghost use Rattle.page_meaning.specs.Rounds.{status_record};
-ghost use Rattle.pg_value.specs.Datum.{number};
+ghost use Rattle.pg_value.specs.Datum.{number, null};
 ghost use Rattle.pg_value.specs.Value.{datum_of, entry_of};
-ghost use Rattle.run_values.specs.Rounds.{round_at, status_entries};
+ghost use Rattle.run_values.specs.Rounds.{IsStatusOf, no_round, round_at, status_entries, with_value_at};
 
 use crate::loop_values::value_at;
-use crate::records::record;
 use crate::rounds::Mark;
 use pg_text::Text;
-use pg_value::{Attrs, Value};
+use pg_value::{Attrs, Record, Value};
 use std::alloc::{AllocError, Global};
 use std::marker::Model;
 
-/// The keys of a status, made once for all rounds of a loop. Contracts see the list of them, which
-/// is the same of all loops.
+// The places of the entries that tell the statuses of a loop apart, among all by rising keys.
+const COUNT: usize = 1;
+
+const CURRENT: usize = 2;
+
+const FIRST: usize = 4;
+
+const INDEX: usize = 5;
+
+const LAST: usize = 6;
+
+/// The values of a loop's attributes, under their names, and the statuses of its rounds, which are
+/// made of them. Two records take turns, since the variable of the loop holds the last one until
+/// it is given the next: that of the round before is set anew, in place where nothing else holds it
+/// any more. Contracts see the values.
 #[derive(Drop)]
-pub struct StatusKeys {
-    begin: Text,
-    count: Text,
-    current: Text,
-    end: Text,
-    first: Text,
-    index: Text,
-    last: Text,
-    step: Text,
+pub struct Statuses {
+    values: Vec<(Text, Value)>,
+    // That of the last round.
+    shown: Option<Record>,
+    // That of the round before.
+    spare: Option<Record>,
 }
 
-impl Model for StatusKeys {
-    ghost use Rattle.std.specs.Prelude.{◌≡◌, ◌∷◌, [], List, ℕ};
-    ghost use Rattle.run_values.specs.Rounds.{status_keys};
+impl Model for Statuses {
+    ghost use Rattle.std.specs.Prelude.{map};
+    ghost use Rattle.page_meaning.specs.Attributes.{Values};
+    ghost use Rattle.pg_value.specs.DatumCode.{entries_code};
+    ghost use Rattle.pg_value.specs.Value.{entry_of};
+    ghost use Rattle.run_values.specs.Rounds.{IfStatusOf};
 
-    ghost Value = { List (List ℕ) };
+    ghost Value = { Values };
 
-    ghost view = { λ k. k.begin ∷ k.count ∷ k.current ∷ k.end ∷ k.first ∷ k.index ∷ k.last ∷ k.step
-        ∷ [] };
+    ghost coded = { entries_code };
 
-    ghost invariant = { λ k. k.begin ∷ k.count ∷ k.current ∷ k.end ∷ k.first ∷ k.index ∷ k.last ∷ k.step
-        ∷ [] ≡ status_keys };
+    ghost view = { λ s. map entry_of s.values.items };
+
+    ghost invariant = { λ s. IfStatusOf (map entry_of s.values.items) s.shown
+        × IfStatusOf (map entry_of s.values.items) s.spare };
 }
 
-impl StatusKeys {
-    pub fn new(alloc: Global) -> Result<Self, AllocError> {
-        Ok(StatusKeys {
-            begin: Text::copy_of(alloc, "begin")?,
-            count: Text::copy_of(alloc, "count")?,
-            current: Text::copy_of(alloc, "current")?,
-            end: Text::copy_of(alloc, "end")?,
-            first: Text::copy_of(alloc, "first")?,
-            index: Text::copy_of(alloc, "index")?,
-            last: Text::copy_of(alloc, "last")?,
-            step: Text::copy_of(alloc, "step")?,
-        })
-    }
-
-    // The entries of a status, in the order of their keys.
-    fn entries(
-        &self,
-        alloc: Global,
-        table: &[(Text, Value)],
-        mark: &Mark,
-        current: Value,
-    ) -> Result<Vec<(Text, Value)>, AllocError>
-        ensures { IfOk result (λ made. map entry_of made.items ≡ status_entries (map entry_of table.now)
-            (round_at mark.now) (datum_of current)) }
+impl Statuses {
+    /// The statuses of a loop with these values, none of which was made yet.
+    pub fn new(values: Vec<(Text, Value)>) -> Self
+        ensures { result ≡ map entry_of values.items }
     {
-        let entries = vec![in alloc;
-            given_entry(&self.begin, table, "begin")?,
-            number_entry(&self.count, mark.count)?,
-            entry(&self.current, current)?,
-            given_entry(&self.end, table, "end")?,
-            entry(&self.first, Value::Bool(mark.count == 1))?,
-            number_entry(&self.index, mark.index)?,
-            entry(&self.last, Value::Bool(mark.is_last))?,
-            given_entry(&self.step, table, "step")?,
-        ]?;
-        Ok(entries)
+        Statuses {
+            values,
+            shown: None,
+            spare: None,
+        }
     }
 
-    /// The status of a round, as a record. A place or a count past the largest number is answered
-    /// as want of memory: no contract ties them to the visits of a request, of which there are far
-    /// fewer.
-    pub fn record(
-        &self,
-        alloc: Global,
-        table: &[(Text, Value)],
-        mark: &Mark,
-        current: Value,
-    ) -> Result<Value, AllocError>
-        ensures { IfOk result (λ made. datum_of made ≡ status_record (map entry_of table.now)
-            (round_at mark.now) (datum_of current)) }
+    /// The status of a round with this item, as a record. A place or a count past the largest
+    /// number is answered as want of memory: no contract ties them to the visits of a request, of
+    /// which there are far fewer.
+    pub fn status(&mut self, mark: &Mark, current: Value) -> Result<Value, AllocError>
+        ensures status { IfOk result (λ made. datum_of made ≡ status_record self.old (round_at mark.now)
+            (datum_of current)) }
+        ensures same { self.new ≡ self.old }
     {
-        let entries = self.entries(alloc, table, mark, current)?;
-        record(Attrs::new(entries))
+        let status = with_round(self.take_spare()?, mark, current)?;
+        let shown = status.copy()?;
+        self.spare = self.shown.replace(status);
+        Ok(Value::Rec(shown))
+    }
+
+    // A status to be set for a round: the spare one, or a new one.
+    fn take_spare(&mut self) -> Result<Record, AllocError>
+        ensures status { IfOk result (λ status. IsStatusOf self.old status) }
+        ensures same { self.new ≡ self.old }
+    {
+        if let Some(spare) = self.spare.take() {
+            return Ok(spare);
+        }
+        blank(*self.values.allocator(), &self.values)
     }
 }
 
-// An entry under this key.
-#[inline(always)]
-fn entry(key: &Text, value: Value) -> Result<(Text, Value), AllocError>
-    ensures { IfOk result (λ made. entry_of made ≡ (key.now, datum_of value)) }
+// The status of no round, of which a status of each round can be made.
+fn blank(alloc: Global, table: &[(Text, Value)]) -> Result<Record, AllocError>
+    ensures { IfOk result (λ made. IsStatusOf (map entry_of table.now) made) }
 {
-    Ok((key.copy()?, value))
+    Record::new(Attrs::new(blank_entries(alloc, table)?))
 }
 
-// A copy of a value under this key.
-#[inline(always)]
-fn copied_entry(key: &Text, value: &Value) -> Result<(Text, Value), AllocError>
-    ensures { IfOk result (λ made. entry_of made ≡ (key.now, datum_of value.now)) }
+// Its entries, in the order of their keys.
+fn blank_entries(alloc: Global, table: &[(Text, Value)]) -> Result<Vec<(Text, Value)>, AllocError>
+    ensures { IfOk result (λ made. map entry_of made.items ≡ status_entries (map entry_of table.now) no_round null) }
 {
-    entry(key, value.copy()?)
+    let entries = vec![in alloc;
+        given_entry(alloc, "begin", table)?,
+        entry(alloc, "count", Value::Int(0))?,
+        entry(alloc, "current", Value::Null)?,
+        given_entry(alloc, "end", table)?,
+        entry(alloc, "first", Value::Bool(false))?,
+        entry(alloc, "index", Value::Int(0))?,
+        entry(alloc, "last", Value::Bool(false))?,
+        given_entry(alloc, "step", table)?,
+    ]?;
+    Ok(entries)
 }
 
-// A place or a count under this key. One past the largest number is answered as want of memory.
-#[inline(always)]
-fn number_entry(key: &Text, count: u64) -> Result<(Text, Value), AllocError>
-    ensures { IfOk result (λ made. entry_of made ≡ (key.now, number (pos count))) }
+// A value under a name.
+fn entry(alloc: Global, name: &str, value: Value) -> Result<(Text, Value), AllocError>
+    ensures { IfOk result (λ made. entry_of made ≡ (name.now, datum_of value)) }
+{
+    Ok((Text::copy_of(alloc, name)?, value))
+}
+
+// The value of a name in the table, or null, under it.
+fn given_entry(
+    alloc: Global,
+    name: &str,
+    table: &[(Text, Value)],
+) -> Result<(Text, Value), AllocError>
+    ensures { IfOk result (λ made. entry_of made ≡ (name.now, or_null (value_at name.now (map entry_of table.now)))) }
+{
+    match value_at(table, name) {
+        Some(value) => entry(alloc, name, value.copy()?),
+        None => entry(alloc, name, Value::Null),
+    }
+}
+
+// The status of a round, made of that of another round of the same loop.
+fn with_round(status: Record, mark: &Mark, current: Value) -> Result<Record, AllocError>
+    requires { (vs : Values) × IsStatusOf vs status }
+    ensures { IfOk result (λ made. (vs : Values) → IsStatusOf vs status → made
+        ≡ status_entries vs (round_at mark.now) (datum_of current)) }
+{
+    let count = number(mark.count)?;
+    let index = number(mark.index)?;
+    let mut entries = status.into_attrs()?.into_vec();
+    set(&mut entries, COUNT, count);
+    set(&mut entries, CURRENT, current);
+    set(&mut entries, FIRST, Value::Bool(mark.count == 1));
+    set(&mut entries, INDEX, index);
+    set(&mut entries, LAST, Value::Bool(mark.is_last));
+    Record::new(Attrs::new(entries))
+}
+
+// Puts a value in the place of the one at this place.
+fn set(entries: &mut Vec<(Text, Value)>, at: usize, value: Value)
+    requires { at < length (map entry_of entries.old.items) }
+    ensures { map entry_of entries.new.items ≡ with_value_at (map entry_of entries.old.items) at (datum_of value) }
+{
+    entries[at].1 = value;
+}
+
+// A place or a count as a value. One past the largest number is answered as want of memory.
+fn number(count: u64) -> Result<Value, AllocError>
+    ensures { IfOk result (λ made. datum_of made ≡ number (pos count)) }
 {
     if count > i64::MAX as u64 {
         return Err(AllocError);
     }
-    entry(key, Value::Int(count as i64))
-}
-
-// The value of a name, or null, under this key.
-#[inline(always)]
-fn given_entry(key: &Text, table: &[(Text, Value)], name: &str) -> Result<(Text, Value), AllocError>
-    ensures { IfOk result (λ made. entry_of made ≡ (key.now, or_null (value_at name.now (map entry_of table.now)))) }
-{
-    match value_at(table, name) {
-        Some(value) => copied_entry(key, value),
-        None => entry(key, Value::Null),
-    }
+    Ok(Value::Int(count as i64))
 }

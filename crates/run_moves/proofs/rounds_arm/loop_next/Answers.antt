@@ -1,5 +1,6 @@
 use Rattle.std.proofs.Common.{◌≡◌, ◌∙◌, ◌∷◌, ◌+◌, ◌-◌, [], ap, subst, sym}
 use Rattle.run_moves.specs.Acted.{Acted}
+use Rattle.run_moves.specs.Landing.{failing}
 use Rattle.run_moves.specs.Loops.{advanced, loop_of}
 use Rattle.run_moves.specs.Opened.{open_of}
 use Rattle.run_moves.specs.declared.flow.Flow.TheVariants as flows
@@ -21,16 +22,22 @@ returns-in-Ok-clause-acted g c =
     let outer = c.in-Some.ensures.0 in
     let next = c.in-Some-next.ensures in
     let left : c.advance.new.self ≡ record loop { rounds = next.1 } ∷ outer =
-    c.advance.ensures ∙ ap advanced c.in-Some.ensures.1 ∙ ap (λ rs. record loop { rounds = behind_round rs } ∷ outer) next.2 in
+    c.advance.ensures ∙ ap advanced (c.begin_round.ensures.same ∙ c.in-Some.ensures.1) ∙ ap (λ rs. record loop { rounds = behind_round rs } ∷ outer) next.2 in
     subst
     (λ ls. Acted g.W.World.reached g.W.World.replies (Nexts c.args.place.now (c.args.pc - c.args.size) (c.args.pc + 1) o loop outer) c.args.world.now c.begin_round.new.world (record o { loops = ls })
     (flows.Go (c.args.pc - c.args.size)))
     (sym left)
     (next_well c.args.place.now (c.args.pc - c.args.size) (c.args.pc + 1) o loop outer c.in-Some.ensures.1 next.0 next.1 c.args.world.now c.begin_round.new.world next.2
-    (c.in-Ok.ensures.does next.0 next.1 next.2 next.3 next.4 next.5))
+    (c.in-Ok.ensures.does loop outer next.0 next.1 c.in-Some.ensures.1 next.2 next.3 next.4 next.5))
 
 pub returns-in-Err-clause-acted : goal.returns-in-Err-clause-acted
 returns-in-Err-clause-acted g c =
+    let o = open_of c.args.open.now in
+    let loop = loop_of c.in-Some.innermost.now in
+    let outer = c.in-Some.ensures.0 in
     let next = c.in-Some-next.ensures in
-    next_failed c.args.place.now (c.args.pc - c.args.size) (c.args.pc + 1) (open_of c.args.open.now) (loop_of c.in-Some.innermost.now) c.in-Some.ensures.0 c.in-Some.ensures.1 next.0 next.1 c.args.world.now
-    c.begin_round.new.world c.fail.new.world c.in-Err.failed (open_of c.fail.new.open) c.fail.result next.2 (c.in-Err.ensures.does next.0 next.1 next.2 next.3 next.4 next.5) c.fail.ensures.acted c.fail.ensures.short
+    let acted = subst
+    (λ ls. Acted g.W.World.reached g.W.World.replies (failing c.args.place.now (record o { loops = ls }) c.in-Err.failed) c.begin_round.new.world c.fail.new.world (open_of c.fail.new.open) c.fail.result)
+    c.begin_round.ensures.same c.fail.ensures.acted in
+    next_failed c.args.place.now (c.args.pc - c.args.size) (c.args.pc + 1) o loop outer c.in-Some.ensures.1 next.0 next.1 c.args.world.now c.begin_round.new.world c.fail.new.world c.in-Err.failed
+    (open_of c.fail.new.open) c.fail.result next.2 (c.in-Err.ensures.does loop outer next.0 next.1 c.in-Some.ensures.1 next.2 next.3 next.4 next.5) acted c.fail.ensures.short

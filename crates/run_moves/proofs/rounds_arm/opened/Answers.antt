@@ -38,13 +38,10 @@ returns-in_err-copied c = answers_short loop_of (expected c.args.kind.now c.args
 pub returns-in_err-copied-2 : goal.returns-in_err-copied-2
 returns-in_err-copied-2 c = answers_short loop_of (expected c.args.kind.now c.args.open.now.stack) c.from_residual-in_err-copied-2.result c.from_residual-in_err-copied-2.ensures.1
 
-pub returns-in_err-keys_for : goal.returns-in_err-keys_for
-returns-in_err-keys_for c = answers_short loop_of (expected c.args.kind.now c.args.open.now.stack) c.from_residual-in_err-keys_for.result c.from_residual-in_err-keys_for.ensures.1
-
 pub returns : goal.returns
 returns c =
     let names = c.args.kind.now.names in
     let taken : map datum_of c.top.result.now ≡ reverse (take (length names) (open_of c.args.open.now).stack) = c.top.ensures ∙ ap (λ n. reverse (take n (open_of c.args.open.now).stack)) c.len.ensures in
-    let same = c.in_ok-values.ensures ∙ ap (λ xs. table_of xs (map datum_of c.top.result.now)) c.as_slice.ensures ∙ ap (table_of names) taken in
-    loop_made c.args.kind.now (table_of names (reverse (take (length names) (open_of c.args.open.now).stack))) (map entry_of c.in_ok-values.values.items) same c.in_ok-copied.field-0 c.in_ok-copied-2.field-0 c.in_ok-rounds.rounds
-    (ap (λ xs. loop_rounds c.args.kind.now.over (map entry_of xs)) (sym c.deref.ensures.value) ∙ c.in_ok-rounds.ensures) c.in_ok-copied.ensures c.in_ok-copied-2.ensures
+    let same = c.new.ensures ∙ c.in_ok-values.ensures ∙ ap (λ xs. table_of xs (map datum_of c.top.result.now)) c.as_slice.ensures ∙ ap (table_of names) taken in
+    loop_made c.args.kind.now (table_of names (reverse (take (length names) (open_of c.args.open.now).stack))) c.new.result same c.in_ok-copied.field-0 c.in_ok-copied-2.field-0 c.in_ok-rounds.rounds
+    (ap (loop_rounds c.args.kind.now.over) c.new.ensures ∙ ap (λ xs. loop_rounds c.args.kind.now.over (map entry_of xs)) (sym c.deref.ensures.value) ∙ c.in_ok-rounds.ensures) c.in_ok-copied.ensures c.in_ok-copied-2.ensures
