@@ -1,33 +1,19 @@
 -- The entries of a status are in order, and of those of one round those of another round of the same loop are made.
-use Rattle.std.proofs.Common.{◌≡◌, ℕ, zero, suc, pos, List, [], ◌∷◌, length, get_or, set, map, Option, Some, Result, Ok, Err, IfOk, refl, sym, ap, ◌∙◌, subst}
+use Rattle.std.proofs.Common.{◌≡◌, ℕ, zero, suc, pos, List, [], ◌∷◌, get_or, length, map, Option, Some, Result, Ok, Err, IfOk, refl, sym, ap, ◌∙◌, subst}
 use Rattle.std.specs.Prelude.{◌==◌}
 use Rattle.page_meaning.specs.Attributes.{Values}
 use Rattle.page_meaning.specs.Rounds.{Round}
 use Rattle.pg_value.proofs.Gathered.{AreInOrder-of_entries}
-use Rattle.pg_value.specs.Attrs.{AreInOrder}
+use Rattle.pg_value.proofs.Placed.{length-with_value_at}
+use Rattle.pg_value.specs.Attrs.{AreInOrder, with_value_at}
 use Rattle.pg_value.specs.Datum.{Datum, number, truth}
 use Rattle.pg_value.specs.Value.{datum_of, entry_of}
 use Rattle.pg_value.specs.declared.value.Value.{Value}
-use Rattle.run_values.specs.Rounds.{IfStatusOf, IsStatusOf, status_entries, with_value_at}
+use Rattle.run_values.specs.Rounds.{IfStatusOf, IsStatusOf, status_entries}
 use Rattle.scopes.specs.Scopes.{Entries}
 
 pub status_in_order : (es : Entries) (vs : Values) (r : Round) (current : Datum) → es ≡ status_entries vs r current → AreInOrder es
 status_in_order es vs r current is = subst AreInOrder (sym is) (AreInOrder-of_entries (status_entries vs r current))
-
--- a value at a place is seen as a datum there
-pub seen_at : (es : List (List ℕ × Value)) (at : ℕ) (d : List ℕ × Value) (v : Value) → map entry_of (set es at ((get_or es at d).0, v)) ≡ with_value_at (map entry_of es) at (datum_of v)
-seen_at [] at d v = refl
-seen_at (e ∷ es) zero d v = refl
-seen_at (e ∷ es) (suc at) d v = ap (λ more. entry_of e ∷ more) (seen_at es at d v)
-
-pub seen_length : (es : List (List ℕ × Value)) → length (map entry_of es) ≡ length es
-seen_length [] = refl
-seen_length (e ∷ es) = ap suc (seen_length es)
-
-length-with_value_at : (es : Values) (at : ℕ) (d : Datum) → length (with_value_at es at d) ≡ length es
-length-with_value_at [] at d = refl
-length-with_value_at (e ∷ es) zero d = refl
-length-with_value_at (e ∷ es) (suc at) d = ap suc (length-with_value_at es at d)
 
 -- how many entries there are
 pub status_length : (vs es : Values) → IsStatusOf vs es → length es ≡ 8
@@ -35,6 +21,12 @@ status_length vs es h = ap length h.is
 
 pub kept_length : (es new : Values) (at : ℕ) (d : Datum) → new ≡ with_value_at es at d → length es ≡ 8 → length new ≡ 8
 kept_length es new at d is h = ap length is ∙ length-with_value_at es at d ∙ h
+
+-- a value that stands at a place already
+pub stands : (es : List (List ℕ × Value)) (at : ℕ) (e : List ℕ × Value) (d : Datum) → datum_of (get_or es at e).1 ≡ d → map entry_of es ≡ with_value_at (map entry_of es) at d
+stands [] at e d is = refl
+stands (x ∷ es) zero e d is = ap (λ v. (x.0, v) ∷ map entry_of es) is
+stands (x ∷ es) (suc at) e d is = ap (λ more. entry_of x ∷ more) (stands es at e d is)
 
 -- with what tells a round apart put in its places
 abbrev with_round : Values → Round → Datum → Values

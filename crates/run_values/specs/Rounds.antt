@@ -1,5 +1,5 @@
 -- What the rounds of a loop go over, in the words of the meaning.
-use Rattle.std.specs.Prelude.{◌≡◌, ℕ, zero, suc, ◌==◌, pos, ◌^◌, Bool, false, List, [], ◌∷◌, map, Option, Some, None, Result, Ok, codes, ⊤}
+use Rattle.std.specs.Prelude.{◌≡◌, ℕ, ◌==◌, pos, ◌^◌, Bool, false, List, [], ◌∷◌, map, Option, Some, None, Result, Ok, codes, ⊤}
 use Rattle.el_ops.specs.Indexing.{or_null}
 use Rattle.jstl_functions.specs.Functions.{measured}
 use Rattle.jstl_functions.specs.Texts.{tokens}
@@ -60,12 +60,6 @@ pub record IsStatusOf (vs es : Values) : Type 0 where
 abbrev pub IfStatusOf : Values → Option Values → Type 0
 IfStatusOf vs None = ⊤
 IfStatusOf vs (Some es) = IsStatusOf vs es
-
--- entries with the datum at a place, under the key that stands there
-abbrev pub with_value_at : Values → ℕ → Datum → Values
-with_value_at [] at d = []
-with_value_at (e ∷ es) zero d = (e.0, d) ∷ es
-with_value_at (e ∷ es) (suc at) d = e ∷ with_value_at es at d
 
 -- what the rounds of a loop go over, by its values: X7
 abbrev pub items_answer : Over → Values → Result (Option (List (Result Datum RunFault))) RunFault

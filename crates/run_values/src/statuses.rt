@@ -1,10 +1,12 @@
-ghost use Rattle.std.specs.Prelude.{◌≡◌, ◌<◌, length, map, pos, IfOk};
+ghost use Rattle.std.specs.Prelude.{◌≡◌, ◌<◌, length, map, pos, IfOk, OnOk, OnErr};
 ghost use Rattle.el_ops.specs.Indexing.{or_null};
 ghost use Rattle.page_meaning.specs.Attributes.{Values, value_at};
 ghost use Rattle.page_meaning.specs.Rounds.{status_record};
-ghost use Rattle.pg_value.specs.Datum.{number, null};
+ghost use Rattle.pg_value.specs.Attrs.{with_value_at};
+ghost use Rattle.pg_value.specs.Datum.{number, null, truth};
+ghost use Rattle.pg_value.specs.Equality.{is_same};
 ghost use Rattle.pg_value.specs.Value.{datum_of, entry_of};
-ghost use Rattle.run_values.specs.Rounds.{IsStatusOf, no_round, round_at, status_entries, with_value_at};
+ghost use Rattle.run_values.specs.Rounds.{IsStatusOf, no_round, round_at, status_entries};
 
 use crate::loop_values::value_at;
 use crate::rounds::Mark;
@@ -138,28 +140,36 @@ fn given_entry(
 }
 
 // The status of a round, made of that of another round of the same loop.
-fn with_round(status: Record, mark: &Mark, current: Value) -> Result<Record, AllocError>
+fn with_round(mut status: Record, mark: &Mark, current: Value) -> Result<Record, AllocError>
     requires { (vs : Values) × IsStatusOf vs status }
     ensures { IfOk result (λ made. (vs : Values) → IsStatusOf vs status → made
         ≡ status_entries vs (round_at mark.now) (datum_of current)) }
 {
-    let count = number(mark.count)?;
-    let index = number(mark.index)?;
-    let mut entries = status.into_attrs()?.into_vec();
-    set(&mut entries, COUNT, count);
-    set(&mut entries, CURRENT, current);
-    set(&mut entries, FIRST, Value::Bool(mark.count == 1));
-    set(&mut entries, INDEX, index);
-    set(&mut entries, LAST, Value::Bool(mark.is_last));
-    Record::new(Attrs::new(entries))
+    status.set_at(COUNT, number(mark.count)?)?;
+    status.set_at(CURRENT, current)?;
+    set_truth(&mut status, FIRST, mark.count == 1)?;
+    status.set_at(INDEX, number(mark.index)?)?;
+    set_truth(&mut status, LAST, mark.is_last)?;
+    Ok(status)
 }
 
-// Puts a value in the place of the one at this place.
-fn set(entries: &mut Vec<(Text, Value)>, at: usize, value: Value)
-    requires { at < length (map entry_of entries.old.items) }
-    ensures { map entry_of entries.new.items ≡ with_value_at (map entry_of entries.old.items) at (datum_of value) }
+// Puts a truth value at its place, where another value stands there.
+fn set_truth(status: &mut Record, at: usize, holds: bool) -> Result<(), AllocError>
+    requires { at < length status.old }
+    ensures ok { OnOk result (status.new ≡ with_value_at status.old at (truth holds)) }
+    ensures err { OnErr result (status.new ≡ status.old) }
 {
-    entries[at].1 = value;
+    if is_truth(&status.as_slice()[at].1, holds) {
+        return Ok(());
+    }
+    status.set_at(at, Value::Bool(holds))
+}
+
+// Whether a value is this truth value.
+fn is_truth(value: &Value, holds: bool) -> bool
+    ensures { result ≡ is_same (datum_of value.now) (truth holds) }
+{
+    matches!(value, Value::Bool(old) if *old == holds)
 }
 
 // A place or a count as a value. One past the largest number is answered as want of memory.

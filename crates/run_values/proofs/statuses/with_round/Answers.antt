@@ -1,49 +1,35 @@
-use Rattle.std.proofs.Common.{◌≡◌, ◌∙◌, ap, arith, length, subst, sym}
-use Rattle.page_meaning.specs.Attributes.{Values}
+use Rattle.std.proofs.Common.{arith}
 use Rattle.pg_value.specs.Value.{datum_of}
-use Rattle.run_values.proofs.StatusLemmas.{if_made, kept_length, set_round, status_in_order, status_length}
+use Rattle.run_values.proofs.StatusLemmas.{kept_length, set_round, status_length}
 use Rattle.run_values.proofs.statuses.with_round.Goals as goal
-use Rattle.run_values.specs.Rounds.{IsStatusOf, round_at, status_entries}
+use Rattle.run_values.specs.Rounds.{round_at}
 
-pub set-requires : goal.set-requires
-set-requires c =
-    let n = ap length (c.into_vec-entries.ensures.entries ∙ c.in_ok-into_attrs.ensures) ∙ status_length c.requires.0 c.args.status c.requires.1 in
+pub set_at-requires : goal.set_at-requires
+set_at-requires c =
+    let n = status_length c.requires.0 c.args.status c.requires.1 in
     omega (arith, n)
 
-pub set-requires-2 : goal.set-requires-2
-set-requires-2 c =
-    let n = ap length (c.into_vec-entries.ensures.entries ∙ c.in_ok-into_attrs.ensures) ∙ status_length c.requires.0 c.args.status c.requires.1 in
-    let n1 = kept_length _ _ _ _ c.set.ensures n in
-    omega (arith, n1)
+pub set_at-requires-2 : goal.set_at-requires-2
+set_at-requires-2 c =
+    let n = kept_length _ _ _ _ c.in_ok-set_at.ensures.ok (status_length c.requires.0 c.args.status c.requires.1) in
+    omega (arith, n)
 
-pub set-requires-3 : goal.set-requires-3
-set-requires-3 c =
-    let n = ap length (c.into_vec-entries.ensures.entries ∙ c.in_ok-into_attrs.ensures) ∙ status_length c.requires.0 c.args.status c.requires.1 in
-    let n2 = kept_length _ _ _ _ c.set-2.ensures (kept_length _ _ _ _ c.set.ensures n) in
-    omega (arith, n2)
+pub set_truth-requires : goal.set_truth-requires
+set_truth-requires c =
+    let n = kept_length _ _ _ _ c.in_ok-set_at-2.ensures.ok (kept_length _ _ _ _ c.in_ok-set_at.ensures.ok (status_length c.requires.0 c.args.status c.requires.1)) in
+    omega (arith, n)
 
-pub set-requires-4 : goal.set-requires-4
-set-requires-4 c =
-    let n = ap length (c.into_vec-entries.ensures.entries ∙ c.in_ok-into_attrs.ensures) ∙ status_length c.requires.0 c.args.status c.requires.1 in
-    let n3 = kept_length _ _ _ _ c.set-3.ensures (kept_length _ _ _ _ c.set-2.ensures (kept_length _ _ _ _ c.set.ensures n)) in
-    omega (arith, n3)
+pub set_at-requires-3 : goal.set_at-requires-3
+set_at-requires-3 c =
+    let n = kept_length _ _ _ _ c.in_ok-set_truth.ensures.ok (kept_length _ _ _ _ c.in_ok-set_at-2.ensures.ok (kept_length _ _ _ _ c.in_ok-set_at.ensures.ok (status_length c.requires.0 c.args.status c.requires.1))) in
+    omega (arith, n)
 
-pub set-requires-5 : goal.set-requires-5
-set-requires-5 c =
-    let n = ap length (c.into_vec-entries.ensures.entries ∙ c.in_ok-into_attrs.ensures) ∙ status_length c.requires.0 c.args.status c.requires.1 in
-    let n4 = kept_length _ _ _ _ c.set-4.ensures (kept_length _ _ _ _ c.set-3.ensures (kept_length _ _ _ _ c.set-2.ensures (kept_length _ _ _ _ c.set.ensures n))) in
-    omega (arith, n4)
-
-pub new-requires : goal.new-requires
-new-requires c =
-    let was = subst (IsStatusOf c.requires.0) (sym (c.into_vec-entries.ensures.entries ∙ c.in_ok-into_attrs.ensures)) c.requires.1 in
-    status_in_order _ c.requires.0 (round_at c.args.mark.now) (datum_of c.args.current)
-    (set_round c.requires.0 (round_at c.args.mark.now) _ _ _ _ _ _ _ _ _ was c.in_ok-count.ensures c.in_ok-index.ensures c.set.ensures c.set-2.ensures c.set-3.ensures c.set-4.ensures c.set-5.ensures)
+pub set_truth-requires-2 : goal.set_truth-requires-2
+set_truth-requires-2 c =
+    let n = kept_length _ _ _ _ c.in_ok-set_at-3.ensures.ok (kept_length _ _ _ _ c.in_ok-set_truth.ensures.ok (kept_length _ _ _ _ c.in_ok-set_at-2.ensures.ok (kept_length _ _ _ _ c.in_ok-set_at.ensures.ok (status_length c.requires.0 c.args.status c.requires.1)))) in
+    omega (arith, n)
 
 pub returns : goal.returns
-returns c =
-    if_made c.new-2.result c.new.result (λ m. (vs : Values) → IsStatusOf vs c.args.status → m ≡ status_entries vs (round_at c.args.mark.now) (datum_of c.args.current)) c.new-2.ensures
-    (λ vs h.
-    let was = subst (IsStatusOf vs) (sym (c.into_vec-entries.ensures.entries ∙ c.in_ok-into_attrs.ensures)) h in
-    c.new.ensures
-    ∙ set_round vs (round_at c.args.mark.now) _ _ _ _ _ _ _ _ _ was c.in_ok-count.ensures c.in_ok-index.ensures c.set.ensures c.set-2.ensures c.set-3.ensures c.set-4.ensures c.set-5.ensures)
+returns c = λ vs h.
+    set_round vs (round_at c.args.mark.now) (datum_of c.args.current) (datum_of c.in_ok-number.field-0) (datum_of c.in_ok-number-2.field-0) _ _ _ _ _ _ h c.in_ok-number.ensures c.in_ok-number-2.ensures c.in_ok-set_at.ensures.ok
+    c.in_ok-set_at-2.ensures.ok c.in_ok-set_truth.ensures.ok c.in_ok-set_at-3.ensures.ok c.in_ok-set_truth-2.ensures.ok
