@@ -1,4 +1,4 @@
-// The acts of core tags.
+// The acts of core tags. In contracts `parts_view` is what the parts are in the meaning of pages.
 #![tactic(auto, using(page_acts::proofs::Rows::rows))]
 
 ghost use Rattle.std.specs.Prelude.{◌≡◌, codes, map, IfOk};
@@ -118,7 +118,7 @@ fn when_true<'u>(alloc: Global, action: &'u Action, parts: Parts<'u>) -> Result<
     })
 }
 
-// `c:choose`.
+// `c:choose`: its branches, which were read from its `c:when` and `c:otherwise` before.
 fn choose<'u>(action: &'u Action, parts: Parts<'u>) -> Act<'u>
     ensures { act_of result ≡ page.choose (parts_view parts.entry).content.branches action.now.place }
 {

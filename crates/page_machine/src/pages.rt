@@ -1,4 +1,5 @@
-// Includes and imports of other pages.
+// Includes and imports of other pages. In contracts `Changes` says what became of the response's
+// state, and `covered` that the request's promise still covers all that it may ask of the site.
 ghost use Rattle.std.specs.Prelude.{◌≡◌, ◌+◌, ◌<◌, ◌≤◌, ◌^◌, Err, OnErr, OnOk, ◌&&◌, codes, is_none, length, map, not};
 ghost use Rattle.jstl_functions.specs.Texts.{contains_part};
 ghost use Rattle.page_code.specs.Ops.{address_with};
@@ -65,7 +66,7 @@ fn import_target(alloc: Global, seat: &Seat, values: &[Value]) -> Result<Target,
     find_target(alloc, seat, values)
 }
 
-// Commits what is buffered, where that is asked.
+// Commits what is buffered, where that is asked. Where memory is wanting, the state is as before.
 fn flush_if<W: World>(flush: bool, world: &mut W) -> Result<(), AllocError>
     requires covered { W.covered world.old }
     ensures covered { W.covered world.new }

@@ -19,8 +19,9 @@
 //! no such list. `pages check PATH` reads the text of a page, and writes `ok` or the line of its
 //! fault: status 0 or 6. `pages load N` talks with a generated site of N pages in memory, and
 //! writes five numbers of that. `pages --help` says how the commands are called, and `pages
-//! --version` which version this is. For other words the status is 1, and how each is called goes to standard error; where reading or
-//! writing failed the status is 3 and 4, and where memory was wanting 5.
+//! --version` which version this is. For other words the status is 1, and how each is called goes
+//! to standard error; where reading or writing failed the status is 3 and 4, and where memory was
+//! wanting 5.
 #![tactic(auto)]
 
 ghost use Rattle.std.specs.Prelude.{◌≡◌, ◌≢◌, ◌<◌, None, map, string_bytes};
@@ -69,7 +70,8 @@ fn is_alone(words: &[String], name: &str) -> bool {
     words.len() == 1 && first(words) == name
 }
 
-// Says on standard output how the commands are called, and answers the status.
+// Writes the help to standard output, and answers the status: 4 where that failed, 5 where memory
+// was wanting.
 fn shown(rt: &HostRuntime) -> u8 {
     let Ok(text) = help(rt.alloc()) else {
         return 5;

@@ -49,7 +49,8 @@ pub(crate) fn own_site(
     Ok((solo(site), cookie))
 }
 
-// The opening of the site.
+// The opening of the preview's own site: its tree, under the version after the picture's, and of
+// the live site what the picture holds. A version must be below 2^63 for an opening to be sound.
 fn own_opening(alloc: Global, snapped: Snapped, tree: Tree) -> Result<Opening, AllocError>
     requires version { snapped.version + 1 < 2 ^ 63 }
     ensures { IfOk result (λ opening. opening ≡ own_opening tree (picture_in snapped)) }

@@ -52,7 +52,8 @@ fn enter_tag(
     Ok((Faults::none(), Some(tag)))
 }
 
-// Counts a tag file that was not read.
+// Counts a tag file that was not read yet, and reads it where the unit stays within its limits;
+// or else refuses it, with TooLarge only where it is the first to pass one.
 fn count_tag(
     alloc: Global,
     path: &Path,
