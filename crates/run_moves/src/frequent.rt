@@ -16,7 +16,7 @@ ghost use Rattle.run_world.specs.Seats.{seat_of};
 
 use crate::open::{Open, Stack};
 use el_ops::{binary, index, unary};
-use page_code::{Coercion, Op};
+use page_code::{Coercion, Name, Op};
 use pg_text::Failure;
 use pg_value::{BinOp, RunFault, UnOp, Value};
 use run_parts::{count_visits, find, put_escaped};
@@ -66,10 +66,7 @@ pub fn quick<W: World>(
     match op {
         Op::Write(text) => world.put(text.as_str()),
         Op::Visit(count) => count_visits(*count, world),
-        Op::Find(name) => {
-            let found = find(seat.is_strict(), name, world);
-            push_made(found, &mut open.stack)
-        }
+        Op::Find(name) => find_top(seat, name, open, world),
         Op::Put => put_top(open, world),
         Op::PutEscaped => put_escaped_top(alloc, open, world),
         Op::Const(value) => push_copy(value, &mut open.stack),
@@ -79,6 +76,25 @@ pub fn quick<W: World>(
         Op::Binary(op) => binary_top(alloc, *op, &mut open.stack),
         _ => unreachable!(),
     }
+}
+
+// Pushes the value of a variable.
+#[inline(always)]
+fn find_top<W: World>(
+    seat: &Seat,
+    name: &Name,
+    open: &mut Open,
+    world: &mut W,
+) -> Result<(), Failure<RunFault>>
+    requires covered { W.covered world.old }
+    ensures covered { W.covered world.new }
+    ensures lands { (serving : Serving) →
+        LandsSo W.reached W.replies (λ place pc s. act serving (seat_of seat.now) place pc s (open_of open.old)
+        (instr.Op (ops.Find name.now))) world.old world.new (open_of open.new) result }
+    ensures left { open.new.left ≡ open.old.left }
+{
+    let found = find(seat.is_strict(), name, world);
+    push_made(found, &mut open.stack)
 }
 
 // Writes the text on top.

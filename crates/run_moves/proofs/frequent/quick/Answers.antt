@@ -1,15 +1,12 @@
-use Rattle.std.proofs.Common.{Bool, List, [], ap, refl, subst, sym, ℕ}
+use Rattle.std.proofs.Common.{List, [], ap, refl, subst, sym, ℕ}
 use Rattle.page_code.specs.Ops.{takes}
 use Rattle.page_code.specs.declared.op.Op.TheVariants as op
 use Rattle.page_meaning.specs.Bodies.{put_text}
-use Rattle.page_meaning.specs.Expressions.{variable_or_step}
-use Rattle.pg_value.specs.Value.{datum_of}
-use Rattle.run_moves.proofs.QuickExits.{done_lands, lands_as, made_lands, value_lands}
+use Rattle.run_moves.proofs.QuickExits.{done_lands, lands_as, made_lands}
 use Rattle.run_moves.proofs.frequent.quick.Goals as goal
 use Rattle.run_moves.specs.Opened.{open_of}
 use Rattle.run_world.specs.Part.{Doing}
 use Rattle.run_world.specs.Seats.{seat_of}
-use Rattle.scopes.specs.Scopes.{found}
 
 pub returns-in-Write-clause-lands : goal.returns-in-Write-clause-lands
 returns-in-Write-clause-lands g c = λ serving.
@@ -24,10 +21,8 @@ returns-in-Visit-clause-lands g c = λ serving.
 
 pub returns-in-Find-clause-lands : goal.returns-in-Find-clause-lands
 returns-in-Find-clause-lands g c = λ serving.
-    value_lands serving (seat_of c.args.seat.now) (open_of c.args.open.now) c.args.op.now (op.Find c.in-Find.name) 0 [] (open_of c.args.open.now).stack c.requires.filled
-    (sym (ap takes c.in-Find.is)) refl refl c.in-Find.is c.args.world.now c.find-found.new.world c.find-found.result c.push_made.result c.push_made.new.stack (λ place s. refl)
-    (subst (λ (b : Bool). Doing g.W.World.reached g.W.World.replies datum_of (λ place s. variable_or_step b place c.in-Find.name (found s.scopes c.in-Find.name) s) c.args.world.now c.find-found.new.world c.find-found.result) c.is_strict.ensures c.find-found.ensures.does)
-    c.push_made.ensures
+    lands_as serving (seat_of c.args.seat.now) (open_of c.args.open.now) c.args.op.now (op.Find c.in-Find.name) c.args.world.now c.find_top.new.world (open_of c.find_top.new.open) c.find_top.result c.in-Find.is
+    (c.find_top.ensures.lands serving)
 
 pub returns-in-Put-clause-lands : goal.returns-in-Put-clause-lands
 returns-in-Put-clause-lands g c = λ serving.
