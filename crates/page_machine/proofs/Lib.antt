@@ -1,6 +1,7 @@
 pub mod CallExits
 pub mod Calling
 pub mod Entering
+pub mod Frequent
 pub mod GivenCalls
 pub mod GivenRuns
 pub mod IncludedRuns

@@ -1,6 +1,6 @@
 -- A turn keeps what the loop of a run stands on.
-use Rattle.std.proofs.Common.{◌≡◌, ◌≤◌, ◌<◌, ◌+◌, ◌-◌, ◌*◌, ◌^◌, ℕ, Bool, List, [], ◌∷◌, ◌++◌, length, refl, sym, ap, ◌∙◌, subst, append-nil, arith}
-use Rattle.std.specs.Prelude.{Option, Some, None, slice_get}
+use Rattle.std.proofs.Common.{◌≡◌, ◌≤◌, ◌<◌, ◌+◌, ◌-◌, ◌*◌, ℕ, Bool, List, [], ◌++◌, length, refl, sym, ap, ◌∙◌, subst, append-nil, arith}
+use Rattle.std.specs.Prelude.{Some, slice_get}
 use Rattle.out_buffer.specs.Writer.{has_committed}
 use Rattle.page_code.specs.declared.code.Cell.{Cell}
 use Rattle.page_code.specs.declared.call.CallOut.{CallOut}
@@ -13,12 +13,13 @@ use Rattle.run_world.specs.Known.{ServesSo, Known}
 use Rattle.run_world.specs.Origin.{Origin}
 use Rattle.run_world.specs.Part.{given}
 use Rattle.run_moves.specs.Simple.{IsSimple}
-use Rattle.page_machine.specs.Turn.{CallBegins, MoveLeads, Turns, Stepped, Standing, SeatHolds}
+use Rattle.page_machine.specs.Turn.{CallBegins, CodeRuns, Ran, Turns, Stepped, Standing, SeatHolds}
+use Rattle.run_moves.specs.declared.flow.End.{End}
 use Rattle.run_moves.specs.declared.flow.Flow.{Flow}
 use Rattle.run_moves.specs.declared.flow.Flow.TheVariants as flows
 use Rattle.run_world.specs.declared.served.Served as machine_served
-use Rattle.run_world.proofs.Knowing.{known_on}
-use Rattle.page_machine.proofs.Turning.{Leads, leads_here, SoFar, turned_from}
+use Rattle.run_world.proofs.Knowing.{known_on, serves_on}
+use Rattle.page_machine.proofs.Turning.{Leads, leads_here, SoFar, so_far_on, so_far_over, turned_from}
 use Rattle.page_meaning.specs.State.{State}
 use Rattle.page_meaning.specs.Work.{visit_limit}
 use Rattle.page_table.specs.Act.{act, act_at, called_out, move_of}
@@ -48,6 +49,11 @@ holds_more (in_tag call caller) n m h s = (omega (arith, h, s.0), s.1, holds_mor
 pub standing_start : (seat : Seat) (at left kept : ℕ) (o : Open) → Carries (code_of seat) at empty_shape → o ≡ fresh_open left → Standing seat at kept o
 standing_start seat at left kept o carries e = record { base = kept; stands = subst (Stands (code_of seat) kept at kept) (sym e) (starts (code_of seat) kept at left carries) }
 
+-- the same between the worlds of a run, for whatever serving there is and whatever states they stand for
+pub record RunSoFar {W : Type 0} (reached : W → Origin → W → State → Type 0) (replies : W → List Answer) (serves : W → Serving → Type 0) (seat : Seat) (at left : ℕ) (old now : W) (pc : ℕ) (o : Open) : Type 0 where
+  pub by : (serving : Serving) → serves old serving → (first : W) (origin : Origin) (s : State) → reached first origin old s
+      → SoFar serving seat at left s (reached first origin now) (replies old) (replies now) pc o
+
 pub so_far_start : (serving : Serving) (seat : Seat) (at left : ℕ) (s : State) (stands : State → Type 0) (answers : List Answer) (o : Open) → o ≡ fresh_open left → stands s
     → SoFar serving seat at left s stands answers answers at o
 so_far_start serving seat at left s stands answers o e stood = record {
@@ -60,12 +66,33 @@ so_far_start serving seat at left s stands answers o e stood = record {
 }
 
 -- the cell of a place, and the move of its instruction
-pub cell_at : (code here : List Cell) (pc : ℕ) (found : Option Cell) (cell : Cell) → here ≡ code → found ≡ slice_get here pc → found ≡ Some cell → slice_get code pc ≡ Some cell
-cell_at code here pc found cell e f is = ap (λ x. slice_get x pc) (sym e) ∙ sym f ∙ is
+pub cell_at : (code shown : List Cell) (pc : ℕ) (cell : Cell) → shown ≡ code → slice_get shown pc ≡ Some cell → slice_get code pc ≡ Some cell
+cell_at code shown pc cell e is = subst (λ (cells : List Cell). slice_get cells pc ≡ Some cell) e is
 
 pub move_is : (serving : Serving) (seat : Seat) (pc : ℕ) (s : State) (o : Open) (cell : Cell) (this : Instr) → slice_get (code_of seat) pc ≡ Some cell → cell.instr ≡ this
     → move_of serving seat pc s o ≡ act serving seat cell.place pc s o this
 move_is serving seat pc s o cell this e is = ap (act_at serving seat pc s o) e ∙ ap (act serving seat cell.place pc s o) is
+
+module _ {W : Type 0} {reached : W → Origin → W → State → Type 0} {replies : W → List Answer} {stores : W → ((path : List ℕ) → Stored) → Type 0}
+    (stores_on : (first w : W) (origin : Origin) (s : State) (stored : (path : List ℕ) → Stored) → reached first origin w s → stores first stored → stores w stored)
+    (again : (first w : W) (origin : Origin) (s : State) → reached first origin w s → reached w origin w s)
+    (served : machine_served.Served) (seat : Seat) (at left : ℕ) (start w : W) (pc : ℕ) (o : Open) (begun : Known reached stores served start)
+    (far : RunSoFar reached replies (ServesSo stores served) seat at left start w pc o) where
+  -- what was served at the start is served
+  pub serves_so_far : (serving : Serving) → ServesSo stores served start serving → ServesSo stores served w serving
+  serves_so_far serving serves =
+      let here = far.by begun.serving begun.serves start begun.origin begun.state begun.stands in
+      serves_on stores_on again served start w begun.origin here.state serving here.stood serves
+
+  -- the run is over with a turn
+  pub over_with : (new : W) (o2 : Open) (end : End) → Stepped reached replies (ServesSo stores served) seat (λ serving s. move_of serving seat pc s o) w new o2 (flows.Over end)
+      → Ran reached replies (ServesSo stores served) (CodeRuns seat at left) start new end
+  over_with new o2 end stepped = record {
+    by = λ serving serves first origin s stands.
+        let f = far.by serving serves first origin s stands in
+        so_far_over serving seat at left s (reached first origin w) (reached first origin new) (replies start) (replies w) (replies new) pc o o2 end f
+        (stepped.by serving (serves_so_far serving serves) first origin f.state f.stood);
+  }
 
 module _ {W : Type 0} {reached : W → Origin → W → State → Type 0} {replies : W → List Answer} {stores : W → ((path : List ℕ) → Stored) → Type 0}
     {variables : W → ScopeState} {kept visits : W → ℕ} {committed : W → Bool}
@@ -108,6 +135,22 @@ module _ {W : Type 0} {reached : W → Origin → W → State → Type 0} {repli
       (sym (tells w new k.origin turn.after turn.stood).2)
       (subst (λ n. to_go (code_of seat) to (given [] turn.after) o2 < (visit_limit - n) * span (code_of seat) + weight (length (code_of seat)) pc o.catches)
       (sym (tells w w k.origin k.state k.stands).2) less)
+
+  -- so does the loop
+  pub behind_turn : (at left : ℕ) (start : W) → Known reached stores served start → SeatHolds seat (length (variables w).frames) → Standing seat pc (kept w) o
+      → RunSoFar reached replies (ServesSo stores served) seat at left start w pc o
+      → Known reached stores served new × SeatHolds seat (length (variables new).frames) × Standing seat to (kept new) o2 × RunSoFar reached replies (ServesSo stores served) seat at left start new to o2
+  behind_turn at left start begun h st far = (
+    loop_known,
+    loop_holds h,
+    loop_standing st,
+    record {
+      by = λ serving serves first origin s stands.
+          let f = far.by serving serves first origin s stands in
+          so_far_on serving seat at left s (reached first origin w) (reached first origin new) (replies start) (replies w) (replies new) pc to o o2 f
+          (stepped.by serving (serves_so_far stores_on again served seat at left start w pc o begun far serving serves) first origin f.state f.stood);
+    },
+  )
 
 -- what an instruction finds
 pub finds_at : {W : Type 0} {reached : W → Origin → W → State → Type 0} {stores : W → ((path : List ℕ) → Stored) → Type 0} {variables : W → ScopeState} {kept visits : W → ℕ} {committed : W → Bool}
@@ -156,10 +199,6 @@ simple_of (instr.Leave how) h = tt
 -- a place at which a run stands is in its code
 pub within_code : (seat : Seat) (pc kept : ℕ) (o : Open) → Standing seat pc kept o → pc < length (code_of seat)
 within_code seat pc kept o st = carries_within (code_of seat) pc st.stands.shape st.stands.carries
-
--- and a cell stands there
-pub some_cell : (seat : Seat) (pc kept : ℕ) (o : Open) → Standing seat pc kept o → slice_get (code_of seat) pc ≡ None → ⊥
-some_cell seat pc kept o st e = let h = sym e ∙ st.stands.carries.stands in cc
 
 -- a call that is this one
 pub call_as : {W : Type 0} {reached : W → Origin → W → State → Type 0} {replies : W → List Answer} {serves : W → Serving → Type 0} (seat : Seat) (place : Place) (behind : ℕ) (o : Open) (what this : CallOut) (old new : W)

@@ -2,17 +2,18 @@ use Rattle.page_code.specs.Calls.{body_size, call_size, fragments_size}
 use Rattle.page_code.specs.Fits.{FragmentsBegin}
 use Rattle.page_code.specs.Ops.{address_with}
 use Rattle.page_code.specs.declared.call.CallOut.TheVariants as call
+use Rattle.page_code.specs.declared.code.Cell.{Cell}
 use Rattle.page_code.specs.declared.instr.Instr.TheVariants as instr
 use Rattle.page_machine.proofs.+machine.Goals as goal
 use Rattle.page_machine.proofs.CallExits.{acted_stepped, normal_is, raised_is, stepped_as}
 use Rattle.page_machine.proofs.Entering.{entered_failed, entered_known, entered_more, entered_on, entered_over, entered_room, entered_thrown}
+use Rattle.page_machine.proofs.Frequent.{fell_off, went_on}
 use Rattle.page_machine.proofs.GivenCalls.{begins_given, code_deep, copy_failed, given_none, given_page}
 use Rattle.page_machine.proofs.GivenRuns.{given_known, given_on, given_over, given_room, given_thrown}
 use Rattle.page_machine.proofs.IncludedRuns.{included_known, included_left, included_on, included_over, included_redirected, included_room, included_thrown}
-use Rattle.page_machine.proofs.Looping.{begins_at, call_as, cell_at, finds_at, holds_more, loop_holds, loop_known, loop_nearer, loop_standing, move_is, simple_of, so_far_start, standing_start}
+use Rattle.page_machine.proofs.Looping.{begins_at, behind_turn, call_as, cell_at, finds_at, holds_more, loop_nearer, move_is, over_with, simple_of, so_far_start, standing_start, within_code}
 use Rattle.page_machine.proofs.PageCalls.{import_stepped, include_failed_is, include_stepped, include_unflushed, included_run_grows, page_failed, path_failed, path_on, path_page, ran_page}
 use Rattle.page_machine.proofs.TagCalls.{call_with, deeper_none, entered_grows, entered_move, tag_code_fits, tag_deep, tag_failed, tag_gone, tag_made, tag_short}
-use Rattle.page_machine.proofs.Turning.{so_far_on, so_far_over}
 use Rattle.page_machine.specs.Pages.{include_found, included_run}
 use Rattle.page_machine.specs.Turn.{SeatHolds}
 use Rattle.page_meaning.specs.Attributes.{table_of}
@@ -36,7 +37,6 @@ use Rattle.pg_value.specs.Value.{datum_of}
 use Rattle.pg_value.specs.declared.fault.RunFault.TheVariants as fault
 use Rattle.run_moves.proofs.Acts.{acted_as, acted_on, acted_short}
 use Rattle.run_moves.proofs.Behind.{acted_spent}
-use Rattle.run_moves.proofs.QuickExits.{led_off, led_on}
 use Rattle.run_moves.specs.Landing.{failing}
 use Rattle.run_moves.specs.Opened.{open_of}
 use Rattle.run_moves.specs.declared.flow.End.TheVariants as ends
@@ -44,11 +44,11 @@ use Rattle.run_moves.specs.declared.flow.Flow.TheVariants as flows
 use Rattle.run_parts.specs.Exports.{change_of, nested_changes}
 use Rattle.run_parts.specs.Given.{given_by}
 use Rattle.run_parts.specs.Records.{IsRecordsOf}
-use Rattle.run_world.proofs.Knowing.{known_changed, known_done, serves_changed, serves_done, serves_on}
+use Rattle.run_world.proofs.Knowing.{known_changed, known_done, serves_changed, serves_done}
 use Rattle.run_world.specs.Programs.{program_of, stored_of}
 use Rattle.run_world.specs.Seats.{call_of, export_of, seat_of}
 use Rattle.run_world.specs.Tags.{tag_of}
-use Rattle.std.proofs.Common.{Err, None, Ok, Some, [], ap, arith, length, refl, rules, subst, suc, sym, ◌+◌, ◌<◌, ◌^◌, ◌∙◌, ◌≡◌, ◌≤◌}
+use Rattle.std.proofs.Common.{Err, List, None, Ok, Some, [], ap, arith, length, refl, rules, subst, suc, sym, ◌+◌, ◌<◌, ◌^◌, ◌∙◌, ◌≡◌, ◌≤◌}
 use Rattle.std.specs.Prelude.{drop, map, option_map, reverse, take}
 
 -- some place: the beginning of a page's run stands at none
@@ -57,61 +57,166 @@ no_place = record { file = []; byte = 0; line = 0; column = 0 }
 
 -- the run of a code
 
-pub turn::run_code-loop-to-init : goal.turn::run_code-loop-to-init
-turn::run_code-loop-to-init g t c = record {
+pub turn::run_code-loop-op-init : goal.turn::run_code-loop-op-init
+turn::run_code-loop-op-init g t c = record {
   left = ap (λ o. o.left) c.fresh-open.ensures;
   covered = c.requires.covered;
   known = c.requires.known;
   records = c.requires.records;
   holds = c.requires.holds;
   standing = standing_start (seat_of c.args.seat.now) c.args.at c.args.left (g.W.World.kept c.args.world.now) (open_of c.fresh-open.result) c.requires.at c.fresh-open.ensures;
-  so_far = λ serving serves first origin s stands.
-      so_far_start serving (seat_of c.args.seat.now) c.args.at c.args.left s (g.W.World.reached first origin c.args.world.now) (g.W.World.replies c.args.world.now) (open_of c.fresh-open.result) c.fresh-open.ensures stands;
+  so_far = record {
+    by = λ serving serves first origin s stands.
+        so_far_start serving (seat_of c.args.seat.now) c.args.at c.args.left s (g.W.World.reached first origin c.args.world.now) (g.W.World.replies c.args.world.now) (open_of c.fresh-open.result) c.fresh-open.ensures stands;
+  };
 }
 
-pub turn::run_code-loop-to-preserved : goal.turn::run_code-loop-to-preserved
-turn::run_code-loop-to-preserved g t c =
+pub turn::run_code-cell_of-cell-requires : goal.turn::run_code-cell_of-cell-requires
+turn::run_code-cell_of-cell-requires g t c =
     let seat = seat_of c.args.seat.now in
-    let o = open_of c.loop-to.open in
+    let there = within_code seat c.loop-op.pc (g.W.World.kept c.loop-op.world) (open_of c.loop-op.open) c.loop-op.invariant.standing in
+    record { within = subst (λ (cells : List Cell). c.loop-op.pc < length cells) (sym c.code-code.ensures) there }
+
+pub turn::run_code-turn-requires : goal.turn::run_code-turn-requires
+turn::run_code-turn-requires g t c κs within =
+    let seat = seat_of c.args.seat.now in
+    let inv = c.loop-op.invariant in
+    let left : c.loop-op.open.left ≡ c.args.left = inv.left in
+    let here = cell_at (code_of seat) c.code-code.result.now c.loop-op.pc c.cell_of-cell.result.now c.code-code.ensures c.cell_of-cell.ensures.cell in
+    let counted : length (code_of seat) < 2 ^ 64 = subst (λ (cells : List Cell). length cells < 2 ^ 64) c.code-code.ensures c.cell_of-cell.ensures.counted in
+    search rules
+
+pub turn::run_code-loop-op-preserved-in-Go : goal.turn::run_code-loop-op-preserved-in-Go
+turn::run_code-loop-op-preserved-in-Go g t c =
+    let seat = seat_of c.args.seat.now in
+    let o = open_of c.loop-op.open in
     let o2 = open_of c.turn.new.open in
-    let inv = c.loop-to.invariant in
+    let inv = c.loop-op.invariant in
     let laws = g.met.W.World in
+    let kept = behind_turn laws.stores_on laws.again laws.tells c.args.served.now seat c.requires.seat c.loop-op.pc c.in-Go.to o o2 c.loop-op.world c.turn.new.world inv.known c.in-Go.ensures.stepped
+    c.args.at c.args.left c.args.world.now c.requires.known inv.holds inv.standing inv.so_far in
     record {
       left = c.turn.ensures.left ∙ inv.left;
       covered = c.turn.ensures.covered;
       records = c.turn.ensures.records;
-      known = loop_known laws.stores_on laws.again laws.tells c.args.served.now seat c.requires.seat c.loop-to.pc c.in-Go.to o o2 c.loop-to.world c.turn.new.world inv.known c.in-Go.ensures.stepped;
-      holds = loop_holds laws.stores_on laws.again laws.tells c.args.served.now seat c.requires.seat c.loop-to.pc c.in-Go.to o o2 c.loop-to.world c.turn.new.world inv.known c.in-Go.ensures.stepped inv.holds;
-      standing = loop_standing laws.stores_on laws.again laws.tells c.args.served.now seat c.requires.seat c.loop-to.pc c.in-Go.to o o2 c.loop-to.world c.turn.new.world inv.known c.in-Go.ensures.stepped inv.standing;
-      so_far = λ serving serves first origin s stands.
-          let f = inv.so_far serving serves first origin s stands in
-          let k = c.requires.known in
-          let here = inv.so_far k.serving k.serves c.args.world.now k.origin k.state k.stands in
-          let agrees = serves_on laws.stores_on laws.again c.args.served.now c.args.world.now c.loop-to.world k.origin here.state serving here.stood serves in
-          so_far_on serving seat c.args.at c.args.left s (g.W.World.reached first origin c.loop-to.world) (g.W.World.reached first origin c.turn.new.world) (g.W.World.replies c.args.world.now)
-          (g.W.World.replies c.loop-to.world) (g.W.World.replies c.turn.new.world) c.loop-to.pc c.in-Go.to o o2 f (c.in-Go.ensures.stepped.by serving agrees first origin f.state f.stood);
+      known = kept.0;
+      holds = kept.1;
+      standing = kept.2;
+      so_far = kept.3;
     }
 
-pub turn::run_code-loop-to-smaller : goal.turn::run_code-loop-to-smaller
-turn::run_code-loop-to-smaller g t c =
+pub turn::run_code-loop-op-smaller-in-Go : goal.turn::run_code-loop-op-smaller-in-Go
+turn::run_code-loop-op-smaller-in-Go g t c =
     let laws = g.met.W.World in
-    loop_nearer laws.stores_on laws.again laws.tells c.args.served.now (seat_of c.args.seat.now) c.requires.seat c.loop-to.pc c.in-Go.to (open_of c.loop-to.open) (open_of c.turn.new.open) c.loop-to.world
-    c.turn.new.world c.loop-to.invariant.known c.in-Go.ensures.stepped c.loop-to.invariant.standing
+    loop_nearer laws.stores_on laws.again laws.tells c.args.served.now (seat_of c.args.seat.now) c.requires.seat c.loop-op.pc c.in-Go.to (open_of c.loop-op.open) (open_of c.turn.new.open) c.loop-op.world
+    c.turn.new.world c.loop-op.invariant.known c.in-Go.ensures.stepped c.loop-op.invariant.standing
 
 pub turn::run_code-returns-in-Over-clause-ran : goal.turn::run_code-returns-in-Over-clause-ran
 turn::run_code-returns-in-Over-clause-ran g t c =
-    let seat = seat_of c.args.seat.now in
     let laws = g.met.W.World in
+    over_with laws.stores_on laws.again c.args.served.now (seat_of c.args.seat.now) c.args.at c.args.left c.args.world.now c.loop-op.world c.loop-op.pc (open_of c.loop-op.open) c.requires.known
+    c.loop-op.invariant.so_far c.turn.new.world (open_of c.turn.new.open) c.in-Over.end c.in-Over.ensures.stepped
+
+-- a frequent operation of it
+
+pub turn::run_code-quick-requires : goal.turn::run_code-quick-requires
+turn::run_code-quick-requires g t c =
+    let seat = seat_of c.args.seat.now in
+    let o = open_of c.loop-op.open in
+    let cell = c.cell_of-cell.result.now in
+    let here = cell_at (code_of seat) c.code-code.result.now c.loop-op.pc cell c.code-code.ensures c.cell_of-cell.ensures.cell in
+    let inv = c.loop-op.invariant in
+    let finds = subst (Finds (length (code_of seat)) c.loop-op.pc (g.W.World.kept c.loop-op.world) o) c.in-Some.ensures.0
+    (finds_at g.met.W.World.tells c.args.served.now seat c.requires.seat c.loop-op.pc o c.loop-op.world inv.known inv.standing cell here) in
+    record { covered = inv.covered; filled = finds.0; quick = c.in-Some.ensures.1 }
+
+pub turn::run_code-loop-op-preserved-in-Ok : goal.turn::run_code-loop-op-preserved-in-Ok
+turn::run_code-loop-op-preserved-in-Ok g t c =
+    let seat = seat_of c.args.seat.now in
+    let o = open_of c.loop-op.open in
+    let o2 = open_of c.quick.new.open in
+    let cell = c.cell_of-cell.result.now in
+    let here = cell_at (code_of seat) c.code-code.result.now c.loop-op.pc cell c.code-code.ensures c.cell_of-cell.ensures.cell in
+    let inv = c.loop-op.invariant in
+    let laws = g.met.W.World in
+    let kept = behind_turn laws.stores_on laws.again laws.tells c.args.served.now seat c.requires.seat c.loop-op.pc (c.loop-op.pc + 1) o o2 c.loop-op.world c.quick.new.world inv.known
+    (went_on seat c.loop-op.pc o cell c.in-Some.op.now here c.in-Some.ensures.0 c.loop-op.world c.quick.new.world o2 tt c.in-Ok.ensures.lands)
+    c.args.at c.args.left c.args.world.now c.requires.known inv.holds inv.standing inv.so_far in
     record {
-      by = λ serving serves first origin s stands.
-          let f = c.loop-to.invariant.so_far serving serves first origin s stands in
-          let k = c.requires.known in
-          let here = c.loop-to.invariant.so_far k.serving k.serves c.args.world.now k.origin k.state k.stands in
-          let agrees = serves_on laws.stores_on laws.again c.args.served.now c.args.world.now c.loop-to.world k.origin here.state serving here.stood serves in
-          so_far_over serving seat c.args.at c.args.left s (g.W.World.reached first origin c.loop-to.world) (g.W.World.reached first origin c.turn.new.world) (g.W.World.replies c.args.world.now)
-          (g.W.World.replies c.loop-to.world) (g.W.World.replies c.turn.new.world) c.loop-to.pc (open_of c.loop-to.open) (open_of c.turn.new.open) c.in-Over.end f
-          (c.in-Over.ensures.stepped.by serving agrees first origin f.state f.stood);
+      left = c.quick.ensures.left ∙ inv.left;
+      covered = c.quick.ensures.covered;
+      records = inv.records;
+      known = kept.0;
+      holds = kept.1;
+      standing = kept.2;
+      so_far = kept.3;
     }
+
+pub turn::run_code-loop-op-smaller-in-Ok : goal.turn::run_code-loop-op-smaller-in-Ok
+turn::run_code-loop-op-smaller-in-Ok g t c =
+    let seat = seat_of c.args.seat.now in
+    let o = open_of c.loop-op.open in
+    let o2 = open_of c.quick.new.open in
+    let cell = c.cell_of-cell.result.now in
+    let here = cell_at (code_of seat) c.code-code.result.now c.loop-op.pc cell c.code-code.ensures c.cell_of-cell.ensures.cell in
+    let inv = c.loop-op.invariant in
+    let laws = g.met.W.World in
+    loop_nearer laws.stores_on laws.again laws.tells c.args.served.now seat c.requires.seat c.loop-op.pc (c.loop-op.pc + 1) o o2 c.loop-op.world c.quick.new.world inv.known
+    (went_on seat c.loop-op.pc o cell c.in-Some.op.now here c.in-Some.ensures.0 c.loop-op.world c.quick.new.world o2 tt c.in-Ok.ensures.lands) inv.standing
+
+pub turn::run_code-loop-op-preserved : goal.turn::run_code-loop-op-preserved
+turn::run_code-loop-op-preserved g t c =
+    let seat = seat_of c.args.seat.now in
+    let o = open_of c.loop-op.open in
+    let mid = open_of c.quick.new.open in
+    let o2 = open_of c.fail.new.open in
+    let to = c.in-Go-fail.to in
+    let cell = c.cell_of-cell.result.now in
+    let here = cell_at (code_of seat) c.code-code.result.now c.loop-op.pc cell c.code-code.ensures c.cell_of-cell.ensures.cell in
+    let inv = c.loop-op.invariant in
+    let laws = g.met.W.World in
+    let kept = behind_turn laws.stores_on laws.again laws.tells c.args.served.now seat c.requires.seat c.loop-op.pc to o o2 c.loop-op.world c.fail.new.world inv.known
+    (fell_off seat c.loop-op.pc o cell c.in-Some.op.now here c.in-Some.ensures.0 c.loop-op.world c.quick.new.world mid c.in-Err.failed c.fail.new.world o2 (flows.Go to) c.in-Err.ensures.lands
+    c.in-Go-fail.ensures.acted c.in-Go-fail.ensures.short)
+    c.args.at c.args.left c.args.world.now c.requires.known inv.holds inv.standing inv.so_far in
+    record {
+      left = c.fail.ensures.left ∙ c.quick.ensures.left ∙ inv.left;
+      covered = c.fail.ensures.covered;
+      records = inv.records;
+      known = kept.0;
+      holds = kept.1;
+      standing = kept.2;
+      so_far = kept.3;
+    }
+
+pub turn::run_code-loop-op-smaller : goal.turn::run_code-loop-op-smaller
+turn::run_code-loop-op-smaller g t c =
+    let seat = seat_of c.args.seat.now in
+    let o = open_of c.loop-op.open in
+    let mid = open_of c.quick.new.open in
+    let o2 = open_of c.fail.new.open in
+    let to = c.in-Go-fail.to in
+    let cell = c.cell_of-cell.result.now in
+    let here = cell_at (code_of seat) c.code-code.result.now c.loop-op.pc cell c.code-code.ensures c.cell_of-cell.ensures.cell in
+    let inv = c.loop-op.invariant in
+    let laws = g.met.W.World in
+    loop_nearer laws.stores_on laws.again laws.tells c.args.served.now seat c.requires.seat c.loop-op.pc to o o2 c.loop-op.world c.fail.new.world inv.known
+    (fell_off seat c.loop-op.pc o cell c.in-Some.op.now here c.in-Some.ensures.0 c.loop-op.world c.quick.new.world mid c.in-Err.failed c.fail.new.world o2 (flows.Go to) c.in-Err.ensures.lands
+    c.in-Go-fail.ensures.acted c.in-Go-fail.ensures.short) inv.standing
+
+pub turn::run_code-returns-in-Over-fail-clause-ran : goal.turn::run_code-returns-in-Over-fail-clause-ran
+turn::run_code-returns-in-Over-fail-clause-ran g t c =
+    let seat = seat_of c.args.seat.now in
+    let o = open_of c.loop-op.open in
+    let mid = open_of c.quick.new.open in
+    let o2 = open_of c.fail.new.open in
+    let end = c.in-Over-fail.end in
+    let cell = c.cell_of-cell.result.now in
+    let here = cell_at (code_of seat) c.code-code.result.now c.loop-op.pc cell c.code-code.ensures c.cell_of-cell.ensures.cell in
+    let laws = g.met.W.World in
+    over_with laws.stores_on laws.again c.args.served.now seat c.args.at c.args.left c.args.world.now c.loop-op.world c.loop-op.pc o c.requires.known c.loop-op.invariant.so_far c.fail.new.world o2 end
+    (fell_off seat c.loop-op.pc o cell c.in-Some.op.now here c.in-Some.ensures.0 c.loop-op.world c.quick.new.world mid c.in-Err.failed c.fail.new.world o2 (flows.Over end) c.in-Err.ensures.lands
+    c.in-Over-fail.ensures.acted c.in-Over-fail.ensures.short)
 
 -- a turn
 
@@ -119,81 +224,38 @@ pub turn::turn-call_out-requires : goal.turn::turn-call_out-requires
 turn::turn-call_out-requires g t c κs within =
     let seat = seat_of c.args.seat.now in
     let o = open_of c.args.open.now in
-    let cell = c.in-Some.cell.now in
-    let e = cell_at (code_of seat) c.args.code.now c.args.pc (option_map (λ x. x.now) c.get.result) cell c.requires.code c.get.ensures (ap (option_map (λ x. x.now)) c.in-Some.is) in
-    let counted = c.len.ensures ∙ ap length c.requires.code in
-    let begins = begins_at seat c.requires.seat c.args.pc cell c.in-CallOut.what e c.in-CallOut.is in
+    let cell = c.args.cell.now in
+    let begins = begins_at seat c.requires.seat c.args.pc cell c.in-CallOut.what c.requires.cell c.in-CallOut.is in
     let finds = subst (Finds (length (code_of seat)) c.args.pc (g.W.World.kept c.args.world.now) o) c.in-CallOut.is
-    (finds_at g.met.W.World.tells c.args.served.now seat c.requires.seat c.args.pc o c.args.world.now c.requires.known c.requires.standing cell e) in
+    (finds_at g.met.W.World.tells c.args.served.now seat c.requires.seat c.args.pc o c.args.world.now c.requires.known c.requires.standing cell c.requires.cell) in
     search rules
 
 pub turn::turn-returns-in-CallOut-clause-stepped : goal.turn::turn-returns-in-CallOut-clause-stepped
 turn::turn-returns-in-CallOut-clause-stepped g t c =
     let seat = seat_of c.args.seat.now in
     let o = open_of c.args.open.now in
-    let cell = c.in-Some.cell.now in
-    let e = cell_at (code_of seat) c.args.code.now c.args.pc (option_map (λ x. x.now) c.get.result) cell c.requires.code c.get.ensures (ap (option_map (λ x. x.now)) c.in-Some.is) in
+    let cell = c.args.cell.now in
     stepped_as seat (λ serving s. move_of serving seat c.args.pc s o) (λ serving s. called_out serving seat cell.place (c.args.pc + 1) c.in-CallOut.what s o) c.args.world.now c.call_out.new.world
-    (open_of c.call_out.new.open) c.call_out.result (λ serving h s. move_is serving seat c.args.pc s o cell (instr.CallOut c.in-CallOut.what) e c.in-CallOut.is) c.call_out.ensures.stepped
-
-pub turn::turn-quick-requires : goal.turn::turn-quick-requires
-turn::turn-quick-requires g t c =
-    let seat = seat_of c.args.seat.now in
-    let o = open_of c.args.open.now in
-    let cell = c.in-Some.cell.now in
-    let e = cell_at (code_of seat) c.args.code.now c.args.pc (option_map (λ x. x.now) c.get.result) cell c.requires.code c.get.ensures (ap (option_map (λ x. x.now)) c.in-Some.is) in
-    let finds = subst (Finds (length (code_of seat)) c.args.pc (g.W.World.kept c.args.world.now) o) c.in-Op.is
-    (finds_at g.met.W.World.tells c.args.served.now seat c.requires.seat c.args.pc o c.args.world.now c.requires.known c.requires.standing cell e) in
-    search rules
-
-pub turn::turn-returns-in-Ok-clause-stepped : goal.turn::turn-returns-in-Ok-clause-stepped
-turn::turn-returns-in-Ok-clause-stepped g t c =
-    let seat = seat_of c.args.seat.now in
-    let o = open_of c.args.open.now in
-    let cell = c.in-Some.cell.now in
-    let e = cell_at (code_of seat) c.args.code.now c.args.pc (option_map (λ x. x.now) c.get.result) cell c.requires.code c.get.ensures (ap (option_map (λ x. x.now)) c.in-Some.is) in
-    let this = instr.Op c.in-Op.op in
-    acted_stepped seat (λ serving s. move_of serving seat c.args.pc s o) c.args.world.now c.quick.new.world (open_of c.quick.new.open) (flows.Go (c.args.pc + 1))
-    (λ serving h.
-    acted_as (λ s. move_of serving seat c.args.pc s o) (λ s. act serving seat cell.place c.args.pc s o this) c.args.world.now c.quick.new.world (open_of c.quick.new.open) (flows.Go (c.args.pc + 1))
-    (λ s. move_is serving seat c.args.pc s o cell this e c.in-Op.is)
-    (led_on (λ place pc s. act serving seat place pc s o this) c.args.world.now c.quick.new.world (open_of c.quick.new.open) tt cell.place c.args.pc (c.in-Ok.ensures.lands serving)))
-
-pub turn::turn-returns-in-Err-clause-stepped : goal.turn::turn-returns-in-Err-clause-stepped
-turn::turn-returns-in-Err-clause-stepped g t c =
-    let seat = seat_of c.args.seat.now in
-    let o = open_of c.args.open.now in
-    let cell = c.in-Some.cell.now in
-    let e = cell_at (code_of seat) c.args.code.now c.args.pc (option_map (λ x. x.now) c.get.result) cell c.requires.code c.get.ensures (ap (option_map (λ x. x.now)) c.in-Some.is) in
-    let this = instr.Op c.in-Op.op in
-    acted_stepped seat (λ serving s. move_of serving seat c.args.pc s o) c.args.world.now c.fail.new.world (open_of c.fail.new.open) c.fail.result
-    (λ serving h.
-    acted_as (λ s. move_of serving seat c.args.pc s o) (λ s. act serving seat cell.place c.args.pc s o this) c.args.world.now c.fail.new.world (open_of c.fail.new.open) c.fail.result
-    (λ s. move_is serving seat c.args.pc s o cell this e c.in-Op.is)
-    (led_off (λ place pc s. act serving seat place pc s o this) c.args.world.now c.quick.new.world c.fail.new.world (open_of c.quick.new.open) (open_of c.fail.new.open) c.in-Err.failed c.fail.result cell.place c.args.pc
-    (c.in-Err.ensures.lands serving) c.fail.ensures.acted c.fail.ensures.short))
+    (open_of c.call_out.new.open) c.call_out.result (λ serving h s. move_is serving seat c.args.pc s o cell (instr.CallOut c.in-CallOut.what) c.requires.cell c.in-CallOut.is) c.call_out.ensures.stepped
 
 pub turn::turn-step-requires : goal.turn::turn-step-requires
 turn::turn-step-requires g t c =
     let seat = seat_of c.args.seat.now in
     let o = open_of c.args.open.now in
-    let cell = c.in-Some.cell.now in
-    let e = cell_at (code_of seat) c.args.code.now c.args.pc (option_map (λ x. x.now) c.get.result) cell c.requires.code c.get.ensures (ap (option_map (λ x. x.now)) c.in-Some.is) in
-    let counted = c.len.ensures ∙ ap length c.requires.code in
-    let finds = finds_at g.met.W.World.tells c.args.served.now seat c.requires.seat c.args.pc o c.args.world.now c.requires.known c.requires.standing cell e in
-    let simple = simple_of cell.instr c.in_default-instr.not-CallOut in
+    let cell = c.args.cell.now in
+    let finds = finds_at g.met.W.World.tells c.args.served.now seat c.requires.seat c.args.pc o c.args.world.now c.requires.known c.requires.standing cell c.requires.cell in
+    let simple = simple_of cell.instr c.in_default.not-CallOut in
     search rules
 
-pub turn::turn-returns-in_default-instr-clause-stepped : goal.turn::turn-returns-in_default-instr-clause-stepped
-turn::turn-returns-in_default-instr-clause-stepped g t c =
+pub turn::turn-returns-in_default-clause-stepped : goal.turn::turn-returns-in_default-clause-stepped
+turn::turn-returns-in_default-clause-stepped g t c =
     let seat = seat_of c.args.seat.now in
     let o = open_of c.args.open.now in
-    let cell = c.in-Some.cell.now in
-    let e = cell_at (code_of seat) c.args.code.now c.args.pc (option_map (λ x. x.now) c.get.result) cell c.requires.code c.get.ensures (ap (option_map (λ x. x.now)) c.in-Some.is) in
+    let cell = c.args.cell.now in
     acted_stepped seat (λ serving s. move_of serving seat c.args.pc s o) c.args.world.now c.step.new.world (open_of c.step.new.open) c.step.result
     (λ serving h.
     acted_as (λ s. move_of serving seat c.args.pc s o) (λ s. act serving seat cell.place c.args.pc s o cell.instr) c.args.world.now c.step.new.world (open_of c.step.new.open) c.step.result
-    (λ s. move_is serving seat c.args.pc s o cell cell.instr e refl) (c.step.ensures.acted.for serving h))
+    (λ s. move_is serving seat c.args.pc s o cell cell.instr c.requires.cell refl) (c.step.ensures.acted.for serving h))
 
 -- a call
 

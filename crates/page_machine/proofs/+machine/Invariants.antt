@@ -1,15 +1,12 @@
 use Rattle.std.proofs.Common.{◌≡◌, ◌+◌, ◌-◌, ◌*◌, length}
 use Rattle.run_world.specs.Known.{Known, ServesSo}
-use Rattle.run_world.specs.Origin.{Origin}
 use Rattle.run_moves.specs.Opened.{open_of}
 use Rattle.run_world.specs.Seats.{seat_of}
 use Rattle.page_machine.specs.Turn.{SeatHolds, Standing}
-use Rattle.page_machine.proofs.Turning.{SoFar}
+use Rattle.page_machine.proofs.Looping.{RunSoFar}
 use Rattle.page_machine.proofs.+machine.Given as goal
-use Rattle.page_meaning.specs.State.{State}
 use Rattle.page_meaning.specs.Work.{visit_limit}
 use Rattle.page_table.specs.Measure.{span, weight}
-use Rattle.page_table.specs.Program.{Serving}
 use Rattle.page_table.specs.Seat.{code_of, page_run_of}
 use Rattle.run_parts.specs.Records.{IsRecordsOf}
 
@@ -47,18 +44,17 @@ abbrev pub decreases-pages::page_run : goal.decreases-pages::page_run
 decreases-pages::page_run g l = 8 * l.left + 8
 
 -- the turns that are left: page_table's number, with the visits that the world has counted
-abbrev pub decreases-turn::run_code-loop-to : goal.decreases-turn::run_code-loop-to
-decreases-turn::run_code-loop-to g l =
+abbrev pub decreases-turn::run_code-loop-op : goal.decreases-turn::run_code-loop-op
+decreases-turn::run_code-loop-op g l =
     (visit_limit - g.W.World.visits l.world) * span (code_of (seat_of l.seat)) + weight (length (code_of (seat_of l.seat))) l.pc (open_of l.open).catches
 
-abbrev pub invariant-turn::run_code-loop-to : goal.invariant-turn::run_code-loop-to
-invariant-turn::run_code-loop-to g l = record {
+abbrev pub invariant-turn::run_code-loop-op : goal.invariant-turn::run_code-loop-op
+invariant-turn::run_code-loop-op g l = record {
   left : l.open.left ≡ l.left;
   covered : g.W.World.covered l.world;
   known : Known g.W.World.reached g.W.World.stores l.served l.world;
   records : IsRecordsOf l.served.request.now (page_run_of (seat_of l.seat)).params l.records;
   holds : SeatHolds (seat_of l.seat) (length (g.W.World.variables l.world).frames);
   standing : Standing (seat_of l.seat) l.pc (g.W.World.kept l.world) (open_of l.open);
-  so_far : (serving : Serving) → ServesSo g.W.World.stores l.served l.fn.world serving → (first : g.row.W.Denot) (origin : Origin) (s : State) → g.W.World.reached first origin l.fn.world s
-      → SoFar serving (seat_of l.seat) l.at l.left s (g.W.World.reached first origin l.world) (g.W.World.replies l.fn.world) (g.W.World.replies l.world) l.pc (open_of l.open);
+  so_far : RunSoFar g.W.World.reached g.W.World.replies (ServesSo g.W.World.stores l.served) (seat_of l.seat) l.at l.left l.fn.world l.world l.pc (open_of l.open);
 }
