@@ -5,6 +5,7 @@ pub mod FillLemmas
 pub mod FirstLemmas
 pub mod OrderLemmas
 pub mod OwnLemmas
+pub mod PartLemmas
 pub mod PlacedLemmas
 pub mod PlacingLemmas
 pub mod SpliceLemmas

@@ -5,6 +5,7 @@ pub mod Laws
 pub mod Placed
 pub mod ReadFiles
 pub mod ReadFirst
+pub mod ReadParts
 pub mod ReadPlacing
 pub mod ReadSplice
 pub mod ReadSteps

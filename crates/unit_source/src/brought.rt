@@ -1,12 +1,12 @@
 ghost use Rattle.std.specs.Prelude.{◌≡◌, ◌++◌, IfOk, OnOk};
 ghost use Rattle.unit_source.specs.Files.{text_in};
 ghost use Rattle.unit_source.specs.First.{brought_by, brought_first, brought_names, firsts_by};
+ghost use Rattle.unit_source.specs.ReadFirst.{told};
 ghost use Rattle.unit_source.specs.Volume.{one_file};
 
 use crate::WrittenDirective;
 use crate::files::UnitFiles;
 use crate::first::{First, MAX_CHAIN, read_included};
-use crate::prefixes::prefixes_of;
 use crate::volume::Volume;
 use page_pieces::{Brought, BroughtPrefixes};
 use pg_text::{Listed, Path};
@@ -19,7 +19,7 @@ fn brought_first(
     volume: Volume,
     directive: &WrittenDirective,
 ) -> Result<First, AllocError>
-    ensures first { IfOk result (λ first. first ≡ brought_first (text_in files.old) chain.now volume directive.now) }
+    ensures first { IfOk result (λ first. first ≡ told (brought_first (text_in files.old) chain.now volume directive.now)) }
     ensures files { files.new ≡ files.old }
 {
     let mut found = First::new(files.alloc(), volume);
@@ -61,7 +61,7 @@ pub(crate) fn read_brought(
             volume = first.volume();
             brought.push(BroughtPrefixes {
                 byte: directive.place().byte,
-                prefixes: prefixes_of(alloc, first.directives())?,
+                prefixes: first.prefixes().copy()?,
             })?;
             push_names(names, first.names())?;
         }

@@ -1,13 +1,16 @@
-ghost use Rattle.std.specs.Prelude.{◌≡◌, [], OnOk, IfOk};
+ghost use Rattle.std.specs.Prelude.{◌≡◌, ◌++◌, [], OnOk, IfOk};
 ghost use Rattle.unit_source.specs.Files.{text_in};
 ghost use Rattle.unit_source.specs.First.{first_all, first_file, first_within, included_path, none_read};
-ghost use Rattle.unit_source.specs.ReadFirst.{and_directive, and_name, gathered};
+ghost use Rattle.unit_source.specs.ReadFirst.{and_name, and_part, told, told_behind};
+ghost use Rattle.unit_source.specs.ReadParts.{in_part, in_parts};
 
 use crate::WrittenDirective;
 use crate::chain::{chain_with, contains, included_path};
 use crate::files::UnitFiles;
+use crate::part::Part;
 use crate::source_file::SourceFile;
 use crate::volume::Volume;
+use page_pieces::Prefixes;
 use pg_text::{Listed, Path};
 use std::alloc::{AllocError, Global};
 use std::marker::Model;
@@ -15,29 +18,32 @@ use std::marker::Model;
 // The most files of a chain of includes.
 pub(crate) const MAX_CHAIN: usize = 257;
 
-// First readings: directives in reading order, the names of the files that they include, and what was read.
+// First readings: directives in reading order, the prefixes that they register, the names of the files that they include, and what
+// was read.
 #[derive(Drop)]
 pub(crate) struct First {
     directives: Listed<WrittenDirective>,
+    prefixes: Prefixes,
     names: Listed<Path>,
     volume: Volume,
 }
 
 impl Model for First {
-    ghost use Rattle.unit_source.specs.First.{First as Seen};
+    ghost use Rattle.unit_source.specs.ReadFirst.{Told};
 
-    ghost Value = { Seen };
+    ghost Value = { Told };
 
-    ghost view = { λ f. record { directives = f.directives; names = f.names; volume = f.volume } };
+    ghost view = { λ f. record { directives = f.directives; prefixes = f.prefixes; names = f.names; volume = f.volume } };
 }
 
 impl First {
     // So much was read, and nothing was met.
     pub fn new(alloc: Global, volume: Volume) -> Self
-        ensures { result ≡ none_read volume }
+        ensures { result ≡ told (none_read volume) }
     {
         First {
             directives: Listed::empty(alloc),
+            prefixes: Prefixes::new(alloc),
             names: Listed::empty(alloc),
             volume,
         }
@@ -47,6 +53,13 @@ impl First {
         ensures { result.now ≡ self.now.directives }
     {
         self.directives.as_slice()
+    }
+
+    // The prefixes that the directives register.
+    pub fn prefixes(&self) -> &Prefixes
+        ensures { result.now ≡ self.now.prefixes }
+    {
+        &self.prefixes
     }
 
     pub fn names(&self) -> &[Path]
@@ -70,10 +83,12 @@ impl First {
         (self.directives, self.names)
     }
 
-    fn push(&mut self, directive: &WrittenDirective) -> Result<(), AllocError>
-        ensures { OnOk result (self.new ≡ and_directive directive.now self.old) }
+    // Adds the directives of a part, its include directive among them.
+    fn push(&mut self, part: &Part) -> Result<(), AllocError>
+        ensures { OnOk result (self.new ≡ and_part part.now self.old) }
     {
-        self.directives.push(directive.copy()?)
+        push_directives(&mut self.directives, part)?;
+        self.prefixes.append(part.prefixes())
     }
 
     fn push_name(&mut self, name: &Path) -> Result<(), AllocError>
@@ -81,6 +96,18 @@ impl First {
     {
         self.names.push(name.copy()?)
     }
+}
+
+fn push_directives(directives: &mut Listed<WrittenDirective>, part: &Part) -> Result<(), AllocError>
+    ensures { OnOk result (directives.new ≡ directives.old ++ in_part part.now) }
+{
+    for directive in part.plain() {
+        directives.push(directive.copy()?)?;
+    }
+    if let Some(include) = part.include() {
+        directives.push(include.copy()?)?;
+    }
+    Ok(())
 }
 
 // Adds the first readings of a file and of what it includes, within the files of the chain, so many deep at most.
@@ -93,7 +120,7 @@ pub(crate) fn read_first(
     file: &SourceFile,
     found: &mut First,
 ) -> Result<(), AllocError>
-    ensures first { OnOk result (found.new ≡ gathered found.old
+    ensures first { OnOk result (found.new ≡ told_behind found.old
         (first_within deep (text_in files.old) chain.now found.old.volume file.now.path file.now.text)) }
     ensures files { files.new ≡ files.old }
 {
@@ -101,32 +128,54 @@ pub(crate) fn read_first(
         return Ok(());
     }
     let longer = chain_with(files.alloc(), file.path(), chain)?;
-    read_all(files, longer.as_slice(), deep - 1, file.own(), found)
+    read_parts(files, longer.as_slice(), deep - 1, file.parts(), found)
 }
 
-// Adds directives of the chain's first file, and behind each the first readings of the file that it includes.
+// Adds parts of the chain's first file, and behind each the first readings of the file that it includes.
 #[cycle(first)]
-fn read_all(
+fn read_parts(
     files: &mut UnitFiles,
     chain: &[Path],
     deep: usize,
-    own: &[WrittenDirective],
+    parts: &[Part],
     found: &mut First,
 ) -> Result<(), AllocError>
-    ensures first { OnOk result (found.new ≡ gathered found.old
+    ensures first { OnOk result (found.new ≡ told_behind found.old
         (first_all (first_within deep (text_in files.old) chain.now) (text_in files.old)
-        chain.now found.old.volume own.now)) }
+        chain.now found.old.volume (in_parts parts.now))) }
     ensures files { files.new ≡ files.old }
 {
-    for directive in own {
-        found.push(directive)?;
-        read_included(files, chain, deep, directive, found)?;
+    for part in parts {
+        read_part(files, chain, deep, part, found)?;
     }
     Ok(())
 }
 
+// Adds a part of the chain's first file, and behind it the first readings of the file that it includes.
+#[cycle(first)]
+#[tactic(auto, using(crate::proofs::FirstLemmas::part_followed, crate::proofs::FirstLemmas::part_ended))]
+fn read_part(
+    files: &mut UnitFiles,
+    chain: &[Path],
+    deep: usize,
+    part: &Part,
+    found: &mut First,
+) -> Result<(), AllocError>
+    ensures first { OnOk result (found.new ≡ told_behind found.old
+        (first_all (first_within deep (text_in files.old) chain.now) (text_in files.old)
+        chain.now found.old.volume (in_part part.now))) }
+    ensures files { files.new ≡ files.old }
+{
+    found.push(part)?;
+    match part.include() {
+        Some(include) => read_included(files, chain, deep, include, found),
+        None => Ok(()),
+    }
+}
+
 // Adds the first readings of the file that a directive of the chain's first file includes, where it includes one.
 #[cycle(first)]
+#[tactic(auto, using(crate::proofs::FirstLemmas::behind_none, crate::proofs::FirstLemmas::behind_name))]
 pub(crate) fn read_included(
     files: &mut UnitFiles,
     chain: &[Path],
@@ -134,7 +183,7 @@ pub(crate) fn read_included(
     directive: &WrittenDirective,
     found: &mut First,
 ) -> Result<(), AllocError>
-    ensures first { OnOk result (found.new ≡ gathered found.old
+    ensures first { OnOk result (found.new ≡ told_behind found.old
         (first_file (first_within deep (text_in files.old) chain.now) (text_in files.old)
         chain.now found.old.volume (included_path directive.now))) }
     ensures files { files.new ≡ files.old }

@@ -11,6 +11,7 @@ mod first;
 mod found;
 mod laws;
 mod own;
+mod part;
 mod placed;
 mod placing;
 mod prefixes;

@@ -1,4 +1,4 @@
-ghost use Rattle.std.specs.Prelude.{◌≡◌, ◌++◌, codes, IfOk, OnOk, if◌then◌else◌};
+ghost use Rattle.std.specs.Prelude.{◌≡◌, ◌++◌, codes, option_map, IfOk, OnOk, if◌then◌else◌};
 ghost use Rattle.std.specs.Option.{option_to_list};
 ghost use Rattle.std.specs.Str.{bytes_eq};
 ghost use Rattle.page_pieces.specs.Settings.{value_of};
@@ -46,14 +46,34 @@ fn listed_prefixes(
     Ok(prefixes)
 }
 
-// The prefixes that directives register, to be looked up and to be shared.
+// Adds the prefix that a directive registers, where there is a directive.
+fn push_last(
+    alloc: Global,
+    prefixes: &mut Listed<Text>,
+    last: Option<&WrittenDirective>,
+) -> Result<(), AllocError>
+    ensures { OnOk result (prefixes.new ≡ prefixes.old ++ prefixes_of (option_to_list
+        (option_map (λ d. d.now) last.entry))) }
+{
+    let Some(last) = last else {
+        return Ok(());
+    };
+    push_own(alloc, prefixes, last.name(), last.attributes())?;
+    Ok(())
+}
+
+// The prefixes that directives and one behind them register, to be looked up and to be shared.
+#[tactic(auto, using(crate::proofs::PartLemmas::prefixes_both))]
 pub(crate) fn prefixes_of(
     alloc: Global,
     directives: &[WrittenDirective],
+    last: Option<&WrittenDirective>,
 ) -> Result<Prefixes, AllocError>
-    ensures { IfOk result (λ prefixes. prefixes ≡ prefixes_of directives.now) }
+    ensures { IfOk result (λ prefixes. prefixes ≡ prefixes_of (directives.now
+        ++ option_to_list (option_map (λ d. d.now) last.entry))) }
 {
-    let listed = listed_prefixes(alloc, directives)?;
+    let mut listed = listed_prefixes(alloc, directives)?;
+    push_last(alloc, &mut listed, last)?;
     let mut prefixes = Prefixes::new(alloc);
     prefixes.push_all(listed.as_slice())?;
     prefixes.close()?;

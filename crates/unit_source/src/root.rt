@@ -3,6 +3,7 @@ ghost use Rattle.page_directives.specs.Settings.{settings_of};
 ghost use Rattle.unit_source.specs.Files.{text_in};
 ghost use Rattle.unit_source.specs.First.{first_within, most_deep};
 ghost use Rattle.unit_source.specs.Placed.{root_view};
+ghost use Rattle.unit_source.specs.ReadFirst.{told};
 ghost use Rattle.unit_source.specs.Root.{rooted};
 ghost use Rattle.unit_source.specs.Volume.{one_file};
 
@@ -51,8 +52,8 @@ fn decided_settings(
 
 // The first reading of a file and of what it includes.
 fn first_reading(files: &mut UnitFiles, source: &SourceFile) -> Result<First, AllocError>
-    ensures first { IfOk result (λ first. first ≡ first_within most_deep (text_in files.old) []
-        (one_file (length source.now.text)) source.now.path source.now.text) }
+    ensures first { IfOk result (λ first. first ≡ told (first_within most_deep (text_in files.old) []
+        (one_file (length source.now.text)) source.now.path source.now.text)) }
     ensures files { files.new ≡ files.old }
 {
     let mut first = First::new(files.alloc(), Volume::one(source.text().len()));
