@@ -7,6 +7,7 @@ use Rattle.turn_table.proofs.turns.Turns.TheSendSync as turns
 use Rattle.site_words.specs.declared.compiled.Compiled.{Ghosts}
 use Rattle.site_core.proofs.SiteCross.{site_send}
 use Rattle.site_core.specs.contracts.site.Site as Site
+use Rattle.site_shared.proofs.ends.Ends.TheSendSync as ends
 use Rattle.site_shared.specs.contracts.seated.Seated as Seated
 use Rattle.site_shared.specs.contracts.shared.SharedSite as SharedSite
 use Rattle.site_shared.specs.contracts.shared.SharedSite.TheInside as SharedInside
@@ -21,4 +22,4 @@ seated_send P g p y =
 pub shared_sync : (P G : RattleType) (g : Ghosts P.Denot) → IsSend P → IsSync P → IsSync G → IsSync (SharedSite.the_row P G g)
 shared_sync P G g p y s =
     let seated : IsSend (Seated.the_row P g) = seated_send P g p y in
-    view_sync _ _ _ _ _ (recorded_sync (SharedInside.the_field P G g).row _ _ (SharedInside.the_type P G g).to_one (struct_sync (S.shape (SharedInside.the_type P G g)) (search (turns.the_sync, seated), (s, tt))))
+    view_sync _ _ _ _ _ (recorded_sync (SharedInside.the_field P G g).row _ _ (SharedInside.the_type P G g).to_one (struct_sync (S.shape (SharedInside.the_type P G g)) (search (turns.the_sync, seated), (s, (ends.the_field_sync, tt)))))

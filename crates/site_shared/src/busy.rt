@@ -18,3 +18,11 @@ pub fn is_busy<A>(answer: &Acted<A, Refusal>) -> bool
         },
     }
 }
+
+// The request that holds the session, where a request found it held.
+pub fn holder_of<A>(answer: &Acted<A, Refusal>) -> Option<u64> {
+    match answer {
+        Acted::Refused(Refusal::Busy { holder }) => Some(*holder),
+        _ => None,
+    }
+}

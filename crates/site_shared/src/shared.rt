@@ -5,6 +5,7 @@ ghost use Rattle.site_words.specs.Law.{own, run_of};
 ghost use Rattle.turn_table.specs.Passes.{AreAll, IsPassOf, newcomers};
 ghost use Rattle.pass_course.specs.Course.{IsIdle};
 
+use crate::ends::Ends;
 use crate::seated::{Seated, SitePass, SitePasses};
 use crate::turn::{SharedPort, Turn};
 use edges::Gate;
@@ -21,6 +22,7 @@ use turn_table::Turns;
 pub struct SharedSite<P: Compiled, G: Gate + Drop> {
     pub(crate) turns: Turns<Seated<P>>,
     pub(crate) gate: G,
+    pub(crate) ends: Ends,
 }
 
 impl<P: Compiled, G: Gate + Drop> Model for SharedSite<P, G> {
@@ -58,7 +60,8 @@ pub fn start<P: Compiled, G: Gate + Drop>(
     let count = site.opening().passes;
     let site = Box::new(alloc, site)?;
     let (turns, passes) = Turns::start(alloc, Seated { site }, count)?;
-    Ok((SharedSite { turns, gate }, passes))
+    let ends = Ends::new();
+    Ok((SharedSite { turns, gate, ends }, passes))
 }
 
 impl<P: Compiled, G: Gate + Drop> SharedSite<P, G> {

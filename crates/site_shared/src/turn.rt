@@ -2,14 +2,14 @@ ghost use Rattle.std.specs.Prelude.{◌≡◌, true};
 ghost use Rattle.edges.specs.Acted.{IsDid};
 ghost use Rattle.site_words.specs.declared.words.Op.TheVariants as op;
 ghost use Rattle.site_words.specs.Answers.{IsSamePort};
-ghost use Rattle.site_words.specs.Calls.{Stays};
 ghost use Rattle.site_words.specs.Law.{May, Sure, own, run_of};
 ghost use Rattle.site_words.specs.Opening.{is_sound};
 ghost use Rattle.site_state.specs.Gifts.{IsMade, value_in};
 ghost use Rattle.site_core.specs.Answered.{Answered};
 ghost use Rattle.turn_table.specs.Passes.{IsPassOf};
 
-use crate::busy::is_busy;
+use crate::busy::{holder_of, is_busy};
+use crate::ends::ended_by;
 use crate::seated::{Seated, SitePass};
 use crate::shared::SharedSite;
 use edges::Gate;
@@ -17,16 +17,7 @@ use pg_text::Text;
 use site_core::{Act, Acting, Actor, Given};
 use site_words::{Acted, Compiled, Op, Refusal};
 use std::sync::Wait;
-use std::sync::atomic::AtomicU64;
-use std::thread;
-use std::time::Duration;
 use turn_table::Turns;
-
-// How often a request looks for a change before it naps between two looks.
-const LOOKS: u32 = 20;
-
-// Then so long.
-const NAP_MICROS: u64 = 200;
 
 /// A pass of a shared site that acts in its turns.
 #[derive(Drop)]
@@ -79,43 +70,6 @@ impl<'a, P: Compiled, G: Gate + Drop, R: Wait> Turn<'a, P, G, R> {
         let op = Op::Begin { cookie, moment };
         self.act(Act { op, made: None })
     }
-
-    // Looks at the length of the history, all of which is then seen. It takes no turn.
-    fn look(&mut self) -> u64
-        ensures same { IsSamePort self.old.pass.number self.new.pass.number self.old.site.now.opening
-            self.new.site.now.opening self.old.site.now self.new.site.now }
-        ensures stays { Stays P.needs self.old.site.now.opening self.old.pass.number self.old.pass.seen
-            self.new.pass.seen }
-    {
-        let site = self.site;
-        site.turns.latest(&mut self.pass)
-    }
-
-    // Waits until the length of the history is another than this, and answers it. It takes no turn.
-    fn await_other(&mut self, known: u64) -> u64
-        ensures same { IsSamePort self.old.pass.number self.new.pass.number self.old.site.now.opening
-            self.new.site.now.opening self.old.site.now self.new.site.now }
-        ensures stays { Stays P.needs self.old.site.now.opening self.old.pass.number self.old.pass.seen
-            self.new.pass.seen }
-    {
-        self.law();
-        let rt = self.rt;
-        let nap = AtomicU64::new(0);
-        let mut looks = 0u32;
-        for _look in rt.forever() {
-            let length = self.look();
-            if length != known {
-                return length;
-            }
-            if looks < LOOKS {
-                looks += 1;
-                thread::yield_now();
-            } else {
-                nap.park_timeout(rt, 0, Duration::from_micros(NAP_MICROS));
-            }
-        }
-        unreachable!()
-    }
 }
 
 impl<'a, P: Compiled, G: Gate + Drop, R: Wait> Actor<P> for Turn<'a, P, G, R> {
@@ -146,22 +100,23 @@ impl<'a, P: Compiled, G: Gate + Drop, R: Wait> Actor<P> for Turn<'a, P, G, R> {
             (own self.old.pass.number self.old.pass.seen) act.op → IsDid result }
     {
         let site = self.site;
+        let ended = ended_by(&act.op);
         site.gate.pass(u64::from(self.pass.number()));
-        site.turns.act(self.rt, &mut self.pass, act)
+        let answer = site.turns.act(self.rt, &mut self.pass, act);
+        site.ends.announce(ended);
+        answer
     }
 
     fn begin(&mut self, cookie: &Text, moment: u64) -> Acted<Given<P>, Refusal> {
         self.law();
-        let rt = self.rt;
-        // The length of a front that was seen before the request is asked for, so a session that is
-        // free since is not missed.
-        let mut known = self.look();
+        let (site, rt) = (self.site, self.rt);
+        let mut listener = site.ends.listener();
         for _try in rt.forever() {
             let answer = self.ask_begin(cookie, moment);
             if !is_busy(&answer) {
                 return answer;
             }
-            known = self.await_other(known);
+            listener.await_end(rt, holder_of(&answer));
         }
         unreachable!()
     }
