@@ -18,8 +18,8 @@ const LOOKS: u32 = 10_000_000;
 /// The pass that asks without a session while sixty others wait for one.
 const VISITOR: u8 = 61;
 
-/// How many passes then wait.
-const WAITING: u64 = 60;
+/// How often sixty passes come to the gate until all of them wait: each twice.
+const WAITING: u64 = 120;
 
 /// Words that the threads of a meeting look at.
 #[derive(Drop)]

@@ -69,9 +69,9 @@ fn passes_leave_their_entries(rt: HostRuntime) -> Result<(), Fail> {
     Ok(())
 }
 
-// How often the sixty passes that wait come to the gate at most: for each of the 124 entries once,
-// and to end.
-const MOST_TRIES: u64 = 7_500;
+// How often the sixty passes that wait come to the gate at most: twice for each request that holds
+// the session before theirs, once to begin, and once to end.
+const MOST_TRIES: u64 = 3_780;
 
 // How often the visitor comes to the gate: to begin, and to end.
 const ITS_TURNS: u64 = 2;
