@@ -9,12 +9,12 @@ ghost use Rattle.page_code.specs.declared.op.Op.TheVariants as op;
 ghost use Rattle.page_code.specs.declared.operands.Coercion.TheVariants as coercion;
 ghost use Rattle.code_forms.specs.Codes.{arranged_code, either_code, form_code};
 ghost use Rattle.code_forms.specs.Forms.{both, does};
-ghost use Rattle.code_lowering.specs.Expressions.{coerces, tree_form};
+ghost use Rattle.code_lowering.specs.Expressions.{coerces, value_form};
 ghost use Rattle.code_lowering.specs.Lowering.{has, out_wanted};
 ghost use Rattle.el_reader.specs.El.{tree_of};
 
 use crate::names::has;
-use code_expressions::{coercion, expression, kept};
+use code_expressions::{coercion, kept, value};
 use code_forms::{arranged, chosen, operation, swapped, where_null};
 use el_reader::El;
 use page_code::{Code, Coercion, Op, Shape};
@@ -33,12 +33,12 @@ pub fn template(
     operation(alloc, ground, place, Op::Write(text.copy()?))
 }
 
-/// The code of an expression in template text.
+/// The code of an expression in template text, behind its first visits.
 pub fn shown(alloc: Global, ground: &Shape, place: &Place, el: &El) -> Result<Code, AllocError>
-    ensures { IfOk result (λ code. code ≡ form_code ground.now (both (tree_form place.now (tree_of el.now))
+    ensures { IfOk result (λ code. code ≡ form_code ground.now (both (value_form place.now (tree_of el.now))
         (both (coerces coercion.Text place.now) (does op.Put place.now)))) }
 {
-    let mut code = expression(alloc, ground, place, el)?;
+    let mut code = value(alloc, ground, place, el)?;
     code.join(coercion(alloc, ground, place, Coercion::Text)?)?;
     code.join(operation(alloc, ground, place, Op::Put)?)?;
     Ok(code)

@@ -1,5 +1,5 @@
--- The code of an expression along its left side: all visits, the first part, and what each link does.
-use Rattle.std.proofs.Common.{◌≡◌, ℕ, zero, suc, ◌<◌, false, true, List, [], ◌∷◌, ◌++◌, All, get_or, length, replicate, Option, Some, None, option_map, refl, sym, ap, subst, ◌∙◌, append_assoc, arith}
+-- The code of an expression along its left side: the first part, and what each link does.
+use Rattle.std.proofs.Common.{◌≡◌, ℕ, ◌<◌, false, true, List, [], ◌∷◌, ◌++◌, All, get_or, length, Option, Some, None, option_map, refl, sym, ap, subst, ◌∙◌, append_assoc, arith}
 use Rattle.std.proofs.lemmas.List.{append-nil}
 use Rattle.std.proofs.lemmas.List.Elements.{All-get_or, All-same, All-tail}
 use Rattle.std.specs.Borrow.{Bor}
@@ -11,25 +11,18 @@ use Rattle.el_reader.specs.declared.chain.Link.{Link}
 use Rattle.el_reader.specs.declared.chain.Link.TheVariants as link
 use Rattle.el_reader.specs.declared.el.El.{El, size-El}
 use Rattle.code_expressions.specs.Chain.{operation_form, link_form, links_form}
-use Rattle.page_code.specs.Shapes.{cell, up}
 use Rattle.page_code.specs.declared.code.Cell.{Cell}
-use Rattle.page_code.specs.declared.instr.Instr.TheVariants as instr
-use Rattle.page_code.specs.declared.op.Op.TheVariants as op
 use Rattle.page_code.specs.declared.operands.Coercion.TheVariants as coercion
 use Rattle.page_code.specs.declared.shape.Shape.{Shape}
 use Rattle.code_forms.specs.Codes.{form_code}
 use Rattle.code_forms.specs.Forms.{Form, chosen}
-use Rattle.code_lowering.specs.Expressions.{as_truth, binary_form, coerces, constant, entry_form, index_form, tree_form, visits}
+use Rattle.code_lowering.specs.Expressions.{as_truth, binary_form, coerces, constant, entry_form, index_form, tree_form, value_form}
 use Rattle.page_meaning.specs.Expressions.{keyed_object}
 use Rattle.page_meaning.specs.Implicit.{Keyed}
 use Rattle.pg_text.specs.declared.place.Place.{Place}
 use Rattle.pg_value.specs.Datum.{truth}
 use Rattle.pg_value.specs.declared.operators.BinOp.{BinOp}
 use Rattle.pg_value.specs.declared.operators.BinOp.TheVariants as binary_op
-
--- one visit
-abbrev pub visit : Shape → Place → Cell
-visit sh place = cell (up 0 sh) place (instr.Op (op.Visit 1))
 
 -- the link takes the whole value before it
 abbrev pub TakesValue : Tree → Link → Type 0
@@ -53,25 +46,25 @@ operated sh place binary_op.Ge left right = refl
 operated sh place binary_op.Eq left right = refl
 operated sh place binary_op.Ne left right = refl
 
--- a value and one link: a visit, the value, and what the link does
-pub one_link : (sh : Shape) (place : Place) (t : Tree) (l : Link) → TakesValue t l
-    → form_code sh (tree_form place (linked t l)) ≡ visit sh place ∷ (form_code sh (tree_form place t) ++ form_code sh (link_form place l))
-one_link sh place t (link.Operation o right) h = ap (λ code. visit sh place ∷ code) (operated sh place o (tree_form place t) (tree_form place (tree_of right.now)))
-one_link sh place t (link.Key key) h = ap (λ k. form_code sh (index_form place k (tree_form place t) (tree_form place (tree_of key.now)))) h
+-- a value and one link
+one_link : (sh : Shape) (place : Place) (t : Tree) (l : Link) → TakesValue t l
+    → form_code sh (value_form place t) ++ form_code sh (link_form place l) ≡ form_code sh (value_form place (linked t l))
+one_link sh place t (link.Operation o right) h = sym (operated sh place o (value_form place t) (tree_form place (tree_of right.now)))
+one_link sh place t (link.Key key) h = sym (ap (λ k. form_code sh (index_form place k (value_form place t) (tree_form place (tree_of key.now)))) h)
 
 -- the same of an operator
 pub operation_linked : (sh : Shape) (place : Place) (t : Tree) (l : Link) {o : BinOp} {right : Bor El} → l ≡ link.Operation o right
-    → form_code sh (visits 1 place) ++ (form_code sh (tree_form place t) ++ form_code sh (link_form place l)) ≡ form_code sh (tree_form place (linked t l))
+    → form_code sh (value_form place t) ++ form_code sh (link_form place l) ≡ form_code sh (value_form place (linked t l))
 operation_linked sh place t l {o} {right} is =
-    subst (λ x. form_code sh (visits 1 place) ++ (form_code sh (tree_form place t) ++ form_code sh (link_form place x)) ≡ form_code sh (tree_form place (linked t x))) (sym is)
-    (sym (one_link sh place t (link.Operation o right) tt))
+    subst (λ x. form_code sh (value_form place t) ++ form_code sh (link_form place x) ≡ form_code sh (value_form place (linked t x))) (sym is)
+    (one_link sh place t (link.Operation o right) tt)
 
 -- the same of a key of a value that is no such object
 pub key_linked : (sh : Shape) (place : Place) (t : Tree) (l : Link) {key : Bor El} → l ≡ link.Key key → keyed_object t ≡ None
-    → form_code sh (visits 1 place) ++ (form_code sh (tree_form place t) ++ form_code sh (link_form place l)) ≡ form_code sh (tree_form place (linked t l))
+    → form_code sh (value_form place t) ++ form_code sh (link_form place l) ≡ form_code sh (value_form place (linked t l))
 key_linked sh place t l {key} is none =
-    subst (λ x. form_code sh (visits 1 place) ++ (form_code sh (tree_form place t) ++ form_code sh (link_form place x)) ≡ form_code sh (tree_form place (linked t x))) (sym is)
-    (sym (one_link sh place t (link.Key key) none))
+    subst (λ x. form_code sh (value_form place t) ++ form_code sh (link_form place x) ≡ form_code sh (value_form place (linked t x))) (sym is)
+    (one_link sh place t (link.Key key) none)
 
 -- behind a link nothing is an object of which one entry is taken
 no_key : (t : Tree) (l : Link) → keyed_object (linked t l) ≡ None
@@ -82,26 +75,15 @@ takes_value : (t : Tree) (l : Link) → keyed_object t ≡ None → TakesValue t
 takes_value t (link.Operation o right) h = tt
 takes_value t (link.Key key) h = h
 
-behind : (n : ℕ) (c : Cell) (rest : List Cell) → replicate n c ++ (c ∷ rest) ≡ c ∷ (replicate n c ++ rest)
-behind zero c rest = refl
-behind (suc n) c rest = ap (λ cells. c ∷ cells) (behind n c rest)
-
--- a value and links: a visit for each link, the value, and what each link does
+-- a value and links
 pub links_code : (sh : Shape) (place : Place) (t : Tree) (links : List Link) → keyed_object t ≡ None
-    → form_code sh (tree_form place (chained t links)) ≡ replicate (length links) (visit sh place) ++ (form_code sh (tree_form place t) ++ form_code sh (links_form place links))
-links_code sh place t [] h = sym (append-nil (form_code sh (tree_form place t)))
+    → form_code sh (value_form place t) ++ form_code sh (links_form place links) ≡ form_code sh (value_form place (chained t links))
+links_code sh place t [] h = append-nil (form_code sh (value_form place t))
 links_code sh place t (l ∷ links) h =
-    links_code sh place (linked t l) links (no_key t l)
-    ∙ ap (λ code. seen ++ (code ++ others)) (one_link sh place t l (takes_value t l h))
-    ∙ behind (length links) (visit sh place) ((value ++ form_code sh (link_form place l)) ++ others)
-    ∙ ap (λ code. visit sh place ∷ (seen ++ code)) (append_assoc value (form_code sh (link_form place l)) others)
+    sym (append_assoc (form_code sh (value_form place t)) (form_code sh (link_form place l)) others)
+    ∙ ap (λ code. code ++ others) (one_link sh place t l (takes_value t l h))
+    ∙ links_code sh place (linked t l) links (no_key t l)
   where
-    seen : List Cell
-    seen = replicate (length links) (visit sh place)
-
-    value : List Cell
-    value = form_code sh (tree_form place t)
-
     others : List Cell
     others = form_code sh (links_form place links)
 
@@ -111,20 +93,12 @@ chain_alone first whole [] slice is same none = is
 chain_alone first whole (l ∷ links) slice is same none = let e = ap length same in absurd (omega (arith, e, none))
 
 -- the code of a chain from its first link on
-pub chain_begins : (sh : Shape) (place : Place) (first whole : Tree) (all slice links : List Link) (l : Link) (n : ℕ) (seen head code : List Cell) → chained first all ≡ whole → slice ≡ all
-    → IsFirstAndRest slice l links → n ≡ length links → seen ≡ replicate n (visit sh place) → head ≡ form_code sh (tree_form place (linked first l)) → code ≡ seen ++ head
-    → code ++ form_code sh (links_form place links) ≡ form_code sh (tree_form place whole)
-chain_begins sh place first whole all slice links l n seen head code is same cut count visited begun made =
-    ap (λ c. c ++ others) (made ∙ ap (λ c. c ++ head) (visited ∙ ap (λ m. replicate m (visit sh place)) count) ∙ ap (λ c. before ++ c) begun)
-    ∙ append_assoc before (form_code sh (tree_form place (linked first l))) others
-    ∙ sym (links_code sh place (linked first l) links (no_key first l))
-    ∙ ap (λ t. form_code sh (tree_form place t)) (ap (λ ls. chained first ls) (sym cut.0 ∙ same) ∙ is)
-  where
-    before : List Cell
-    before = replicate (length links) (visit sh place)
-
-    others : List Cell
-    others = form_code sh (links_form place links)
+pub chain_begins : (sh : Shape) (place : Place) (first whole : Tree) (all slice links : List Link) (l : Link) (code : List Cell) → chained first all ≡ whole → slice ≡ all
+    → IsFirstAndRest slice l links → code ≡ form_code sh (value_form place (linked first l)) → code ++ form_code sh (links_form place links) ≡ form_code sh (value_form place whole)
+chain_begins sh place first whole all slice links l code is same cut begun =
+    ap (λ c. c ++ form_code sh (links_form place links)) begun
+    ∙ links_code sh place (linked first l) links (no_key first l)
+    ∙ ap (λ t. form_code sh (value_form place t)) (ap (λ ls. chained first ls) (sym cut.0 ∙ same) ∙ is)
 
 -- the part of a link is less deep than the whole
 pub link_is_below : (most : ℕ) (all slice links : List Link) (first l : Link) (i : ℕ) → All (λ part. size-El (right_of part) < most) all → slice ≡ all → IsFirstAndRest slice first links
@@ -136,10 +110,9 @@ link_is_below most all slice links first l i below same cut lt is =
 
 -- an index that takes one entry alone
 pub entry_taken : (sh : Shape) (place : Place) (k : Option Keyed) (a b : Tree) (key entry : List Cell) → option_map (λ o. form_code sh (entry_form place o)) k ≡ Some entry
-    → key ≡ form_code sh (tree_form place b) → form_code sh (visits 2 place) ++ (key ++ entry) ≡ form_code sh (index_form place k (tree_form place a) (tree_form place b))
+    → key ≡ form_code sh (tree_form place b) → key ++ entry ≡ form_code sh (index_form place k (value_form place a) (tree_form place b))
 entry_taken sh place None a b key entry some is = absurd (cc)
-entry_taken sh place (Some o) a b key entry some is =
-    ap (λ c. form_code sh (visits 2 place) ++ (c ++ entry)) is ∙ ap (λ c. form_code sh (visits 2 place) ++ (form_code sh (tree_form place b) ++ c)) (some_same entry (form_code sh (entry_form place o)) (sym some))
+entry_taken sh place (Some o) a b key entry some is = ap (λ c. c ++ entry) is ∙ ap (λ c. form_code sh (tree_form place b) ++ c) (some_same entry (form_code sh (entry_form place o)) (sym some))
   where
     some_same : (x y : List Cell) → Some x ≡ Some y → x ≡ y
     some_same x y e = cc

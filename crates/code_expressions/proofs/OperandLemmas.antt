@@ -9,7 +9,7 @@ use Rattle.page_code.specs.declared.op.Op.TheVariants as op
 use Rattle.page_code.specs.declared.shape.Shape.{Shape}
 use Rattle.code_forms.specs.Codes.{form_code}
 use Rattle.code_forms.specs.Forms.{does}
-use Rattle.code_lowering.specs.Expressions.{call_form, pair_count, pairs_form, tree_count, trees_form, visits}
+use Rattle.code_lowering.specs.Expressions.{call_form, pair_count, pairs_form, tree_count, trees_form}
 use Rattle.pg_text.specs.declared.place.Place.{Place}
 use Rattle.pg_value.specs.declared.function.Function.{Function}
 use Rattle.code_expressions.proofs.ListLemmas.{pairs_code, pair_count_is, tree_count_is, trees_code}
@@ -17,11 +17,11 @@ use Rattle.code_expressions.proofs.ListLemmas.{pairs_code, pair_count_is, tree_c
 module _ (sh : Shape) (place : Place) where
   -- the code of a list of so many values
   abbrev pub list_code : ℕ → List Cell → List Cell
-  list_code n values = form_code sh (visits 1 place) ++ (values ++ form_code sh (does (op.MakeList n) place))
+  list_code n values = values ++ form_code sh (does (op.MakeList n) place)
 
   -- the code of a map of so many entries
   abbrev pub map_code : ℕ → List Cell → List Cell
-  map_code n values = form_code sh (visits 1 place) ++ (values ++ form_code sh (does (op.MakeMap n) place))
+  map_code n values = values ++ form_code sh (does (op.MakeMap n) place)
 
   called_is : (found : Option Function) (ts : Trees) → call_code sh place found (tree_count ts) (form_code sh (trees_form place ts)) ≡ form_code sh (call_form place found (tree_count ts) (trees_form place ts))
   called_is (Some f) ts = refl
@@ -41,9 +41,9 @@ module _ (sh : Shape) (place : Place) where
 
   pub call_is : (found : Option Function) (ts : Trees) (items : List El) (n : ℕ) (arguments : List Cell) → ts ≡ trees_of (map tree_of items) → n ≡ length items
       → arguments ≡ trees_code sh place items
-      → form_code sh (visits 1 place) ++ call_code sh place found n arguments ≡ form_code sh (visits 1 place) ++ form_code sh (call_form place found (tree_count ts) (trees_form place ts))
+      → call_code sh place found n arguments ≡ form_code sh (call_form place found (tree_count ts) (trees_form place ts))
   call_is found ts items n arguments is count valued =
-      ap (λ vs. form_code sh (visits 1 place) ++ call_code sh place found n vs) valued
-      ∙ ap (λ m. form_code sh (visits 1 place) ++ call_code sh place found m (trees_code sh place items)) (count ∙ sym (tree_count_is items))
-      ∙ ap (λ (t : Trees). form_code sh (visits 1 place) ++ call_code sh place found (tree_count t) (form_code sh (trees_form place t))) (sym is)
-      ∙ ap (λ cells. form_code sh (visits 1 place) ++ cells) (called_is found ts)
+      ap (λ vs. call_code sh place found n vs) valued
+      ∙ ap (λ m. call_code sh place found m (trees_code sh place items)) (count ∙ sym (tree_count_is items))
+      ∙ ap (λ (t : Trees). call_code sh place found (tree_count t) (form_code sh (trees_form place t))) (sym is)
+      ∙ called_is found ts

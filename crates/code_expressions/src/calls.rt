@@ -4,11 +4,10 @@ ghost use Rattle.code_expressions.specs.Calls.{call_code};
 ghost use Rattle.page_code.specs.declared.op.Op.TheVariants as op;
 ghost use Rattle.code_forms.specs.Codes.{form_code};
 ghost use Rattle.code_forms.specs.Forms.{does};
-ghost use Rattle.code_lowering.specs.Expressions.{constant, fitted, visits};
-ghost use Rattle.pg_value.specs.Datum.{null};
+ghost use Rattle.code_lowering.specs.Expressions.{fitted};
 ghost use Rattle.pg_value.specs.Function.{arity_of, function_named};
 
-use crate::single::{constant, visits};
+use crate::single::constant;
 use code_forms::operation;
 use page_code::{Code, Op, Shape};
 use pg_text::Place;
@@ -25,12 +24,12 @@ pub(crate) fn call(
     count: usize,
     arguments: Code,
 ) -> Result<Code, AllocError>
-    ensures { IfOk result (λ code. code ≡ form_code ground.now (visits 1 place.now)
-        ++ call_code ground.now place.now (function_named name.now) count arguments) }
+    ensures { IfOk result (λ code. code
+        ≡ call_code ground.now place.now (function_named name.now) count arguments) }
 {
     match Function::of_name(name) {
         Some(function) => called(alloc, ground, place, function, count, arguments),
-        None => unknown(alloc, ground, place),
+        None => constant(alloc, ground, place, Value::Null),
     }
 }
 
@@ -43,25 +42,14 @@ fn called(
     count: usize,
     arguments: Code,
 ) -> Result<Code, AllocError>
-    ensures { IfOk result (λ code. code ≡ form_code ground.now (visits 1 place.now)
-        ++ (arguments ++ (form_code ground.now (fitted place.now count (arity_of function))
-        ++ form_code ground.now (does (op.Call function) place.now)))) }
+    ensures { IfOk result (λ code. code ≡ arguments
+        ++ (form_code ground.now (fitted place.now count (arity_of function))
+        ++ form_code ground.now (does (op.Call function) place.now))) }
 {
     let mut rest = fitted(alloc, ground, place, count, function.arity())?;
     rest.join(operation(alloc, ground, place, Op::Call(function))?)?;
-    let mut code = visits(alloc, ground, place, 1)?;
-    code.join(arguments)?;
+    let mut code = arguments;
     code.join(rest)?;
-    Ok(code)
-}
-
-// The code of the call of a function that there isn't.
-fn unknown(alloc: Global, ground: &Shape, place: &Place) -> Result<Code, AllocError>
-    ensures { IfOk result (λ code. code ≡ form_code ground.now (visits 1 place.now) ++ form_code ground.now
-        (constant place.now null)) }
-{
-    let mut code = visits(alloc, ground, place, 1)?;
-    code.join(constant(alloc, ground, place, Value::Null)?)?;
     Ok(code)
 }
 

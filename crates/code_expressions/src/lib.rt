@@ -15,6 +15,6 @@ mod values;
 mod written;
 
 pub use single::{coercion, constant, visits};
-pub use tree::expression;
+pub use tree::{expression, first_visits, value};
 pub use values::{Evaluation, coerced, kept};
 pub use written::parts;

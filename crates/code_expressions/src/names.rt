@@ -1,16 +1,15 @@
 // Names: implicit objects and variables.
-ghost use Rattle.std.specs.Prelude.{◌≡◌, ◌++◌, option_map, Some, IfOk};
+ghost use Rattle.std.specs.Prelude.{◌≡◌, option_map, Some, IfOk};
 ghost use Rattle.el_reader.specs.El.{tree_of};
 ghost use Rattle.el_reader.specs.Tree.{name as named};
 ghost use Rattle.code_expressions.specs.Objects.{entry_code};
 ghost use Rattle.page_code.specs.declared.op.Op.TheVariants as op;
 ghost use Rattle.code_forms.specs.Codes.{form_code};
 ghost use Rattle.code_forms.specs.Forms.{does};
-ghost use Rattle.code_lowering.specs.Expressions.{entry_form, name_form, object_of, tree_form, visits};
+ghost use Rattle.code_lowering.specs.Expressions.{entry_form, name_form, object_of};
 ghost use Rattle.page_meaning.specs.Expressions.{keyed_object};
 ghost use Rattle.page_meaning.specs.Implicit.{implicit_named};
 
-use crate::single::visits;
 use code_forms::operation;
 use el_reader::El;
 use page_code::{Code, HeaderObject, Implicit, Name, Op, Shape};
@@ -18,22 +17,8 @@ use pg_text::{Place, Text};
 use pg_value::Scope;
 use std::alloc::{AllocError, Global};
 
-/// The code of a name alone.
+/// The code of a name alone: an implicit object or a variable.
 pub(crate) fn name(
-    alloc: Global,
-    ground: &Shape,
-    place: &Place,
-    name: &Text,
-) -> Result<Code, AllocError>
-    ensures { IfOk result (λ code. code ≡ form_code ground.now (tree_form place.now (named name.now))) }
-{
-    let mut code = visits(alloc, ground, place, 1)?;
-    code.join(object_or_variable(alloc, ground, place, name)?)?;
-    Ok(code)
-}
-
-// The code of a name behind its visit.
-fn object_or_variable(
     alloc: Global,
     ground: &Shape,
     place: &Place,
@@ -117,22 +102,6 @@ fn entry_of(
         Implicit::InitParam => return Ok(None),
     };
     Ok(Some(entry))
-}
-
-/// The code of an index that takes one entry alone: two visits, the key, and what takes the entry.
-pub(crate) fn entry_at(
-    alloc: Global,
-    ground: &Shape,
-    place: &Place,
-    key: Code,
-    entry: Code,
-) -> Result<Code, AllocError>
-    ensures { IfOk result (λ code. code ≡ form_code ground.now (visits 2 place.now) ++ (key ++ entry)) }
-{
-    let mut code = visits(alloc, ground, place, 2)?;
-    code.join(key)?;
-    code.join(entry)?;
-    Ok(code)
 }
 
 // The implicit object of this name.

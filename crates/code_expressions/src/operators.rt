@@ -7,11 +7,11 @@ ghost use Rattle.page_code.specs.declared.op.Op.TheVariants as op;
 ghost use Rattle.page_code.specs.declared.operands.Coercion.TheVariants as coercion;
 ghost use Rattle.code_forms.specs.Codes.{either_code, form_code};
 ghost use Rattle.code_forms.specs.Forms.{does};
-ghost use Rattle.code_lowering.specs.Expressions.{coerces, constant, tree_form, visits};
+ghost use Rattle.code_lowering.specs.Expressions.{coerces, constant, value_form};
 ghost use Rattle.pg_value.specs.Datum.{truth};
 ghost use Rattle.pg_value.specs.Value.{datum_of};
 
-use crate::single::{coercion, constant, visits};
+use crate::single::{coercion, constant};
 use code_forms::{chosen, operation};
 use page_code::{Code, Coercion, Op, Shape};
 use pg_text::Place;
@@ -26,17 +26,16 @@ pub(crate) fn literal(
     value: &Value,
 ) -> Result<Code, AllocError>
     ensures { IfOk result (λ code. code ≡ form_code ground.now
-        (tree_form place.now (literal (datum_of value.now)))) }
+        (value_form place.now (literal (datum_of value.now)))) }
 {
-    let mut code = visits(alloc, ground, place, 1)?;
-    code.join(constant(alloc, ground, place, value.copy()?)?)?;
+    let mut code = constant(alloc, ground, place, value.copy()?)?;
     if is_too_large(value) {
         code.join(operation(alloc, ground, place, Op::MakeList(1))?)?;
     }
     Ok(code)
 }
 
-/// The code of values, of which an operation makes one, behind a visit.
+/// The code of values, of which an operation makes one.
 pub(crate) fn made_of(
     alloc: Global,
     ground: &Shape,
@@ -44,11 +43,9 @@ pub(crate) fn made_of(
     values: Code,
     op: Op,
 ) -> Result<Code, AllocError>
-    ensures { IfOk result (λ code. code ≡ form_code ground.now (visits 1 place.now)
-        ++ (values ++ form_code ground.now (does op place.now))) }
+    ensures { IfOk result (λ code. code ≡ values ++ form_code ground.now (does op place.now)) }
 {
-    let mut code = visits(alloc, ground, place, 1)?;
-    code.join(values)?;
+    let mut code = values;
     code.join(operation(alloc, ground, place, op)?)?;
     Ok(code)
 }
@@ -62,12 +59,11 @@ pub(crate) fn choice(
     one: Code,
     other: Code,
 ) -> Result<Code, AllocError>
-    ensures { IfOk result (λ code. code ≡ form_code ground.now (visits 1 place.now)
-        ++ ((condition ++ form_code ground.now (coerces coercion.Truth place.now)) ++ either_code
-        (up 1 ground.now) (up 1 ground.now) place.now (instr.JumpIf false) one other)) }
+    ensures { IfOk result (λ code. code
+        ≡ (condition ++ form_code ground.now (coerces coercion.Truth place.now)) ++ either_code
+        (up 1 ground.now) (up 1 ground.now) place.now (instr.JumpIf false) one other) }
 {
-    let mut code = visits(alloc, ground, place, 1)?;
-    code.join(condition)?;
+    let mut code = condition;
     code.join(coercion(alloc, ground, place, Coercion::Truth)?)?;
     let test = ground.up(1)?;
     code.join(chosen(alloc, &test, &test, place, one, other)?)?;

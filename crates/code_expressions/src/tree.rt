@@ -1,37 +1,63 @@
 // Expressions, along their left sides.
-ghost use Rattle.std.specs.Prelude.{◌≡◌, ◌++◌, false, map, replicate, IfOk};
+ghost use Rattle.std.specs.Prelude.{◌≡◌, ◌+◌, ◌++◌, false, map, IfOk};
 ghost use Rattle.el_reader.specs.Chain.{leans, linked};
 ghost use Rattle.el_reader.specs.El.{pair_of, tree_of};
 ghost use Rattle.el_reader.specs.Tree.{pairs_of, trees_of};
 ghost use Rattle.code_expressions.specs.Chain.{link_form};
-ghost use Rattle.page_code.specs.Shapes.{cell, up};
-ghost use Rattle.page_code.specs.declared.instr.Instr.TheVariants as instr;
-ghost use Rattle.page_code.specs.declared.op.Op.TheVariants as op;
 ghost use Rattle.code_forms.specs.Codes.{form_code};
-ghost use Rattle.code_lowering.specs.Expressions.{pairs_form, tree_form, trees_form, visits};
+ghost use Rattle.code_lowering.specs.Expressions.{first_visits, pairs_form, tree_form, trees_form, value_form};
 
 use crate::calls::call;
-use crate::names::{entry, entry_at, name};
+use crate::names::{entry, name};
 use crate::operators::{and_then, choice, literal, made_of, or_else};
 use crate::single::visits;
 use code_forms::operation;
 use el_reader::{BinOp, Chain, El, Link};
-use page_code::{Code, Instr, Op, Shape};
+use page_code::{Code, Op, Shape};
 use pg_text::Place;
 use std::alloc::{AllocError, Global};
 
-/// The code of an expression, whose faults stand at a place. It goes along the left side in a loop:
-/// a long sum is as deep as it is long.
+/// How many visits stand before all else in an expression, which so many others precede.
+/// A count that an operation can't hold is answered as want of memory.
+pub fn first_visits(before: u32, el: &El) -> Result<u32, AllocError>
+    ensures { IfOk result (λ count. count ≡ before + first_visits (tree_of el.now)) }
+{
+    let mut count = before;
+    let mut first = el;
+    loop {
+        count = count.checked_add(1).ok_or(AllocError)?;
+        match first {
+            El::Index(value, _) => first = value,
+            El::Unary(_, part) => first = part,
+            El::Binary(_, left, _) => first = left,
+            El::Choice(condition, _, _) => first = condition,
+            _ => break,
+        }
+    }
+    Ok(count)
+}
+
+/// The code of an expression, whose faults stand at a place.
 #[cycle(expression)]
 pub fn expression(alloc: Global, ground: &Shape, place: &Place, el: &El) -> Result<Code, AllocError>
     ensures { IfOk result (λ code. code ≡ form_code ground.now (tree_form place.now (tree_of el.now))) }
+{
+    let mut code = visits(alloc, ground, place, first_visits(0, el)?)?;
+    code.join(value(alloc, ground, place, el)?)?;
+    Ok(code)
+}
+
+/// The code of an expression behind its first visits. It goes along the left side in a loop: a long
+/// sum is as deep as it is long.
+#[cycle(expression)]
+pub fn value(alloc: Global, ground: &Shape, place: &Place, el: &El) -> Result<Code, AllocError>
+    ensures { IfOk result (λ code. code ≡ form_code ground.now (value_form place.now (tree_of el.now))) }
 {
     let chain = Chain::of(alloc, el)?;
     match chain.links.split_first() {
         None => operand(alloc, ground, place, chain.first),
         Some((first, links)) => {
-            let mut code = visit_each(alloc, ground, place, links.len())?;
-            code.join(first_link(alloc, ground, place, chain.first, first)?)?;
+            let mut code = first_link(alloc, ground, place, chain.first, first)?;
             for link in links {
                 code.join(next_link(alloc, ground, place, link)?)?;
             }
@@ -40,29 +66,11 @@ pub fn expression(alloc: Global, ground: &Shape, place: &Place, el: &El) -> Resu
     }
 }
 
-// The code of so many visits, each by itself.
-fn visit_each(
-    alloc: Global,
-    ground: &Shape,
-    place: &Place,
-    count: usize,
-) -> Result<Code, AllocError>
-    ensures { IfOk result (λ code. code ≡ replicate count
-        (cell (up 0 ground.now) place.now (instr.Op (op.Visit 1)))) }
-{
-    let before = ground.up(0)?;
-    let mut code = Code::new(alloc);
-    for _index in 0..count {
-        code.put(&before, place, Instr::Op(Op::Visit(1)))?;
-    }
-    Ok(code)
-}
-
-// The code of an expression that has no link at its end.
+// The code of an expression that has no link at its end, behind its first visits.
 #[cycle(expression)]
 fn operand(alloc: Global, ground: &Shape, place: &Place, el: &El) -> Result<Code, AllocError>
     requires { leans (tree_of el.now) ≡ false }
-    ensures { IfOk result (λ code. code ≡ form_code ground.now (tree_form place.now (tree_of el.now))) }
+    ensures { IfOk result (λ code. code ≡ form_code ground.now (value_form place.now (tree_of el.now))) }
 {
     match el {
         El::Literal(value) => literal(alloc, ground, place, value),
@@ -84,11 +92,11 @@ fn operand(alloc: Global, ground: &Shape, place: &Place, el: &El) -> Result<Code
             made_of(alloc, ground, place, values, Op::MakeMap(pairs.len()))
         }
         El::Unary(op, part) => {
-            let value = expression(alloc, ground, place, part)?;
-            made_of(alloc, ground, place, value, Op::Unary(*op))
+            let part = value(alloc, ground, place, part)?;
+            made_of(alloc, ground, place, part, Op::Unary(*op))
         }
         El::Choice(condition, one, other) => {
-            let condition = expression(alloc, ground, place, condition)?;
+            let condition = value(alloc, ground, place, condition)?;
             let one = expression(alloc, ground, place, one)?;
             let other = expression(alloc, ground, place, other)?;
             choice(alloc, ground, place, condition, one, other)
@@ -109,13 +117,14 @@ fn first_link(
 ) -> Result<Code, AllocError>
     requires { leans (tree_of value.now) ≡ false }
     ensures { IfOk result (λ code. code ≡ form_code ground.now
-        (tree_form place.now (linked (tree_of value.now) link.now))) }
+        (value_form place.now (linked (tree_of value.now) link.now))) }
 {
     match link {
         Link::Key(key) => match entry(alloc, ground, place, value)? {
             Some(entry) => {
-                let key = expression(alloc, ground, place, key)?;
-                entry_at(alloc, ground, place, key, entry)
+                let mut code = expression(alloc, ground, place, key)?;
+                code.join(entry)?;
+                Ok(code)
             }
             None => whole_link(alloc, ground, place, value, link),
         },
@@ -133,12 +142,10 @@ fn whole_link(
     link: &Link,
 ) -> Result<Code, AllocError>
     requires { leans (tree_of value.now) ≡ false }
-    ensures { IfOk result (λ code. code ≡ form_code ground.now (visits 1 place.now)
-        ++ (form_code ground.now (tree_form place.now (tree_of value.now)) ++ form_code ground.now
-        (link_form place.now link.now))) }
+    ensures { IfOk result (λ code. code ≡ form_code ground.now (value_form place.now (tree_of value.now))
+        ++ form_code ground.now (link_form place.now link.now)) }
 {
-    let mut code = visits(alloc, ground, place, 1)?;
-    code.join(operand(alloc, ground, place, value)?)?;
+    let mut code = operand(alloc, ground, place, value)?;
     code.join(next_link(alloc, ground, place, link)?)?;
     Ok(code)
 }

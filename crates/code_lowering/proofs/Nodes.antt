@@ -1,13 +1,14 @@
 -- The form of each kind of node means the node.
-use Rattle.std.proofs.Common.{◌≡◌, ℕ, Bool, List, [], ◌∷◌, codes, length, Some, None, Option, refl, ap, ◌∙◌}
+use Rattle.std.proofs.Common.{◌≡◌, ℕ, Bool, List, [], ◌∷◌, codes, length, Some, None, Option, refl, sym, ap, ◌∙◌}
 use Rattle.el_ops.specs.Indexing.{or_null}
 use Rattle.page_code.specs.declared.op.Op.TheVariants as op
 use Rattle.page_code.specs.declared.operands.Over.TheVariants as over
 use Rattle.page_meaning.specs.Attributes.{Coercion, coercion_in, evaluated_names, parts_value, text_in}
 use Rattle.page_meaning.specs.Beans.{bean_in, value_place}
-use Rattle.page_meaning.specs.Bodies.{put_text, given_value}
+use Rattle.page_meaning.specs.Bodies.{put_text, given_value, shown_mean}
 use Rattle.page_meaning.specs.Coercions.{out_coercions, set_coercions, test_coercions, each_coercions, token_coercions, url_coercions, param_coercions, page_coercions}
 use Rattle.page_meaning.specs.Context.{Served, Here, run_of, Deeper}
+use Rattle.page_meaning.specs.Expressions.{ev}
 use Rattle.page_meaning.specs.Includes.{include_mean, forward_mean}
 use Rattle.page_meaning.specs.Meaning.{flush_if, node_mean, nodes_mean, attributes_mean, params_mean, branches_mean}
 use Rattle.page_meaning.specs.Page.{TagFile, Variable, Node, template, shown, out, set, set_entry, remove, catch, when_true, choose, each, each_token, import, url, redirect, include, forward, use_bean, get_property, set_property, group, do_body, invoke, call, Nodes, no_nodes, more_nodes, Attributes, no_attributes, written, given, Params, no_params, param, Branches, no_branches, when, otherwise, Body, place_of}
@@ -22,9 +23,9 @@ use Rattle.pg_value.proofs.Inverses.{datum_of-value_of}
 use Rattle.pg_value.specs.Datum.{Datum, text}
 use Rattle.pg_value.specs.Value.{value_of}
 use Rattle.scopes.specs.HeldScope.{held_scope}
-use Rattle.code_lowering.specs.Expressions.{visits}
+use Rattle.code_lowering.specs.Expressions.{visits, first_visits}
 use Rattle.code_forms.specs.Forms.{Form, nothing, both, counted, calls, included_page, forwards_to, address_is}
-use Rattle.code_lowering.specs.Lowering.{names_in, scoped, loop_kind, coercion_by, tag_form, bean_of, param_count, page_form, handed_form, fragments_form, node_form, nodes_form, attributes_form, params_form, branches_form}
+use Rattle.code_lowering.specs.Lowering.{node_visits, names_in, scoped, loop_kind, coercion_by, tag_form, bean_of, param_count, page_form, handed_form, fragments_form, node_form, nodes_form, attributes_form, params_form, branches_form}
 use Rattle.code_lowering.specs.Programs.{stored_of}
 use Rattle.code_lowering.proofs.Actions.{tests_goes, if_goes, set_goes, set_entry_goes, kept_in_goes, removes_goes}
 use Rattle.code_lowering.proofs.Outputs.{out_goes, url_put_goes, shown_goes, get_property_goes}
@@ -37,7 +38,7 @@ use Rattle.code_lowering.proofs.Params.{pairs_mean, with_params, pairs_counted, 
 use Rattle.code_lowering.proofs.Parts.{Yields, onto}
 use Rattle.code_lowering.proofs.Properties.{property_goes}
 use Rattle.code_lowering.proofs.Seats.{Same, seat_of}
-use Rattle.code_lowering.proofs.Trees.{SeatOf, serving_by, flat, visited_goes, tree_goes}
+use Rattle.code_lowering.proofs.Trees.{SeatOf, Visits, serving_by, flat, one_more, one_visit, visits_then, value_mean, first_then, visits_go, visited_goes, value_goes}
 use Rattle.code_lowering.proofs.Values.{Given, given_none, given_length, attribute_given, parts_goes, given_goes, with_value_goes}
 
 module _ (served : Served) (stored : List ℕ → Stored) (agrees : (path : List ℕ) → stored path ≡ stored_of (served.pages path)) (here : Here) (seat : Seat) (same : Same here seat) where
@@ -79,9 +80,24 @@ module _ (served : Served) (stored : List ℕ → Stored) (agrees : (path : List
       → Goes serving seat levels Below (both (attributes_form (run_of here).page list c) rest) [] st (λ dp s. then_do (attributes_mean served dp list here c s) (λ ds s1. go ds dp s1))
   with_attributes list c h g = with_values_goes c (evaluated_names c list) (λ dp s. attributes_given list c dp s) h g
 
-  visit_then : {f g : Form 0 0} {m n : Deeper → State → Did} (place : Place) → Means f m → Means g n
-      → Means (both (both (visits 1 place) f) g) (λ dp s. then_do (visited place (m dp) s) (λ u s1. n dp s1))
-  visit_then {f = f} {g = g} place hf hg = both_goes (both (visits 1 place) f) g (visited_goes served stored levels Below here seat seated place hf) (λ u. hg)
+  -- what a node means behind its visits
+  abbrev Behind : Deeper → Node → State → Did
+  Behind dp (shown e place) s = shown_mean place (value_mean served here place e) s
+  Behind dp other s = node_mean served dp other here s
+
+  -- a node is its visits and then the rest
+  node_then : (dp : Deeper) (n : Node) → Visits (place_of n) (node_visits n) (λ s. visited (place_of n) (λ s1. node_mean served dp n here s1) s) (Behind dp n)
+  node_then dp (shown e place) s =
+      one_more place (first_visits e) (shown_mean place (ev served here place e)) (shown_mean place (value_mean served here place e))
+      (visits_then place (first_visits e) (ev served here place e) (value_mean served here place e) _ (first_then served here place e)) s
+  node_then dp other s = one_visit (place_of other) (λ s1. node_mean served dp other here s1) s
+
+  visits_node : {f g : Form 0 0} {m : Deeper → State → Did} (n : Node) → Means f (λ dp s. Behind dp n s) → Means g m
+      → Means (both (both (visits (node_visits n) (place_of n)) f) g) (λ dp s. then_do (visited (place_of n) (λ s1. node_mean served dp n here s1) s) (λ u s1. m dp s1))
+  visits_node {f = f} {g = g} {m = m} n hf hg =
+      goes_as (λ dp s. ap (λ w. then_do w (λ u s1. m dp s1)) (sym (node_then dp n s)))
+      (both_goes (both (visits (node_visits n) (place_of n)) f) g
+      (both_goes (visits (node_visits n) (place_of n)) f (visits_go served stored levels Below here seat seated (place_of n) (node_visits n)) (λ u. hf)) (λ u. hg))
 
   -- the kinds with params
   import_means : (x : Option Variable) (list : Attributes) (params : Params) (place : Place) → AttributesGo list (coercion_in url_coercions) → ParamsGo params
@@ -150,10 +166,10 @@ module _ (served : Served) (stored : List ℕ → Stored) (agrees : (path : List
       (given_length (coercion_by tag) (evaluated_names (coercion_by tag) list) ds g))
 
   mutual
-    -- the form of a node means the node
-    pub node_goes : (n : Node) → Means (node_form (run_of here).page n) (λ dp s. node_mean served dp n here s)
+    -- the form of a node means the node behind its visits
+    node_goes : (n : Node) → Means (node_form (run_of here).page n) (λ dp s. Behind dp n s)
     node_goes (template t place) = does_none (op.Write t) place [] (λ s. put_text place t s) refl (λ s. refl)
-    node_goes (shown e place) = shown_goes served stored levels Below here seat seated place (tree_goes served stored levels Below here seat seated place e)
+    node_goes (shown e place) = shown_goes served stored levels Below here seat seated place (value_goes served stored levels Below here seat seated place e)
     node_goes (out list body place) =
         with_attributes list (coercion_in out_coercions) (attributes_go list (coercion_in out_coercions))
         (λ ds g. out_goes served stored levels Below here seat seated place (names_in out_coercions list) ds g (nodes_go body))
@@ -195,7 +211,7 @@ module _ (served : Served) (stored : List ℕ → Stored) (agrees : (path : List
 
     pub nodes_go : (ns : Nodes) → Means (nodes_form (run_of here).page ns) (λ dp s. nodes_mean served dp ns here s)
     nodes_go no_nodes = nothing_goes {st = λ (u : Unit {0}). []} tt
-    nodes_go (more_nodes n rest) = visit_then (place_of n) (node_goes n) (nodes_go rest)
+    nodes_go (more_nodes n rest) = visits_node n (node_goes n) (nodes_go rest)
 
     attributes_go : (list : Attributes) (c : List ℕ → Coercion) → AttributesGo list c
     attributes_go no_attributes c = nothing_goes {st = λ ds. onto ds []} []

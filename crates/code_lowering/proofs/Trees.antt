@@ -18,7 +18,7 @@ use Rattle.page_meaning.specs.Expressions.{ev, ev_all, ev_pairs, truth_in, joine
 use Rattle.page_meaning.specs.Implicit.{Implicit, Keyed, held_scope, application_scope, header, header_values, keyed, page_context, param, param_values, cookie, init_param, implicit_named, implicit_value, entry_under, entry_of_object}
 use Rattle.page_meaning.specs.Request.{first_values, all_values}
 use Rattle.page_meaning.specs.State.{State}
-use Rattle.page_meaning.specs.Went.{Did, Went, Well, then_do, result_of}
+use Rattle.page_meaning.specs.Went.{Did, Went, Well, then_do, either, result_of}
 use Rattle.page_meaning.specs.Work.{visit, visited}
 use Rattle.page_table.specs.Operands.{implicit_of, keyed_scope}
 use Rattle.page_table.specs.Operations.{leaving_none, leaving_one, visits as visits_mean, pairs_in}
@@ -42,7 +42,7 @@ use Rattle.pg_value.specs.declared.scope.Scope.{Scope}
 use Rattle.pg_value.specs.declared.scope.Scope.TheVariants as scope
 use Rattle.scopes.specs.Scopes.{found}
 use Rattle.scopes.specs.declared.held_scope.HeldScope.TheVariants as held
-use Rattle.code_lowering.specs.Expressions.{visits, constant, literal_form, coerces, as_truth, object_of, entry_form, name_form, index_form, binary_form, fitted, call_form, tree_count, pair_count, tree_form, trees_form, pairs_form}
+use Rattle.code_lowering.specs.Expressions.{visits, constant, literal_form, coerces, as_truth, object_of, entry_form, name_form, index_form, binary_form, fitted, call_form, tree_count, pair_count, first_visits, value_form, tree_form, trees_form, pairs_form}
 use Rattle.code_forms.specs.Forms.{Form, both, above, does, counted, twice_is}
 use Rattle.code_lowering.proofs.Goes.{Goes, Runs0, Runs1, nothing_goes, both_goes, both_so, goes_as, leaves_as, starts_as, counted_goes, above_goes, does_one, does_none, chosen_either, well}
 use Rattle.code_lowering.proofs.Joins.{then_same, then_then, then_well, yields_then, yields_behind, maps_goes, answered_goes}
@@ -145,9 +145,78 @@ flat_length (p ∷ ps) n h = let i = flat_length ps (length ps) refl in omega (a
 abbrev Counts : {A : Type 0} → ℕ → List A → Type 0
 Counts n xs = length xs ≡ n
 
-two_visits : {A : Type 0} (place : Place) (w : Did) (k : State → Went A)
-    → then_do (then_do w (λ u s1. then_do (visit place s1) (λ u s2. well s2))) (λ u s2. k s2) ≡ then_do w (λ u s1. then_do (visit place s1) (λ u s2. k s2))
-two_visits place w k = then_then w _ _ ∙ then_same w _ _ (λ u s. ap (λ v. then_do v (λ u s2. k s2)) (then_well (visit place s)))
+-- a part does so many visits, and then the other
+abbrev pub Visits : {A : Type 0} → Place → ℕ → (part value : State → Went A) → Type 0
+Visits place n part value = (s : State) → part s ≡ then_do (visits_mean place n s) (λ u s1. value s1)
+
+-- one visit more
+pub one_more : {A : Type 0} (place : Place) (n : ℕ) (part value : State → Went A) → Visits place n part value → Visits place (suc n) (λ s. visited place part s) value
+one_more place n part value h s =
+    then_same (visit place s) (λ u s1. part s1) (λ u s1. then_do (visits_mean place n s1) (λ u s2. value s2)) (λ u s1. h s1)
+    ∙ sym (then_then (visit place s) (λ u s1. visits_mean place n s1) (λ u s1. value s1))
+
+pub one_visit : {A : Type 0} (place : Place) (part : State → Went A) → Visits place 1 (λ s. visited place part s) part
+one_visit place part s = one_more place 0 part part (λ s1. refl) s
+
+-- what goes on with the part goes on with the other
+pub visits_then : {A B : Type 0} (place : Place) (n : ℕ) (part value : State → Went A) (k : A → State → Went B) → Visits place n part value
+    → Visits place n (λ s. then_do (part s) k) (λ s. then_do (value s) k)
+visits_then place n part value k h s = ap (λ w. then_do w k) (h s) ∙ then_then (visits_mean place n s) (λ u s1. value s1) k
+
+truth_visits : (place : Place) (n : ℕ) (part value : State → Went Datum) → Visits place n part value → Visits place n (truth_in place part) (truth_in place value)
+truth_visits place n part value h s = visits_then place n part value (λ x s1. result_of place (truth_of x) s1) h s
+
+joined_visits : (place : Place) (o : BinOp) (n : ℕ) (left value right : State → Went Datum) → Visits place n left value
+    → Visits place n (joined_by place o left right) (joined_by place o value right)
+joined_visits place binary_op.And n left value right h s = visits_then place n (truth_in place left) (truth_in place value) _ (truth_visits place n left value h) s
+joined_visits place binary_op.Or n left value right h s = visits_then place n (truth_in place left) (truth_in place value) _ (truth_visits place n left value h) s
+joined_visits place o n left value right h s = visits_then place n left value _ h s
+
+-- an index behind its visits
+abbrev indexed_value : Served → Place → Option Keyed → (left right : State → Went Datum) → State → Went Datum
+indexed_value served place (Some object) left right s = then_do (right s) (λ y s1. entry_of_object served place object y s1)
+indexed_value served place None left right s = then_do (left s) (λ x s1. then_do (right s1) (λ y s2. result_of place (index_of x y) s2))
+
+indexed_visits : (served : Served) (place : Place) (x : Option Keyed) (n : ℕ) (left value right : State → Went Datum) → ((object : Keyed) → x ≡ Some object → n ≡ 1)
+    → Visits place n left value → Visits place n (indexed served place x left right) (indexed_value served place x value right)
+indexed_visits served place None n left value right once h s = visits_then place n left value _ h s
+indexed_visits served place (Some object) n left value right once h s =
+    one_visit place (indexed_value served place (Some object) value right) s
+    ∙ ap (λ m. then_do (visits_mean place m s) (λ u s1. indexed_value served place (Some object) value right s1)) (sym (once object refl))
+
+keyed_once : (t : Tree) (object : Keyed) → keyed_object t ≡ Some object → first_visits t ≡ 1
+keyed_once (name n) object e = refl
+keyed_once other object e = absurd (cc)
+
+-- what an expression means behind its first visits
+abbrev pub value_mean : Served → Here → Place → Tree → State → Went Datum
+value_mean served here place (literal d) s = result_of place (measured d) s
+value_mean served here place (name n) s = named_value served here place n (implicit_named n) s
+value_mean served here place (call prefix n args) s = called_mean place (function_named n) (ev_all served here place args) s
+value_mean served here place (list items) s = then_do (ev_all served here place items s) (λ ds s1. result_of place (measured (datum.list (items_of ds))) s1)
+value_mean served here place (map pairs) s = then_do (ev_pairs served here place pairs s) (λ ps s1. result_of place (record_of ps) s1)
+value_mean served here place (index a b) s = indexed_value served place (keyed_object a) (value_mean served here place a) (ev served here place b) s
+value_mean served here place (unary o a) s = then_do (value_mean served here place a s) (λ x s1. result_of place (unary_of o x) s1)
+value_mean served here place (binary o a b) s = joined_by place o (value_mean served here place a) (ev served here place b) s
+value_mean served here place (choice a b c) s = then_do (truth_in place (value_mean served here place a) s) (λ t s1. either t (ev served here place b) (ev served here place c) s1)
+
+-- an expression is its first visits and then its value
+pub first_then : (served : Served) (here : Here) (place : Place) (t : Tree) → Visits place (first_visits t) (ev served here place t) (value_mean served here place t)
+first_then served here place (index a b) s =
+    one_more place (first_visits a) (indexed served place (keyed_object a) (ev served here place a) (ev served here place b)) (value_mean served here place (index a b))
+    (indexed_visits served place (keyed_object a) (first_visits a) (ev served here place a) (value_mean served here place a) (ev served here place b) (keyed_once a) (first_then served here place a)) s
+first_then served here place (unary o a) s =
+    one_more place (first_visits a) (λ s1. then_do (ev served here place a s1) (λ x s2. result_of place (unary_of o x) s2)) (value_mean served here place (unary o a))
+    (visits_then place (first_visits a) (ev served here place a) (value_mean served here place a) (λ x s2. result_of place (unary_of o x) s2) (first_then served here place a)) s
+first_then served here place (binary o a b) s =
+    one_more place (first_visits a) (joined_by place o (ev served here place a) (ev served here place b)) (value_mean served here place (binary o a b))
+    (joined_visits place o (first_visits a) (ev served here place a) (value_mean served here place a) (ev served here place b) (first_then served here place a)) s
+first_then served here place (choice a b c) s =
+    let chosen : Bool → State → Went Datum = λ t s2. either t (ev served here place b) (ev served here place c) s2 in
+    one_more place (first_visits a) (λ s1. then_do (truth_in place (ev served here place a) s1) chosen) (value_mean served here place (choice a b c))
+    (visits_then place (first_visits a) (truth_in place (ev served here place a)) (truth_in place (value_mean served here place a)) chosen
+    (truth_visits place (first_visits a) (ev served here place a) (value_mean served here place a) (first_then served here place a))) s
+first_then served here place other s = one_visit place (value_mean served here place other) s
 
 module _ (served : Served) (stored : List ℕ → Stored) (deep : ℕ → Deeper) (Calls : ℕ → Type 0) (here : Here) (seat : Seat) (same : SeatOf here seat) where
   abbrev serving : Serving
@@ -158,6 +227,10 @@ module _ (served : Served) (stored : List ℕ → Stored) (deep : ℕ → Deeper
 
   pub visit_goes : (place : Place) → Runs0 serving seat deep Calls (visits 1 place) [] (λ dp s. visit place s)
   visit_goes place = does_none (op.Visit 1) place [] (λ s. visit place s) refl (λ s. ap leaving_none (then_well (visit place s)))
+
+  -- so many visits
+  pub visits_go : (place : Place) (n : ℕ) → Runs0 serving seat deep Calls (visits n place) [] (λ dp s. visits_mean place n s)
+  visits_go place n = does_none (op.Visit n) place [] (λ s. visits_mean place n s) refl (λ s. refl)
 
   -- a part behind a visit
   pub visited_goes : {k : ℕ} {A : Type 0} {f : Form 0 k} {st : A → List Datum} {m : Deeper → State → Went A} (place : Place) → Goes serving seat deep Calls f [] st m
@@ -234,15 +307,11 @@ module _ (served : Served) (stored : List ℕ → Stored) (deep : ℕ → Deeper
   on_top d h = above_goes 1 (d ∷ []) h
 
   index_goes : (place : Place) (x : Option Keyed) (f g : Form 0 1) (mf mg : State → Went Datum) → Does1 f [] mf → Does1 g [] mg
-      → Does1 (index_form place x f g) [] (λ s. visited place (λ s1. indexed served place x mf mg s1) s)
+      → Does1 (index_form place x f g) [] (λ s. indexed_value served place x mf mg s)
   index_goes place None f g mf mg hf hg =
-      visited_goes place (both_goes f _ hf (λ x. both_goes (above 1 g) _ (on_top x hg)
-      (λ y. does_one op.Index place (x ∷ y ∷ []) (λ s. result_of place (index_of x y) s) refl (λ s. refl))))
-  index_goes place (Some k) f g mf mg hf hg =
-      goes_as (λ dp s. two_visits place (visit place s) (λ s2. then_do (mg s2) (λ y s3. entry_of_object served place k y s3)))
-      (both_goes (visits 2 place) _
-      (does_none (op.Visit 2) place [] (λ s. visits_mean place 2 s) refl (λ s. refl))
-      (λ u. both_goes g _ hg (λ y. entry_goes place k y)))
+      both_goes f _ hf (λ x. both_goes (above 1 g) _ (on_top x hg)
+      (λ y. does_one op.Index place (x ∷ y ∷ []) (λ s. result_of place (index_of x y) s) refl (λ s. refl)))
+  index_goes place (Some k) f g mf mg hf hg = both_goes g _ hg (λ y. entry_goes place k y)
 
   -- a value as a truth value
   pub truth_goes : {n : ℕ} {f : Form n 1} {from : List Datum} {m : Deeper → State → Went Datum} (place : Place) → Runs1 serving seat deep Calls f from m
@@ -348,28 +417,41 @@ module _ (served : Served) (stored : List ℕ → Stored) (deep : ℕ → Deeper
       (on_top x (both_goes (tree_form place v) (above 1 (pairs_form place rest)) hv
       (λ y. maps_goes {st2 = λ (q : Datum × List (Datum × Datum)). onto (flat q.1) (q.0 ∷ [])} (λ ps. (y, ps)) (λ ps. onto_append (flat ps) [] (y ∷ [])) (on_top y hr))))))
 
+  -- an expression from its value
+  with_visits_goes : (place : Place) (t : Tree) → Does1 (value_form place t) [] (λ s. value_mean served here place t s) → Does1 (tree_form place t) [] (λ s. ev served here place t s)
+  with_visits_goes place t h =
+      goes_as (λ dp s. sym (first_then served here place t s)) (both_goes (visits (first_visits t) place) (value_form place t) (visits_go place (first_visits t)) (λ u. h))
+
   mutual
-    -- the form of an expression means the expression
-    pub tree_goes : (place : Place) (e : Tree) → Does1 (tree_form place e) [] (λ s. ev served here place e s)
-    tree_goes place (literal d) = visited_goes place (literal_goes place d (is_over d) refl)
-    tree_goes place (name n) = visited_goes place (name_goes place n (implicit_named n))
-    tree_goes place (call prefix n es) = visited_goes place (call_goes place (function_named n) es (trees_go place es))
-    tree_goes place (list es) = visited_goes place (list_goes place es (trees_go place es))
-    tree_goes place (map es) = visited_goes place (map_goes place es (pairs_go place es))
-    tree_goes place (index a b) =
-        index_goes place (keyed_object a) (tree_form place a) (tree_form place b) (λ s. ev served here place a s) (λ s. ev served here place b s) (tree_goes place a) (tree_goes place b)
-    tree_goes place (unary o a) =
-        visited_goes place (both_goes (tree_form place a) (does (op.Unary o) place) (tree_goes place a)
-        (λ x. does_one (op.Unary o) place (x ∷ []) (λ s. result_of place (unary_of o x) s) refl (λ s. refl)))
-    tree_goes place (binary o a b) =
-        visited_goes place (binary_goes place o (tree_form place a) (tree_form place b) (λ s. ev served here place a s) (λ s. ev served here place b s) (tree_goes place a) (tree_goes place b))
-    tree_goes place (choice a b c) =
-        visited_goes place (both_goes (as_truth place (tree_form place a)) _ (truth_goes place (tree_goes place a)) (λ t. chosen_either place t (tree_goes place b) (tree_goes place c)))
+    -- the form of the value of an expression means the value
+    pub value_goes : (place : Place) (e : Tree) → Does1 (value_form place e) [] (λ s. value_mean served here place e s)
+    value_goes place (literal d) = literal_goes place d (is_over d) refl
+    value_goes place (name n) = name_goes place n (implicit_named n)
+    value_goes place (call prefix n es) = call_goes place (function_named n) es (trees_go place es)
+    value_goes place (list es) = list_goes place es (trees_go place es)
+    value_goes place (map es) = map_goes place es (pairs_go place es)
+    value_goes place (index a b) =
+        index_goes place (keyed_object a) (value_form place a) (tree_form place b) (λ s. value_mean served here place a s) (λ s. ev served here place b s) (value_goes place a)
+        (with_visits_goes place b (value_goes place b))
+    value_goes place (unary o a) =
+        both_goes (value_form place a) (does (op.Unary o) place) (value_goes place a)
+        (λ x. does_one (op.Unary o) place (x ∷ []) (λ s. result_of place (unary_of o x) s) refl (λ s. refl))
+    value_goes place (binary o a b) =
+        binary_goes place o (value_form place a) (tree_form place b) (λ s. value_mean served here place a s) (λ s. ev served here place b s) (value_goes place a)
+        (with_visits_goes place b (value_goes place b))
+    value_goes place (choice a b c) =
+        both_goes (as_truth place (value_form place a)) _ (truth_goes place (value_goes place a))
+        (λ t. chosen_either place t (with_visits_goes place b (value_goes place b)) (with_visits_goes place c (value_goes place c)))
 
     pub trees_go : (place : Place) (es : Trees) → AllGo place es
     trees_go place no_trees = nothing_goes {st = λ ds. onto ds []} []
-    trees_go place (more_trees t rest) = more_go place t rest (tree_goes place t) (trees_go place rest)
+    trees_go place (more_trees t rest) = more_go place t rest (with_visits_goes place t (value_goes place t)) (trees_go place rest)
 
     pub pairs_go : (place : Place) (es : Pairs) → PairsGo place es
     pairs_go place no_pairs = nothing_goes {st = λ ps. onto (flat ps) []} []
-    pairs_go place (more_pairs k v rest) = more_pairs_go place k v rest (tree_goes place k) (tree_goes place v) (pairs_go place rest)
+    pairs_go place (more_pairs k v rest) =
+        more_pairs_go place k v rest (with_visits_goes place k (value_goes place k)) (with_visits_goes place v (value_goes place v)) (pairs_go place rest)
+
+  -- the form of an expression means the expression
+  pub tree_goes : (place : Place) (e : Tree) → Does1 (tree_form place e) [] (λ s. ev served here place e s)
+  tree_goes place e = with_visits_goes place e (value_goes place e)

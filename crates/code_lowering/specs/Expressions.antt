@@ -74,10 +74,10 @@ abbrev pub name_form : Place → List ℕ → Option Implicit → Form 0 1
 name_form place n (Some object) = does (op.Implicit (object_of object)) place
 name_form place n None = does (op.Find n) place
 
--- an index: of such an object its entry, where its name counts as evaluated
+-- an index: of such an object its entry, else of the value
 abbrev pub index_form : Place → Option Keyed → (left right : Form 0 1) → Form 0 1
-index_form place (Some object) left right = both (visits 2 place) (both right (entry_form place object))
-index_form place None left right = both (visits 1 place) (both left (both (above 1 right) (does op.Index place)))
+index_form place (Some object) left right = both right (entry_form place object)
+index_form place None left right = both left (both (above 1 right) (does op.Index place))
 
 -- an operator between two parts: the right of `&&` and `||` only where it decides
 abbrev pub binary_form : Place → BinOp → (left right : Form 0 1) → Form 0 1
@@ -105,25 +105,43 @@ abbrev pub pair_count : Pairs → ℕ
 pair_count no_pairs = 0
 pair_count (more_pairs k v rest) = suc (pair_count rest)
 
+-- the visits that come before all else in an expression: its own, and the first ones of the part that it begins with
+abbrev pub first_visits : Tree → ℕ
+first_visits (index a b) = suc (first_visits a)
+first_visits (unary o a) = suc (first_visits a)
+first_visits (binary o a b) = suc (first_visits a)
+first_visits (choice a b c) = suc (first_visits a)
+first_visits other = 1
+
+-- an expression: its first visits, counted at once, and its value
+abbrev pub with_visits : Place → Tree → (value : Form 0 1) → Form 0 1
+with_visits place t value = both (visits (first_visits t) place) value
+
 abbrev mutual
-  -- an expression, whose faults stand at a place
-  pub tree_form : Place → Tree → Form 0 1
-  tree_form place (literal d) = both (visits 1 place) (literal_form place (is_over d) d)
-  tree_form place (name n) = both (visits 1 place) (name_form place n (implicit_named n))
-  tree_form place (call prefix n arguments) = both (visits 1 place) (call_form place (function_named n) (tree_count arguments) (trees_form place arguments))
-  tree_form place (list items) = both (visits 1 place) (both (trees_form place items) (does (op.MakeList (tree_count items)) place))
-  tree_form place (map pairs) = both (visits 1 place) (both (counted (twice_is (pair_count pairs)) (pairs_form place pairs)) (does (op.MakeMap (pair_count pairs)) place))
-  tree_form place (index a b) = index_form place (keyed_object a) (tree_form place a) (tree_form place b)
-  tree_form place (unary o a) = both (visits 1 place) (both (tree_form place a) (does (op.Unary o) place))
-  tree_form place (binary o a b) = both (visits 1 place) (binary_form place o (tree_form place a) (tree_form place b))
-  tree_form place (choice a b c) = both (visits 1 place) (both (as_truth place (tree_form place a)) (chosen (tree_form place b) (tree_form place c) place))
+  -- the value of an expression, behind its first visits
+  pub value_form : Place → Tree → Form 0 1
+  value_form place (literal d) = literal_form place (is_over d) d
+  value_form place (name n) = name_form place n (implicit_named n)
+  value_form place (call prefix n arguments) = call_form place (function_named n) (tree_count arguments) (trees_form place arguments)
+  value_form place (list items) = both (trees_form place items) (does (op.MakeList (tree_count items)) place)
+  value_form place (map pairs) = both (counted (twice_is (pair_count pairs)) (pairs_form place pairs)) (does (op.MakeMap (pair_count pairs)) place)
+  value_form place (index a b) = index_form place (keyed_object a) (value_form place a) (with_visits place b (value_form place b))
+  value_form place (unary o a) = both (value_form place a) (does (op.Unary o) place)
+  value_form place (binary o a b) = binary_form place o (value_form place a) (with_visits place b (value_form place b))
+  value_form place (choice a b c) =
+      both (as_truth place (value_form place a)) (chosen (with_visits place b (value_form place b)) (with_visits place c (value_form place c)) place)
 
   -- expressions from left to right
   pub trees_form : Place → (items : Trees) → Form 0 (tree_count items)
   trees_form place no_trees = nothing
-  trees_form place (more_trees t rest) = both (tree_form place t) (above 1 (trees_form place rest))
+  trees_form place (more_trees t rest) = both (with_visits place t (value_form place t)) (above 1 (trees_form place rest))
 
   -- the keys and values of a map, each key before its value
   pub pairs_form : Place → (pairs : Pairs) → Form 0 (twice (pair_count pairs))
   pairs_form place no_pairs = nothing
-  pairs_form place (more_pairs k v rest) = both (tree_form place k) (above 1 (both (tree_form place v) (above 1 (pairs_form place rest))))
+  pairs_form place (more_pairs k v rest) =
+      both (with_visits place k (value_form place k)) (above 1 (both (with_visits place v (value_form place v)) (above 1 (pairs_form place rest))))
+
+-- an expression, whose faults stand at a place
+abbrev pub tree_form : Place → Tree → Form 0 1
+tree_form place t = with_visits place t (value_form place t)

@@ -27,7 +27,7 @@ use Rattle.tag_decl.specs.declared.declaration.AttrDecl.{AttrDecl}
 use Rattle.tag_decl.specs.declared.declaration.BodyKind.{BodyKind}
 use Rattle.tag_decl.specs.declared.declaration.BodyKind.TheVariants as body_kind
 use Rattle.tag_decl.specs.declared.declaration.TagDecl.{TagDecl}
-use Rattle.code_lowering.specs.Expressions.{visits, constant, coerces, tree_form}
+use Rattle.code_lowering.specs.Expressions.{visits, constant, coerces, first_visits, value_form}
 use Rattle.code_forms.specs.Forms.{Form, nothing, both, above, counted, does, arranged, swapped, kept, chosen, where_null, ensured, looped, caught, own_body, own_fragment, included_page, imported_page, calls, calls_tag, forwards_to, redirects_to, Handed, nothing_handed, source_handed, code_handed, Fragments, no_fragments, fragment, twice, address_is}
 use Rattle.code_lowering.specs.Values.{parts_form, kept_form, with_value}
 
@@ -177,11 +177,16 @@ abbrev pub param_count : Params → ℕ
 param_count no_params = 0
 param_count (param list body place rest) = suc (param_count rest)
 
+-- the visits before a node: its own, and the first ones of the expression that it shows
+abbrev pub node_visits : Node → ℕ
+node_visits (shown e place) = suc (first_visits e)
+node_visits other = 1
+
 abbrev mutual
-  -- a node behind its visit, in the unit of a page
+  -- a node behind those visits, in the unit of a page
   pub node_form : Page → Node → Form 0 0
   node_form page (template t place) = does (op.Write t) place
-  node_form page (shown e place) = both (tree_form place e) (both (coerces coercion.Text place) (does op.Put place))
+  node_form page (shown e place) = both (value_form place e) (both (coerces coercion.Text place) (does op.Put place))
   node_form page (out list body place) =
       let names = names_in out_coercions list in
       both (attributes_form page list (coercion_in out_coercions))
@@ -233,10 +238,10 @@ abbrev mutual
   node_form page (call path list b place) =
       tag_form place path (tag_at path page.tags) list (attributes_form page list) (handed_form page b place) (fragments_form page list)
 
-  -- nodes one after the other, each behind its visit
+  -- nodes one after the other, each behind its visits
   pub nodes_form : Page → Nodes → Form 0 0
   nodes_form page no_nodes = nothing
-  nodes_form page (more_nodes node rest) = both (both (visits 1 (place_of node)) (node_form page node)) (nodes_form page rest)
+  nodes_form page (more_nodes node rest) = both (both (visits (node_visits node) (place_of node)) (node_form page node)) (nodes_form page rest)
 
   -- the values of the attributes that are evaluated, in order
   pub attributes_form : Page → (list : Attributes) → (c : List ℕ → Coercion) → Form 0 (length (evaluated_names c list))

@@ -9,7 +9,7 @@ use Rattle.page_code.specs.declared.code.Cell.{Cell}
 use Rattle.page_code.specs.declared.shape.Shape.{Shape}
 use Rattle.code_forms.specs.Codes.{form_code}
 use Rattle.code_lowering.specs.Expressions.{visits}
-use Rattle.code_lowering.specs.Lowering.{node_form, nodes_form, param_count, params_form}
+use Rattle.code_lowering.specs.Lowering.{node_form, node_visits, nodes_form, param_count, params_form}
 use Rattle.page_meaning.specs.Page.{Page, place_of}
 use Rattle.code_nodes.specs.Params.{param_form}
 
@@ -34,13 +34,13 @@ module _ (page : Page) where
 
   -- one node more
   pub nodes_from : (sh : Shape) (total : List Cell) (acts : List Act) (i : ℕ) (x : Act) (code visited more seen made : List Cell) → i < length acts → x ≡ get_or acts i x
-      → visited ≡ code ++ seen → seen ≡ form_code sh (visits 1 (place_of (act_of x))) → more ≡ visited ++ made → made ≡ form_code sh (node_form page (act_of x))
+      → visited ≡ code ++ seen → seen ≡ form_code sh (visits (node_visits (act_of x)) (place_of (act_of x))) → more ≡ visited ++ made → made ≡ form_code sh (node_form page (act_of x))
       → code ++ nodes_code sh (drop i acts) ≡ total → more ++ nodes_code sh (drop (i + 1) acts) ≡ total
   nodes_from sh total acts i x code visited more seen made lt is first seen_is second made_is whole =
       ap (λ cells. cells ++ others) (second ∙ ap (λ cells. cells ++ made) first ∙ append_assoc code seen made)
       ∙ append_assoc code (seen ++ made) others
       ∙ ap (λ cells. code ++ ((cells ++ made) ++ others)) seen_is
-      ∙ ap (λ cells. code ++ ((form_code sh (visits 1 (place_of (act_of x))) ++ cells) ++ others)) made_is
+      ∙ ap (λ cells. code ++ ((form_code sh (visits (node_visits (act_of x)) (place_of (act_of x))) ++ cells) ++ others)) made_is
       ∙ ap (λ rest. code ++ nodes_code sh rest) (sym (next_of acts i x lt is)) ∙ whole
     where
       others : List Cell

@@ -2,7 +2,7 @@
 ghost use Rattle.std.specs.Prelude.{◌≡◌, IfOk};
 ghost use Rattle.page_acts.specs.Views.{act_of, acts_of};
 ghost use Rattle.code_forms.specs.Codes.{form_code};
-ghost use Rattle.code_lowering.specs.Lowering.{node_form, nodes_form};
+ghost use Rattle.code_lowering.specs.Lowering.{node_form, node_visits, nodes_form};
 ghost use Rattle.unit_meaning.specs.Shape.{page_of};
 ghost use Rattle.unit_nodes.specs.Views.{page_view};
 
@@ -12,13 +12,13 @@ use crate::choices::branches as branches_code;
 use code_actions::{
     Addressing, Enclosing, catch, do_body, get_property, invoke, remove, shown, template, use_bean,
 };
-use code_expressions::visits;
+use code_expressions::{first_visits, visits};
 use page_acts::Act;
 use page_code::{Code, Shape};
 use std::alloc::{AllocError, Global};
 use unit_nodes::Page;
 
-/// The code of nodes in the unit of a page, one after the other, each behind its visit.
+/// The code of nodes in the unit of a page, one after the other, each behind its visits.
 #[cycle(nodes)]
 pub fn nodes(alloc: Global, page: &Page, ground: &Shape, acts: &[Act]) -> Result<Code, AllocError>
     ensures { IfOk result (λ code. code ≡ form_code ground.now (nodes_form (page_of (page_view page.now))
@@ -26,13 +26,24 @@ pub fn nodes(alloc: Global, page: &Page, ground: &Shape, acts: &[Act]) -> Result
 {
     let mut code = Code::new(alloc);
     for act in acts {
-        code.join(visits(alloc, ground, act.place(), 1)?)?;
+        code.join(visits(alloc, ground, act.place(), node_visits(act)?)?)?;
         code.join(node(alloc, page, ground, act)?)?;
     }
     Ok(code)
 }
 
-// The code of a node behind its visit.
+// How many visits stand before a node: its own, and the first ones of the expression that it shows.
+#[tactic(auto, using(page_acts::proofs::Rows::rows))]
+fn node_visits(act: &Act) -> Result<u32, AllocError>
+    ensures { IfOk result (λ count. count ≡ node_visits (act_of act.now)) }
+{
+    match act {
+        Act::Shown { el, place: _ } => first_visits(1, el),
+        _ => Ok(1),
+    }
+}
+
+// The code of a node behind its visits.
 #[cycle(nodes)]
 #[tactic(auto, using(page_acts::proofs::Rows::rows))]
 fn node(alloc: Global, page: &Page, ground: &Shape, act: &Act) -> Result<Code, AllocError>

@@ -1,11 +1,11 @@
 use Rattle.std.proofs.Common.{◌≡◌, ◌++◌, IfOk, OnOk, map, arith, refl, sym, ap, subst, ◌∙◌}
 use Rattle.code_actions.specs.Evaluations.{coercions}
 use Rattle.page_acts.proofs.Rows.{rows}
-use Rattle.page_acts.specs.Views.{acts_of, attributes_of, params_of}
+use Rattle.page_acts.specs.Views.{act_of, acts_of, attributes_of, params_of}
 use Rattle.page_code.specs.Shapes.{empty_shape}
 use Rattle.code_forms.specs.Codes.{form_code, handed_code}
 use Rattle.code_lowering.specs.Expressions.{visits}
-use Rattle.code_lowering.specs.Lowering.{nodes_form}
+use Rattle.code_lowering.specs.Lowering.{node_visits, nodes_form}
 use Rattle.unit_meaning.specs.Named.{part_of}
 use Rattle.unit_meaning.specs.Shape.{page_of}
 use Rattle.unit_nodes.specs.Views.{page_view, part_of as part_view}
@@ -53,7 +53,8 @@ pub tree::nodes-loop-act-preserved : goal.tree::nodes-loop-act-preserved
 tree::nodes-loop-act-preserved t c =
     nodes_from (page_of (page_view c.args.page.now)) c.args.ground.now _ c.args.acts.now c.loop-act.act-index c.act-item.result c.loop-act.code c.join.new.self c.join-in-loop-act.new.self
     c.in_ok-visits.field-0 c.in_ok-node.field-0 (omega arith) c.act-item.is c.in_ok-join.ensures.ok
-    (c.in_ok-visits.ensures ∙ ap (λ at. form_code c.args.ground.now (visits 1 at)) c.place.ensures) c.in_ok-join-2.ensures.ok c.in_ok-node.ensures c.loop-act.invariant
+    (c.in_ok-visits.ensures ∙ ap (λ n. form_code c.args.ground.now (visits n c.place.result.now)) c.in_ok-node_visits.ensures
+    ∙ ap (λ at. form_code c.args.ground.now (visits (node_visits (act_of c.act-item.result)) at)) c.place.ensures) c.in_ok-join-2.ensures.ok c.in_ok-node.ensures c.loop-act.invariant
 
 pub tree::nodes-returns : goal.tree::nodes-returns
 tree::nodes-returns t c =

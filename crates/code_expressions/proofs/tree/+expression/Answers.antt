@@ -3,7 +3,7 @@ use Rattle.el_reader.proofs.Rows.{rows}
 use Rattle.el_reader.specs.El.{pair_of, tree_of}
 use Rattle.el_reader.specs.Tree.{call, list, map as mapping, pairs_of, trees_of}
 use Rattle.code_forms.specs.Codes.{form_code}
-use Rattle.code_lowering.specs.Expressions.{tree_form, visits}
+use Rattle.code_lowering.specs.Expressions.{value_form}
 use Rattle.pg_value.specs.Function.{function_named}
 use Rattle.code_expressions.specs.Calls.{call_code}
 use Rattle.code_expressions.proofs.ChainLemmas.{chain_begins, link_is_below, operation_linked}
@@ -11,14 +11,13 @@ use Rattle.code_expressions.proofs.ListLemmas.{links_from, pairs_code, pairs_end
 use Rattle.code_expressions.proofs.OperandLemmas.{call_is, list_is, map_is}
 use Rattle.code_expressions.proofs.tree.+expression.Goals as goal
 
-pub expression-loop-link-init : goal.expression-loop-link-init
-expression-loop-link-init t c =
-    chain_begins c.args.ground.now c.args.place.now _ _ c.in_ok-chain.chain.links.items c.deref.result.now c.in-Some.links.now c.in-Some.first.now (length c.in-Some.links.now)
-    c.in_ok-code-in-Some.code c.in_ok-first_link-in-Some.field-0 c.join.new.self c.in_ok-chain.ensures.whole c.deref.ensures.value c.in-Some.ensures.cases refl c.in_ok-code-in-Some.ensures c.in_ok-first_link-in-Some.ensures
-    c.in_ok-join-in-Some.ensures.ok
+pub value-loop-link-init : goal.value-loop-link-init
+value-loop-link-init t c =
+    chain_begins c.args.ground.now c.args.place.now _ _ c.in_ok-chain.chain.links.items c.deref.result.now c.in-Some.links.now c.in-Some.first.now c.in_ok-code-in-Some.code
+    c.in_ok-chain.ensures.whole c.deref.ensures.value c.in-Some.ensures.cases c.in_ok-code-in-Some.ensures
 
-pub expression-next_link-requires : goal.expression-next_link-requires
-expression-next_link-requires t c = (
+pub value-next_link-requires : goal.value-next_link-requires
+value-next_link-requires t c = (
   omega (
     arith,
     link_is_below _ c.in_ok-chain.chain.links.items c.deref.result.now c.in-Some.links.now c.in-Some.first.now c.link-item.result c.loop-link.link-index c.in_ok-chain.ensures.link_depths
@@ -27,10 +26,10 @@ expression-next_link-requires t c = (
   tt,
 )
 
-pub expression-loop-link-preserved : goal.expression-loop-link-preserved
-expression-loop-link-preserved t c =
-    links_from c.args.ground.now c.args.place.now _ c.in-Some.links.now c.loop-link.link-index c.link-item.result c.loop-link.code c.join-in-loop-link.new.self (omega arith) c.link-item.is
-    (c.in_ok-join-in-Some-2.ensures.ok ∙ ap (λ cells. c.loop-link.code ++ cells) c.in_ok-next_link-in-Some.ensures) c.loop-link.invariant
+pub value-loop-link-preserved : goal.value-loop-link-preserved
+value-loop-link-preserved t c =
+    links_from c.args.ground.now c.args.place.now _ c.in-Some.links.now c.loop-link.link-index c.link-item.result c.loop-link.code c.join.new.self (omega arith) c.link-item.is
+    (c.in_ok-join-in-Some.ensures.ok ∙ ap (λ cells. c.loop-link.code ++ cells) c.in_ok-next_link-in-Some.ensures) c.loop-link.invariant
 
 pub expressions-loop-item-preserved : goal.expressions-loop-item-preserved
 expressions-loop-item-preserved t c =
@@ -56,9 +55,9 @@ operand-returns-in_ok-arguments-in-Call t c =
     let items = c.in-Call.args.items in
     let whole : tree_of c.args.el.now ≡ call c.in-Call.prefix c.in-Call.name (trees_of (map tree_of items)) = grind (arith, rows) in
     let count : c.len.result ≡ length items = omega (arith, c.in-Call.args.ok.0) in
-    subst (λ tree. IfOk c.call.result (λ code. code ≡ form_code ground (tree_form place tree))) (sym whole)
+    subst (λ tree. IfOk c.call.result (λ code. code ≡ form_code ground (value_form place tree))) (sym whole)
     (subst (λ cells. IfOk c.call.result (λ code. code ≡ cells))
-    (ap (λ name. form_code ground (visits 1 place) ++ call_code ground place (function_named name) c.len.result c.in_ok-arguments-in-Call.arguments) c.as_str.ensures
+    (ap (λ name. call_code ground place (function_named name) c.len.result c.in_ok-arguments-in-Call.arguments) c.as_str.ensures
     ∙ call_is ground place (function_named c.in-Call.name) (trees_of (map tree_of items)) items c.len.result c.in_ok-arguments-in-Call.arguments refl count
     (c.in_ok-arguments-in-Call.ensures ∙ ap (λ list. trees_code ground place list) c.deref.ensures.value))
     c.call.ensures)
@@ -70,7 +69,7 @@ operand-returns-in_ok-values-in-List t c =
     let items = c.in-List.items.items in
     let whole : tree_of c.args.el.now ≡ list (trees_of (map tree_of items)) = grind (arith, rows) in
     let count : c.len-in-List.result ≡ length items = omega (arith, c.in-List.items.ok.0) in
-    subst (λ tree. IfOk c.made_of.result (λ code. code ≡ form_code ground (tree_form place tree))) (sym whole)
+    subst (λ tree. IfOk c.made_of.result (λ code. code ≡ form_code ground (value_form place tree))) (sym whole)
     (subst (λ cells. IfOk c.made_of.result (λ code. code ≡ cells))
     (list_is ground place (trees_of (map tree_of items)) items c.len-in-List.result c.in_ok-values-in-List.values refl count
     (c.in_ok-values-in-List.ensures ∙ ap (λ l. trees_code ground place l) c.deref-in-List.ensures.value))
@@ -83,7 +82,7 @@ operand-returns-in_ok-values-in-Map t c =
     let pairs = c.in-Map.pairs.items in
     let whole : tree_of c.args.el.now ≡ mapping (pairs_of (map pair_of pairs)) = grind (arith, rows) in
     let count : c.len-in-Map.result ≡ length pairs = omega (arith, c.in-Map.pairs.ok.0) in
-    subst (λ tree. IfOk c.made_of-in-Map.result (λ code. code ≡ form_code ground (tree_form place tree))) (sym whole)
+    subst (λ tree. IfOk c.made_of-in-Map.result (λ code. code ≡ form_code ground (value_form place tree))) (sym whole)
     (subst (λ cells. IfOk c.made_of-in-Map.result (λ code. code ≡ cells))
     (map_is ground place (pairs_of (map pair_of pairs)) pairs c.len-in-Map.result c.in_ok-values-in-Map.values refl count
     (c.in_ok-values-in-Map.ensures ∙ ap (λ l. pairs_code ground place l) c.deref-in-Map.ensures.value))

@@ -2,7 +2,7 @@ use Rattle.std.proofs.Common.{◌≡◌, IfOk, option_map, sym, ap, subst, ◌�
 use Rattle.code_lowering.specs.Expressions.{object_of}
 use Rattle.page_meaning.specs.Implicit.{implicit_named}
 use Rattle.code_expressions.proofs.NameLemmas.{object_named, variable_named}
-use Rattle.code_expressions.proofs.names.object_or_variable.Goals as goal
+use Rattle.code_expressions.proofs.names.name.Goals as goal
 
 pub returns-in-Some : goal.returns-in-Some
 returns-in-Some c =
