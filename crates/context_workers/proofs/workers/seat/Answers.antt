@@ -2,8 +2,13 @@ use Rattle.std.proofs.Common.{◌≡◌, ◌++◌, [], ◌∷◌, All, None, len
 use Rattle.std.proofs.lemmas.List.{length-append}
 use Rattle.std.proofs.lemmas.List.Elements.{All-push}
 use Rattle.pass_course.specs.Course.{IsIdle}
-use Rattle.context_workers.proofs.Taken.{fewer_still}
+use Rattle.context_workers.proofs.Taken.{fewer_still, left_over}
 use Rattle.context_workers.proofs.workers.seat.Goals as goal
+
+pub ports_of-requires-clause-some : goal.ports_of-requires-clause-some
+ports_of-requires-clause-some g c =
+    left_over c.loop.counter 1 (map (λ own. own.items) c.args.passes.now) (map (λ own. own.items) c.loop.passes) c.loop.invariant.fewer
+      (λ k d within. let enough = c.requires.enough k d within in omega (arith, c.loop-test.true))
 
 pub loop-preserved : goal.loop-preserved
 loop-preserved g c =
