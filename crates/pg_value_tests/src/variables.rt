@@ -22,7 +22,8 @@ fn numbered(alloc: Global, count: i64) -> Result<Scopes, Failure<RunFault>> {
 fn left(alloc: Global, count: i64, gone: &str) -> Result<(usize, bool), Failure<RunFault>> {
     let mut scopes = numbered(alloc, count)?;
     scopes.remove(HeldScope::Page, gone);
-    let Value::Rec(record) = scopes.as_rec(HeldScope::Page)? else {
+    let page = scopes.as_rec(HeldScope::Page)?;
+    let Value::Rec(record) = &page else {
         return Ok((0, false));
     };
     Ok((record.len(), scopes.find(gone).is_some()))

@@ -8,7 +8,7 @@ use Rattle.context_workers.proofs.workers.seat.Goals as goal
 pub ports_of-requires-clause-some : goal.ports_of-requires-clause-some
 ports_of-requires-clause-some g c =
     left_over c.loop.counter 1 (map (λ own. own.items) c.args.passes.now) (map (λ own. own.items) c.loop.passes) c.loop.invariant.fewer
-      (λ k d within. let enough = c.requires.enough k d within in omega (arith, c.loop-test.true))
+    (λ k d within. let enough = c.requires.enough k d within in omega (arith, c.loop-test.true))
 
 pub loop-preserved : goal.loop-preserved
 loop-preserved g c =
