@@ -11,7 +11,7 @@ use Rattle.pg_text.proofs.text.Text.TheSendSync as text
 use Rattle.pg_value.proofs.function.Function.TheSendSync as function
 use Rattle.pg_value.proofs.operators.BinOp.TheSendSync as binary
 use Rattle.pg_value.proofs.operators.UnOp.TheSendSync as unary
-use Rattle.pg_value.proofs.record.Record.TheLaws.TheKnot as knot
+use Rattle.pg_value.proofs.block.Block.TheLaws.TheKnot as knot
 use Rattle.pg_value.proofs.scope.Scope.TheSendSync as scope
 use Rattle.pg_value.proofs.settings.PageSettings.TheSendSync as settings
 use Rattle.pg_value.specs.contracts.value.Value as Value

@@ -1,15 +1,15 @@
-ghost use Rattle.std.specs.Prelude.{◌≡◌, ◌++◌, ℤ, FitsSigned, map, string_bytes, IfOk, OnOk};
+ghost use Rattle.std.specs.Prelude.{◌≡◌, ◌<◌, ◌+◌, ◌^◌, ◌++◌, ℤ, FitsSigned, length, map, string_bytes, IfOk, OnOk};
 ghost use Rattle.std.specs.Int.{w64};
 ghost use Rattle.el_coercion.specs.Number.{number_of_text};
 ghost use Rattle.el_coercion.specs.Text as spec;
-ghost use Rattle.el_coercion.specs.Text.{inner_text, items_text, entries_text, separator_before, text_of};
+ghost use Rattle.el_coercion.specs.Text.{inner_text, items_text, entries_text, entries_from, separator_before, text_of};
 ghost use Rattle.pg_value.specs.Datum.{items_of, entries_of, truth};
 ghost use Rattle.pg_text.specs.Failure.{Answers};
 ghost use Rattle.pg_value.specs.Value.{datum_of, entry_of};
 
 use itoa::Buffer;
 use pg_text::push_decimal;
-use pg_value::{Failure, MAX_WEIGHT, RunFault, Text, Value};
+use pg_value::{Failure, MAX_WEIGHT, Record, RunFault, Text, Value};
 use std::alloc::{AllocError, Global};
 
 /// The text of a value. X20 is a list or record whose text weighs more than `MAX_WEIGHT`.
@@ -72,7 +72,7 @@ fn write_value(value: &Value, text: &mut String) -> Result<(), AllocError>
         }
         Value::Rec(entries) => {
             text.push('{')?;
-            write_entries(entries.as_slice(), text)?;
+            write_record(entries, text)?;
             text.push('}')
         }
     }
@@ -93,12 +93,32 @@ fn write_items(items: &[Value], text: &mut String) -> Result<(), AllocError>
 
 #[cycle(write)]
 #[tactic(auto, using(pg_value::proofs::Sizes::sizes, crate::proofs::Joined::joined), unfolding(crate::specs::Text::null_text, crate::specs::Text::true_text, crate::specs::Text::false_text))]
-fn write_entries(entries: &[(Text, Value)], text: &mut String) -> Result<(), AllocError>
-    ensures { OnOk result (string_bytes text.new ≡ string_bytes text.old ++ entries_text
+fn write_record(entries: &Record, text: &mut String) -> Result<(), AllocError>
+    ensures { OnOk result (string_bytes text.new ≡ string_bytes text.old ++ entries_text (entries_of entries.now)) }
+{
+    let mut place = 0;
+    while place < entries.len() {
+        let next = entries.entries_from(place);
+        write_entries(next, place, text)?;
+        place += next.len();
+    }
+    Ok(())
+}
+
+// Writes entries that stand from this place on.
+#[cycle(write)]
+#[tactic(auto, using(pg_value::proofs::Sizes::sizes, crate::proofs::Joined::joined), unfolding(crate::specs::Text::null_text, crate::specs::Text::true_text, crate::specs::Text::false_text))]
+fn write_entries(
+    entries: &[(Text, Value)],
+    place: usize,
+    text: &mut String,
+) -> Result<(), AllocError>
+    requires { place + length entries.now < 2 ^ 64 }
+    ensures { OnOk result (string_bytes text.new ≡ string_bytes text.old ++ entries_from place
         (entries_of (map entry_of entries.now))) }
 {
     for (i, (key, value)) in entries.iter().enumerate() {
-        separate(i, text)?;
+        separate(place + i, text)?;
         text.push_str(key.as_str())?;
         text.push('=')?;
         write_value(value, text)?;

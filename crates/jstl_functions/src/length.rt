@@ -17,7 +17,7 @@ pub(crate) fn length(alloc: Global, value: &Value) -> Result<Value, Failure<RunF
     match value {
         Value::Null => Ok(Value::Int(0)),
         Value::List(items) => Ok(number(items.as_slice().len())),
-        Value::Rec(entries) => Ok(number(entries.as_slice().len())),
+        Value::Rec(entries) => Ok(number(entries.len())),
         Value::Bool(_) | Value::Int(_) | Value::Text(_) => {
             let text = to_text(alloc, value)?;
             Ok(number(scalar_count(text.as_str())))

@@ -25,7 +25,7 @@ abbrev Entries : Type 0
 Entries = List (List ℕ × Datum)
 
 -- what is above a key is above a lower one
-above_lower : (k l : List ℕ) (keys : List (List ℕ)) → order k l ≡ Less → AllByRecursion (λ m. order l m ≡ Less) keys → AllByRecursion (λ m. order k m ≡ Less) keys
+pub above_lower : (k l : List ℕ) (keys : List (List ℕ)) → order k l ≡ Less → AllByRecursion (λ m. order l m ≡ Less) keys → AllByRecursion (λ m. order k m ≡ Less) keys
 above_lower k l [] below above = tt
 above_lower k l (m ∷ keys) below above = (nat_list_cmp_total.trans k l m below above.0, above_lower k l keys below above.1)
 

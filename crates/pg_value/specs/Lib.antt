@@ -9,6 +9,8 @@ pub mod Json
 pub mod Limits
 pub mod Measured
 pub mod ReadJson
+pub mod ReadEntries
+pub mod ReadPlace
 pub mod RunFault
 pub mod Size
 pub mod SizeFalls

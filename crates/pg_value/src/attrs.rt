@@ -1,4 +1,4 @@
-ghost use Rattle.std.specs.Prelude.{◌≡◌, ◌≢◌, ◌<◌, ℕ, List, [], Some, None, filter, reverse, not, ◌==◌, ◌-◌, ◌^◌, min, length, map, option_map, IfOk, IfSome, Ok, OnOk, OnErr};
+ghost use Rattle.std.specs.Prelude.{◌≡◌, ◌≢◌, ◌<◌, ◌++◌, ℕ, List, [], Some, None, drop, take, filter, reverse, not, ◌==◌, ◌-◌, ◌^◌, min, length, map, option_map, IfOk, IfSome, Ok, OnOk, OnErr};
 ghost use Rattle.std.specs.Cmp.Lexicographic.{slice_cmp};
 ghost use Rattle.std.specs.List.Sorted.{IsStableBy};
 ghost use Rattle.std.specs.Ordering.{nat_cmp, is_lt};
@@ -183,10 +183,21 @@ pub fn copied(alloc: Global, entries: &[(Text, Value)]) -> Result<Vec<(Text, Val
     ensures { IfOk result (λ copy. copy.items ≡ entries.now) }
 {
     let mut copy = Vec::with_capacity(alloc, entries.len())?;
-    for (key, value) in entries {
-        copy.push((key.copy()?, value.copy()?))?;
-    }
+    push_copies(&mut copy, entries)?;
     Ok(copy)
+}
+
+// Puts equal entries behind the others.
+pub fn push_copies(
+    onto: &mut Vec<(Text, Value)>,
+    entries: &[(Text, Value)],
+) -> Result<(), AllocError>
+    ensures { OnOk result (onto.new.items ≡ onto.old.items ++ entries.now) }
+{
+    for (key, value) in entries {
+        onto.push((key.copy()?, value.copy()?))?;
+    }
+    Ok(())
 }
 
 fn reversed(mut entries: Vec<(Text, Value)>) -> Vec<(Text, Value)>
@@ -244,6 +255,18 @@ pub fn set_at(entries: &mut Vec<(Text, Value)>, at: usize, value: Value)
     ensures { map entry_of entries.new.items ≡ with_value_at (map entry_of entries.old.items) at (datum_of value) }
 {
     entries[at].1 = value;
+}
+
+// The entries from this place on.
+pub fn from(entries: &[(Text, Value)], place: usize) -> &[(Text, Value)]
+    ensures same { map entry_of result.now ≡ take (length result.now) (drop place (map entry_of entries.now)) }
+    ensures some { place < length (map entry_of entries.now) → 0 < length result.now }
+{
+    if place >= entries.len() {
+        return &[];
+    }
+    let (_front, back) = entries.split_at(place);
+    back
 }
 
 // Where the key stands, or where it would.
@@ -306,7 +329,8 @@ fn find_among<'a>(entries: &'a [(Text, Value)], key: &str) -> Option<&'a Value>
     None
 }
 
-fn take_out(entries: &mut Vec<(Text, Value)>, key: &str)
+// Takes out what stands under the key.
+pub fn take_out(entries: &mut Vec<(Text, Value)>, key: &str)
     ensures { entries.new.items ≡ filter (λ e. not (bytes_eq key.now e.0)) entries.old.items }
 {
     entries.retain(|entry| !is_at(entry, key));

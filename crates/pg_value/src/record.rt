@@ -1,11 +1,13 @@
-ghost use Rattle.std.specs.Prelude.{◌≡◌, ◌==◌, ◌<◌, ◌-◌, ◌^◌, min, length, map, option_map, IfOk, IfSome, OnOk, OnErr};
-ghost use Rattle.pg_value.specs.Attrs.{AreInOrder, entry_at, with_entry, with_value_at};
+ghost use Rattle.std.specs.Prelude.{Some, ◌≡◌, ◌==◌, ◌<◌, ◌-◌, ◌^◌, min, length, map, take, drop, option_map, slice_get, IfOk, IfSome, OnOk, OnErr};
+ghost use Rattle.pg_value.specs.Attrs.{AreInOrder, entry_at, with_entry, with_value_at, without_entry};
 ghost use Rattle.pg_value.specs.Datum.{rec, entries_of};
 ghost use Rattle.pg_value.specs.Depth.{depth_of};
+ghost use Rattle.pg_value.specs.ReadEntries.{AreKept, in_entries};
 ghost use Rattle.pg_value.specs.Value.{datum_of, entry_of};
 ghost use Rattle.pg_value.specs.Weight.{weight_of};
 
-use crate::attrs::{self, Attrs};
+use crate::attrs::Attrs;
+use crate::entries::Entries;
 use crate::measures;
 use crate::value::Value;
 use pg_text::Text;
@@ -18,13 +20,13 @@ use std::sync::Arc;
 #[cycle(value)]
 #[derive(Drop)]
 pub struct Record {
-    entries: Arc<Vec<(Text, Value)>>,
+    entries: Arc<Entries>,
     weight: u64,
     depth: u32,
 }
 
 impl Model for Record {
-    ghost use Rattle.std.specs.Prelude.{List, ℕ, map};
+    ghost use Rattle.std.specs.Prelude.{Some, List, ℕ};
     ghost use Rattle.pg_value.specs.Datum.{Datum, rec, entries_of};
     ghost use Rattle.pg_value.specs.DatumCode.{entries_code};
 
@@ -32,21 +34,20 @@ impl Model for Record {
 
     ghost coded = { entries_code };
 
-    ghost use Rattle.pg_value.specs.Attrs.{AreInOrder};
     ghost use Rattle.pg_value.specs.Measured.{IsMeasured};
-    ghost use Rattle.pg_value.specs.Size.{entries_size};
-    ghost use Rattle.pg_value.specs.Value.{entry_of};
+    ghost use Rattle.pg_value.specs.ReadEntries.{AreKept, in_entries};
+    ghost use Rattle.pg_value.specs.Size.{record_size};
 
-    ghost view = { λ r. map entry_of r.entries.value.items };
+    ghost view = { λ r. in_entries r.entries.value };
 
     ghost invariant = { λ r.
-        AreInOrder (map entry_of r.entries.value.items) × IsMeasured (rec (entries_of (map entry_of r.entries.value.items))) r.weight r.depth };
+        AreKept r.entries.value × IsMeasured (rec (entries_of (in_entries r.entries.value))) r.weight r.depth };
 
-    ghost size = { entries_size };
+    ghost size = { record_size };
 
     ghost use Rattle.pg_value.specs.SizeFalls.{entries_below};
 
-    ghost size_decreases = { λ r h. entries_below r.entries.value.items };
+    ghost size_decreases = { λ r h. entries_below r.entries.value };
 }
 
 impl Record {
@@ -55,11 +56,12 @@ impl Record {
         ensures { IfOk result (λ made. made ≡ entries) }
     {
         let entries = entries.into_vec();
+        let alloc = *entries.allocator();
         let (weight, depth) = measures::measures_of_entries(&entries);
         Ok(Record {
             weight,
             depth,
-            entries: Arc::new(*entries.allocator(), entries)?,
+            entries: Arc::new(alloc, Entries::Few(entries))?,
         })
     }
 
@@ -92,47 +94,87 @@ impl Record {
     pub fn get(&self, key: &str) -> Option<&Value>
         ensures { option_map (λ value. datum_of value.now) result ≡ entry_at key.now self.now }
     {
-        attrs::find(self.entries.as_slice(), key)
+        self.entries.find(key)
     }
 
-    /// Puts the value under the key, in the place of what stood there. The entries are copied where other records share them.
+    /// Puts the value under the key, in the place of what stood there. Where other records share the entries, few are copied,
+    /// and of many those that stand by the key. A record of 2^63 entries, which no memory holds, is refused as for want of it.
     pub fn insert(&mut self, key: Text, value: Value) -> Result<(), AllocError>
         ensures ok { OnOk result (self.new ≡ with_entry self.old key (datum_of value)) }
         ensures err { OnErr result (self.new ≡ self.old) }
     {
         put(&mut self.entries, key, value)?;
-        let (weight, depth) = measures::measures_of_entries(self.entries.as_slice());
+        let (weight, depth) = self.entries.measures();
         self.weight = weight;
         self.depth = depth;
         Ok(())
     }
 
-    /// Puts the value in the place of the one at this place, under the key that stands there. The entries are copied where
-    /// other records share them.
+    /// Takes out what stands under the key. Entries are copied as [`insert`](Self::insert) copies them.
+    pub fn remove(&mut self, key: &str) -> Result<(), AllocError>
+        ensures ok { OnOk result (self.new ≡ without_entry self.old key.now) }
+        ensures err { OnErr result (self.new ≡ self.old) }
+    {
+        take_out(&mut self.entries, key)?;
+        let (weight, depth) = self.entries.measures();
+        self.weight = weight;
+        self.depth = depth;
+        Ok(())
+    }
+
+    /// Puts the value in the place of the one at this place, under the key that stands there. Entries are copied as
+    /// [`insert`](Self::insert) copies them.
     pub fn set_at(&mut self, at: usize, value: Value) -> Result<(), AllocError>
         requires { at < length self.old }
         ensures ok { OnOk result (self.new ≡ with_value_at self.old at (datum_of value)) }
         ensures err { OnErr result (self.new ≡ self.old) }
     {
-        let keeps_measures = measures::keeps_measures(self.entries.as_slice(), at, &value);
+        let keeps_measures = self.entries.keeps_measures(at, &value);
         put_at(&mut self.entries, at, value)?;
         if !keeps_measures {
-            let (weight, depth) = measures::measures_of_entries(self.entries.as_slice());
+            let (weight, depth) = self.entries.measures();
             self.weight = weight;
             self.depth = depth;
         }
         Ok(())
     }
 
-    pub fn as_slice(&self) -> &[(Text, Value)]
-        ensures entries { map entry_of result.now ≡ self.now }
-        ensures order { AreInOrder self.now }
+    /// The entries from this place on, as far as they stand in one list: at least the one at the place, where there is one.
+    pub fn entries_from(&self, place: usize) -> &[(Text, Value)]
+        ensures same { map entry_of result.now ≡ take (length result.now) (drop place self.now) }
+        ensures some { place < length self.now → 0 < length result.now }
     {
-        self.entries.as_slice()
+        self.entries.from(place)
+    }
+
+    // The entry at this place.
+    pub(crate) fn entry(&self, place: usize) -> &(Text, Value)
+        requires { place < length self.now }
+        ensures { Some (entry_of result.now) ≡ slice_get self.now place }
+    {
+        &self.entries_from(place)[0]
+    }
+
+    /// The entry at this place, counted from 0.
+    pub fn at(&self, place: usize) -> Option<&(Text, Value)>
+        ensures { option_map (λ entry. entry_of entry.now) result ≡ slice_get self.now place }
+    {
+        match self.entries_from(place) {
+            [] => None,
+            [entry, ..] => Some(entry),
+        }
+    }
+
+    /// A law: the keys are distinct, and rise in byte order.
+    pub fn keys_rise(&self)
+        ensures { AreInOrder self.now }
+    {
+        let _ = &self.entries;
     }
 
     pub fn len(&self) -> usize
-        ensures { result ≡ length self.now }
+        ensures len { result ≡ length self.now }
+        ensures few { result < 2 ^ 63 }
     {
         self.entries.len()
     }
@@ -140,56 +182,75 @@ impl Record {
     pub fn is_empty(&self) -> bool
         ensures { result ≡ (length self.now == 0) }
     {
-        self.entries.is_empty()
+        self.len() == 0
     }
 
     // The entries, where no copy shares them.
-    pub(crate) fn into_sole(self) -> Option<Vec<(Text, Value)>>
-        ensures { IfSome result (λ entries. map entry_of entries.items ≡ self) }
+    pub(crate) fn into_sole(self) -> Option<Entries>
+        ensures { IfSome result (λ entries. in_entries entries ≡ self) }
     {
         Arc::into_inner(self.entries)
     }
 
-    /// The entries, whose list is copied only where other records share it.
+    /// The entries in one list, which is a copy where they stand in several, or where other records share them.
     pub fn into_attrs(self) -> Result<Attrs, AllocError>
         ensures { IfOk result (λ entries. entries ≡ self) }
     {
         match Arc::try_unwrap(self.entries) {
-            Ok(entries) => Ok(Attrs::new(entries)),
-            Err(shared) => Ok(Attrs::new(attrs::copied(*shared.allocator(), shared.as_slice())?)),
+            Ok(Entries::Few(list)) => Ok(Attrs::new(list)),
+            Ok(entries) => Ok(Attrs::new(entries.listed()?)),
+            Err(shared) => Ok(Attrs::new(shared.listed()?)),
         }
     }
 }
 
-// Puts the value under the key, in the list itself where no other record shares it, and else in a copy.
-fn put(shared: &mut Arc<Vec<(Text, Value)>>, key: Text, value: Value) -> Result<(), AllocError>
-    requires { AreInOrder (map entry_of shared.old.value.items) }
-    ensures ok { OnOk result (map entry_of shared.new.value.items
-        ≡ with_entry (map entry_of shared.old.value.items) key (datum_of value)) }
-    ensures err { OnErr result (shared.new.value.items ≡ shared.old.value.items) }
+// Puts the value under the key, in the entries themselves where no other record shares them, and else in a copy.
+fn put(shared: &mut Arc<Entries>, key: Text, value: Value) -> Result<(), AllocError>
+    requires { AreKept shared.old.value }
+    ensures ok { OnOk result (in_entries shared.new.value
+        ≡ with_entry (in_entries shared.old.value) key (datum_of value)) }
+    ensures err { OnErr result (in_entries shared.new.value ≡ in_entries shared.old.value) }
+    ensures kept { AreKept shared.new.value }
 {
     if let Some(entries) = Arc::get_mut(shared) {
-        return attrs::put(entries, key, value);
+        return entries.put(key, value);
     }
-    let mut entries = attrs::copied(*shared.allocator(), shared.as_slice())?;
-    attrs::put(&mut entries, key, value)?;
-    *shared = Arc::new(*entries.allocator(), entries)?;
+    let mut entries = shared.copy()?;
+    entries.put(key, value)?;
+    *shared = Arc::new(entries.allocator(), entries)?;
     Ok(())
 }
 
-// Puts the value in its place, in the list itself where no other record shares it, and else in a copy.
-fn put_at(shared: &mut Arc<Vec<(Text, Value)>>, at: usize, value: Value) -> Result<(), AllocError>
-    requires { at < length (map entry_of shared.old.value.items) }
-    ensures ok { OnOk result (map entry_of shared.new.value.items
-        ≡ with_value_at (map entry_of shared.old.value.items) at (datum_of value)) }
-    ensures err { OnErr result (shared.new.value.items ≡ shared.old.value.items) }
+// Puts the value in its place, in the entries themselves where no other record shares them, and else in a copy.
+fn put_at(shared: &mut Arc<Entries>, at: usize, value: Value) -> Result<(), AllocError>
+    requires within { at < length (in_entries shared.old.value) }
+    requires kept { AreKept shared.old.value }
+    ensures ok { OnOk result (in_entries shared.new.value
+        ≡ with_value_at (in_entries shared.old.value) at (datum_of value)) }
+    ensures err { OnErr result (in_entries shared.new.value ≡ in_entries shared.old.value) }
+    ensures kept { AreKept shared.new.value }
 {
     if let Some(entries) = Arc::get_mut(shared) {
-        attrs::set_at(entries, at, value);
-        return Ok(());
+        return entries.set_at(at, value);
     }
-    let mut entries = attrs::copied(*shared.allocator(), shared.as_slice())?;
-    attrs::set_at(&mut entries, at, value);
-    *shared = Arc::new(*entries.allocator(), entries)?;
+    let mut entries = shared.copy()?;
+    entries.set_at(at, value)?;
+    *shared = Arc::new(entries.allocator(), entries)?;
+    Ok(())
+}
+
+// Takes out what stands under the key, of the entries themselves where no other record shares them, and else of a copy.
+fn take_out(shared: &mut Arc<Entries>, key: &str) -> Result<(), AllocError>
+    requires { AreKept shared.old.value }
+    ensures ok { OnOk result (in_entries shared.new.value ≡ without_entry (in_entries shared.old.value) key.now) }
+    ensures err { OnErr result (in_entries shared.new.value ≡ in_entries shared.old.value) }
+    ensures kept { AreKept shared.new.value }
+{
+    if let Some(entries) = Arc::get_mut(shared) {
+        return entries.take_out(key);
+    }
+    let mut entries = shared.copy()?;
+    entries.take_out(key)?;
+    *shared = Arc::new(entries.allocator(), entries)?;
     Ok(())
 }

@@ -1,5 +1,6 @@
 ghost use Rattle.std.specs.Prelude.{◌≡◌, IfOk};
 
+use crate::entries::Entries;
 use crate::limits::MAX_DEPTH;
 use crate::record::Record;
 use crate::values::Values;
@@ -22,7 +23,8 @@ pub enum Value {
 impl Drop for Value {
     // Goes on with the heaviest item in a loop, since a value that was read may be of any depth. Each of
     // the others is at most half as heavy as the whole, so that dropping them goes down the stack at
-    // most once for each bit of a weight.
+    // most once for each bit of a weight. Entries in blocks are dropped as they come, since what is read
+    // has none: it was put together of values within the limit.
     #[cycle(value)]
     fn drop(mut self) {
         loop {
@@ -43,13 +45,15 @@ impl Drop for Value {
                     if entries.depth() <= MAX_DEPTH {
                         return;
                     }
-                    let Some(mut entries) = entries.into_sole() else {
+                    let mut list = match entries.into_sole() {
+                        Some(Entries::Few(list)) => list,
+                        Some(Entries::Many(_blocks)) => return,
+                        None => return,
+                    };
+                    let Some(place) = measures::heaviest_entry(&list) else {
                         return;
                     };
-                    let Some(place) = measures::heaviest_entry(&entries) else {
-                        return;
-                    };
-                    self = entries.swap_remove(place).1;
+                    self = list.swap_remove(place).1;
                 }
                 Value::Null => return,
                 Value::Bool(_truth) => return,

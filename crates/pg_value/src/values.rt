@@ -30,14 +30,14 @@ impl Model for Values {
     ghost coded = { data_code };
 
     ghost use Rattle.pg_value.specs.Measured.{IsMeasured};
-    ghost use Rattle.pg_value.specs.Size.{data_size};
+    ghost use Rattle.pg_value.specs.Size.{list_size};
     ghost use Rattle.pg_value.specs.Value.{datum_of};
 
     ghost view = { λ v. map datum_of v.items.value.items };
 
     ghost invariant = { λ v. IsMeasured (list (items_of (map datum_of v.items.value.items))) v.weight v.depth };
 
-    ghost size = { data_size };
+    ghost size = { list_size };
 
     ghost use Rattle.pg_value.specs.SizeFalls.{items_below};
 

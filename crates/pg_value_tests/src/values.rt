@@ -184,6 +184,48 @@ fn many_names_are_a_record_soon(rt: HostRuntime) -> Result<(), Fail> {
     Ok(())
 }
 
+// Puts an entry into a record and keeps a copy of it without the entry, as a page does, or takes one out.
+fn set(alloc: Global, record: &mut Record, number: u32) -> Result<(), AllocError> {
+    let _before = record.copy()?;
+    let key = scattered_key(alloc, number)?;
+    if number % 3 == 2 {
+        record.remove(scattered_key(alloc, number / 3)?.as_str())?;
+    }
+    record.insert(key, Value::Int(i64::from(number)))
+}
+
+// The same in a list that nobody shares.
+fn set_alone(alloc: Global, entries: &mut Attrs, number: u32) -> Result<(), AllocError> {
+    let key = scattered_key(alloc, number)?;
+    if number % 3 == 2 {
+        entries.remove(scattered_key(alloc, number / 3)?.as_str());
+    }
+    entries.insert(key, Value::Int(i64::from(number)))
+}
+
+// A record of many entries, and one that was put together of them at once.
+fn many_entries(alloc: Global) -> Result<(Record, Record), AllocError> {
+    let mut record = record_of(alloc, &[])?;
+    let mut entries = Attrs::empty(alloc);
+    for number in 0..1_000 {
+        set(alloc, &mut record, number)?;
+        set_alone(alloc, &mut entries, number)?;
+    }
+    Ok((record, Record::new(entries)?))
+}
+
+#[test]
+fn many_entries_are_kept_as_few_are(rt: HostRuntime) -> Result<(), Fail> {
+    let (many, few) = many_entries(rt.alloc())?;
+    assert_eq!(rt;
+        (many.len(), many.weight(), many.depth()),
+        (few.len(), few.weight(), few.depth())
+    );
+    let listed = Value::Rec(Record::new(many.copy()?.into_attrs()?)?);
+    assert!(rt; listed == Value::Rec(few) && listed == Value::Rec(many));
+    Ok(())
+}
+
 #[test]
 fn faults_have_numbers_and_names(rt: HostRuntime) {
     for &(fault, number, name) in &[

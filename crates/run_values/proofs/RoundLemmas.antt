@@ -141,15 +141,14 @@ entries_get [] place = refl
 entries_get (e ∷ rest) zero = refl
 entries_get (e ∷ rest) (suc n) = entries_get rest n
 
-pub entry_copied : (es : List (List ℕ × Value)) (place : ℕ) (e : List ℕ × Value) (r : Result Value (Failure RunFault)) → Some e ≡ slice_get es place → AnswersAs datum_of (entry_item (entry_of e)) r
-    → AnswersAs datum_of (item_at (Some (entry_items (entries_of (map entry_of es)))) place) r
+pub entry_copied : (es : Values) (place : ℕ) (e : List ℕ × Datum) (r : Result Value (Failure RunFault)) → Some e ≡ slice_get es place → AnswersAs datum_of (entry_item e) r
+    → AnswersAs datum_of (item_at (Some (entry_items (entries_of es))) place) r
 entry_copied es place e r h g =
-    let i = item_is (entry_items (entries_of (map entry_of es))) place (entry_item (entry_of e)) (entries_get (map entry_of es) place ∙ ap (option_map entry_item) (slice_get-map entry_of es place ∙ ap (option_map entry_of) (sym h))) in
+    let i = item_is (entry_items (entries_of es)) place (entry_item e) (entries_get es place ∙ ap (option_map entry_item) (sym h)) in
     subst (λ x. AnswersAs datum_of x r) (sym i) g
 
-pub entry_absent : (es : List (List ℕ × Value)) (place : ℕ) → None ≡ slice_get es place → item_at (Some (entry_items (entries_of (map entry_of es)))) place ≡ Ok null
-entry_absent es place h =
-    item_none (entry_items (entries_of (map entry_of es))) place (entries_get (map entry_of es) place ∙ ap (option_map entry_item) (slice_get-map entry_of es place ∙ ap (option_map entry_of) (sym h)))
+pub entry_absent : (es : Values) (place : ℕ) → None ≡ slice_get es place → item_at (Some (entry_items (entries_of es))) place ≡ Ok null
+entry_absent es place h = item_none (entry_items (entries_of es)) place (entries_get es place ∙ ap (option_map entry_item) (sym h))
 
 pub entries_counted : (es : List (List ℕ × Datum)) → length (entry_items (entries_of es)) ≡ length es
 entries_counted [] = refl

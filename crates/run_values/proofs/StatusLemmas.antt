@@ -1,6 +1,6 @@
 -- The entries of a status are in order, and of those of one round those of another round of the same loop are made.
 use Rattle.std.proofs.Common.{◌≡◌, ℕ, zero, suc, pos, List, [], ◌∷◌, get_or, length, map, Option, Some, Result, Ok, Err, IfOk, refl, sym, ap, ◌∙◌, subst}
-use Rattle.std.specs.Prelude.{◌==◌}
+use Rattle.std.specs.Prelude.{◌==◌, slice_get, unwrap_or}
 use Rattle.page_meaning.specs.Attributes.{Values}
 use Rattle.page_meaning.specs.Rounds.{Round}
 use Rattle.pg_value.proofs.Gathered.{AreInOrder-of_entries}
@@ -23,10 +23,12 @@ pub kept_length : (es new : Values) (at : ℕ) (d : Datum) → new ≡ with_valu
 kept_length es new at d is h = ap length is ∙ length-with_value_at es at d ∙ h
 
 -- a value that stands at a place already
-pub stands : (es : List (List ℕ × Value)) (at : ℕ) (e : List ℕ × Value) (d : Datum) → datum_of (get_or es at e).1 ≡ d → map entry_of es ≡ with_value_at (map entry_of es) at d
-stands [] at e d is = refl
-stands (x ∷ es) zero e d is = ap (λ v. (x.0, v) ∷ map entry_of es) is
-stands (x ∷ es) (suc at) e d is = ap (λ more. entry_of x ∷ more) (stands es at e d is)
+pub stands : (es : Values) (at : ℕ) (e : List ℕ × Datum) (d : Datum) → Some e ≡ slice_get es at → e.1 ≡ d → es ≡ with_value_at es at d
+stands [] at e d got is = refl
+stands (x ∷ es) zero e d got is =
+    let same : e ≡ x = ap (λ o. unwrap_or o e) got in
+    ap (λ v. (x.0, v) ∷ es) (ap (λ y. y.1) (sym same) ∙ is)
+stands (x ∷ es) (suc at) e d got is = ap (λ more. x ∷ more) (stands es at e d got is)
 
 -- with what tells a round apart put in its places
 abbrev with_round : Values → Round → Datum → Values

@@ -115,17 +115,17 @@ pub fn property_replaced(
     let Value::Rec(record) = record else {
         return Err(Failure::Fault(RunFault::NotARecord));
     };
-    let entries = with_property(name, new, record.copy()?.into_attrs()?)?;
-    measured(Value::Rec(Record::new(entries)?))
+    let changed = with_property(name, new, record.copy()?)?;
+    measured(Value::Rec(changed))
 }
 
-// The entries with a property set, or without it where that is null.
-fn with_property(name: &Text, new: &Value, entries: Attrs) -> Result<Attrs, AllocError>
+// The record with a property set, or without it where that is null.
+fn with_property(name: &Text, new: &Value, entries: Record) -> Result<Record, AllocError>
     ensures { IfOk result (λ made. made ≡ with_property name.now (datum_of new.now) entries) }
 {
     let mut changed = entries;
     match new {
-        Value::Null => changed.remove(name.as_str()),
+        Value::Null => changed.remove(name.as_str())?,
         new => changed.insert(name.copy()?, new.copy()?)?,
     }
     Ok(changed)
@@ -139,8 +139,9 @@ pub fn changed_all(alloc: Global, params: &Attrs, value: &Value) -> Result<Attrs
     let Value::Rec(record) = value else {
         return Err(Failure::Fault(RunFault::NotARecord));
     };
-    let entries = record.copy()?.into_attrs()?;
-    all_by_parameters(alloc, params, record.as_slice(), entries)
+    let properties = record.copy()?.into_attrs()?;
+    let entries = properties.copy()?;
+    all_by_parameters(alloc, params, properties.as_slice(), entries)
 }
 
 /// The entries of a record, with a property set by a parameter, or None where that is empty or

@@ -121,7 +121,7 @@ fn text_at(texts: &Listed<Text>, place: usize) -> Result<Value, AllocError>
 fn entry_at(alloc: Global, record: &Record, place: usize) -> Result<Value, Failure<RunFault>>
     ensures { AnswersAs datum_of (item_at (Some (entry_items (entries_of record.now))) place) result }
 {
-    match at(record.as_slice(), place) {
+    match record.at(place) {
         Some(entry) => entry_value(alloc, entry),
         None => Ok(Value::Null),
     }

@@ -159,7 +159,9 @@ fn set_truth(status: &mut Record, at: usize, holds: bool) -> Result<(), AllocErr
     ensures ok { OnOk result (status.new ≡ with_value_at status.old at (truth holds)) }
     ensures err { OnErr result (status.new ≡ status.old) }
 {
-    if is_truth(&status.as_slice()[at].1, holds) {
+    if let Some((_name, value)) = status.at(at)
+        && is_truth(value, holds)
+    {
         return Ok(());
     }
     status.set_at(at, Value::Bool(holds))

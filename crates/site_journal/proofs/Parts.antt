@@ -1,5 +1,6 @@
 -- Parts that are such as have a code.
-use Rattle.std.proofs.Common.{◌≡◌, ◌≤◌, ◌<◌, ◌^◌, ℕ, ◌+◌, List, [], ◌∷◌, ◌++◌, length, map, take, get_or, refl, sym, ap, subst, ◌∙◌, arith, lit<}
+use Rattle.std.proofs.Common.{◌≡◌, ◌≤◌, ◌<◌, ◌^◌, ℕ, ◌+◌, List, [], ◌∷◌, ◌++◌, length, map, take, drop, get_or, refl, sym, ap, subst, ◌∙◌, arith, lit<}
+use Rattle.std.proofs.Math.Seq.{take-add}
 use Rattle.std.proofs.lemmas.List.{length-append, map-append, take_all, take_more}
 use Rattle.pg_value.proofs.Inverses.{entry_list-entries_of}
 use Rattle.pg_value.specs.Attrs.{AreInOrder as KeysRise}
@@ -54,6 +55,18 @@ list_parts n ds es count same short are = (subst IsNumber (count ∙ sym (items_
 entries_push : (es : List (List ℕ × Datum)) (e : List ℕ × Datum) → AreEntries (entries_of es) → IsText e.0 → IsDatum e.1 → AreEntries (entries_of (es ++ e ∷ []))
 entries_push [] e are key is = (key, is, tt)
 entries_push (c ∷ es) e are key is = (are.0, are.1, entries_push es e are.2 key is)
+
+entries_joined : (es more : List (List ℕ × Datum)) → AreEntries (entries_of es) → AreEntries (entries_of more) → AreEntries (entries_of (es ++ more))
+entries_joined [] more first next = next
+entries_joined (c ∷ es) more first next = (first.0, first.1, entries_joined es more first.2 next)
+
+-- those of a record that stand together
+pub run_parts : (es seen : List (List ℕ × Datum)) (place count : ℕ) → seen ≡ take count (drop place es) → AreEntries (entries_of (take place es)) → AreEntries (entries_of seen) → AreEntries (entries_of (take (place + count) es))
+run_parts es seen place count is first next =
+    subst (λ fs. AreEntries (entries_of fs)) (sym (take-add place count es ∙ ap (λ fs. take place es ++ fs) (sym is))) (entries_joined (take place es) seen first next)
+
+pub runs_parts : (es : List (List ℕ × Datum)) (place : ℕ) → length es ≤ place → AreEntries (entries_of (take place es)) → AreEntries (entries_of es)
+runs_parts es place past first = subst (λ fs. AreEntries (entries_of fs)) (take_all place es past) first
 
 pub entry_parts : (xs : List (List ℕ × Value)) (i : ℕ) (x : List ℕ × Value) → i < length xs → x ≡ get_or xs i x → AreEntries (entries_of (map entry_of (take i xs))) → IsText x.0 → IsDatum (datum_of x.1)
     → AreEntries (entries_of (map entry_of (take (i + 1) xs)))

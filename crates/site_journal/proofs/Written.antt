@@ -1,5 +1,6 @@
 -- Texts that are written one behind the other.
-use Rattle.std.proofs.Common.{◌≡◌, ◌≤◌, ◌<◌, ℕ, ◌+◌, Bool, List, [], ◌∷◌, ◌++◌, length, map, take, get_or, refl, sym, ap, subst, ◌∙◌, append_assoc, append-nil, arith, Option}
+use Rattle.std.proofs.Common.{◌≡◌, ◌≤◌, ◌<◌, ℕ, ◌+◌, Bool, List, [], ◌∷◌, ◌++◌, length, map, take, drop, get_or, refl, sym, ap, subst, ◌∙◌, append_assoc, append-nil, arith, Option}
+use Rattle.std.proofs.Math.Seq.{take-add}
 use Rattle.std.proofs.lemmas.List.{length-append, map-append, take_all, take_more}
 use Rattle.std.proofs.lemmas.Grind.{flat_map-append}
 use Rattle.std.specs.Prelude.{flat_map}
@@ -83,6 +84,21 @@ entry_next xs i x within is first key value =
 
 pub entries_all : {a b : Option (List ℕ)} {m n : ℕ} {p q : Buffer} (xs : List (List ℕ × Value)) (i : ℕ) → length xs ≤ i → Writes a b m n p q (of_entries (entries_of (map entry_of (take i xs)))) → Writes a b m n p q (of_entries (entries_of (map entry_of xs)))
 entries_all xs i past first = writes_same (ap (λ ys. of_entries (entries_of (map entry_of ys))) (take_all i xs past)) first
+
+entries_append : (es more : List (List ℕ × Datum)) → of_entries (entries_of (es ++ more)) ≡ of_entries (entries_of es) ++ of_entries (entries_of more)
+entries_append [] more = refl
+entries_append (c ∷ es) more = ap (λ t. of_bytes c.0 ++ of_datum c.1 ++ t) (entries_append es more) ∙ sym (append_assoc (of_bytes c.0 ++ of_datum c.1) (of_entries (entries_of es)) (of_entries (entries_of more)))
+
+-- those of a record that stand together
+pub run_next : {a b c : Option (List ℕ)} {m n o : ℕ} {p q r : Buffer} (es seen : List (List ℕ × Datum)) (place count : ℕ) → seen ≡ take count (drop place es)
+    → Writes a b m n p q (of_entries (entries_of (take place es))) → Writes b c n o q r (of_entries (entries_of seen)) → Writes a c m o p r (of_entries (entries_of (take (place + count) es)))
+run_next es seen place count is first next =
+    let longer : of_entries (entries_of (take (place + count) es)) ≡ of_entries (entries_of (take place es)) ++ of_entries (entries_of seen)
+    = ap (λ fs. of_entries (entries_of fs)) (take-add place count es ∙ ap (λ fs. take place es ++ fs) (sym is)) ∙ entries_append (take place es) seen in
+    writes_same (sym longer) (writes_both first next)
+
+pub runs_all : {a b : Option (List ℕ)} {m n : ℕ} {p q : Buffer} (es : List (List ℕ × Datum)) (place : ℕ) → length es ≤ place → Writes a b m n p q (of_entries (entries_of (take place es))) → Writes a b m n p q (of_entries (entries_of es))
+runs_all es place past first = writes_same (ap (λ fs. of_entries (entries_of fs)) (take_all place es past)) first
 
 pub entries_counted : (es : List (List ℕ × Datum)) → entry_count (entries_of es) ≡ length es
 entries_counted [] = refl

@@ -8,7 +8,7 @@ ghost use Rattle.sink_buffer.specs.Buffer.{Writes};
 use crate::writing::{put_byte, put_int, put_number, put_text, put_truth};
 use edges::Sink;
 use pg_text::Text;
-use pg_value::{Attrs, Value};
+use pg_value::{Attrs, Record, Value};
 use sink_buffer::SinkBuffer;
 
 // Writes a value.
@@ -39,9 +39,10 @@ pub(crate) fn put_value<K: Sink>(sink: &mut K, buffer: &mut SinkBuffer, value: &
             put_items(sink, buffer, items.as_slice());
         }
         Value::Rec(entries) => {
+            entries.keys_rise();
             put_byte(sink, buffer, 5);
             put_number(sink, buffer, entries.len() as u64);
-            put_keys(sink, buffer, entries.as_slice());
+            put_record(sink, buffer, entries);
         }
     }
 }
@@ -59,7 +60,23 @@ fn put_items<K: Sink>(sink: &mut K, buffer: &mut SinkBuffer, items: &[Value])
     }
 }
 
-// Writes the keys of a record, each with what stands under it.
+// Writes the entries of a record.
+#[cycle(values)]
+#[tactic(auto, using(pg_value::proofs::Sizes::sizes, pg_value::proofs::Lengths::lengths))]
+fn put_record<K: Sink>(sink: &mut K, buffer: &mut SinkBuffer, entries: &Record)
+    ensures writes { Writes (K.taken sink.old) (K.taken sink.new) (K.faults sink.old) (K.faults sink.new)
+        buffer.old buffer.new (of_entries (entries_of entries.now)) }
+    ensures can_be { AreEntries (entries_of entries.now) }
+{
+    let mut place = 0;
+    while place < entries.len() {
+        let next = entries.entries_from(place);
+        put_keys(sink, buffer, next);
+        place += next.len();
+    }
+}
+
+// Writes keys, each with what stands under it.
 #[cycle(values)]
 #[tactic(auto, using(pg_value::proofs::Sizes::sizes, pg_value::proofs::Lengths::lengths))]
 fn put_keys<K: Sink>(sink: &mut K, buffer: &mut SinkBuffer, entries: &[(Text, Value)])

@@ -11,7 +11,7 @@ use Rattle.pg_text.proofs.text.Text.TheSendSync as text
 use Rattle.pg_text.specs.contracts.names.Names as Names
 use Rattle.pg_text.specs.contracts.path.Path as Path
 use Rattle.pg_text.specs.contracts.text.Text as Text
-use Rattle.pg_value.proofs.record.Record.TheLaws.TheKnot as knot
+use Rattle.pg_value.proofs.block.Block.TheLaws.TheKnot as knot
 use Rattle.pg_value.specs.contracts.attrs.Attrs as Attrs
 use Rattle.pg_value.specs.contracts.value.Value as Value
 use Rattle.source_tree.proofs.edits.Edits.TheSendSync as edits
@@ -28,12 +28,12 @@ use Rattle.site_words.specs.contracts.words.Reply as Reply
 value_send : IsSend (Value.the_field).row
 value_send = search (crosses, knot.crosses, sendable) depth 60 fits 20000
 
--- attributes may be moved into a thread
-pub attrs_send : IsSend (Attrs.the_field).row
-attrs_send = search (crosses, knot.crosses, sendable) depth 60 fits 20000
-
 text_send : IsSend (Text.the_field).row
 text_send = search (text.the_send, crosses, sendable)
+
+-- attributes may be moved into a thread
+pub attrs_send : IsSend (Attrs.the_field).row
+attrs_send = search (value_send, text_send, crosses, sendable) depth 60 fits 20000
 
 path_send : IsSend (Path.the_field).row
 path_send = search (path.the_send, crosses, sendable)

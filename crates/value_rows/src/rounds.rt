@@ -23,6 +23,7 @@ pub fn rounds_told(alloc: Global, word: &str, given: &Value) -> Result<String, A
 fn told(alloc: Global, over: Over, given: &Value) -> Result<String, Failure<RunFault>> {
     let mut told = String::new(alloc);
     if let Value::Rec(given) = given {
+        let given = given.copy()?.into_attrs()?;
         let mut rounds = rounds_of(alloc, over, given.as_slice())?;
         for _ in 0..4 {
             if let Some(mark) = rounds.next() {

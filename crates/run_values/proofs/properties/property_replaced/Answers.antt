@@ -11,6 +11,6 @@ pub returns-clause-answer : goal.returns-clause-answer
 returns-clause-answer c =
     subst (λ r. AnswersAs datum_of r c.measured.result)
     (ap (λ es. measured (rec (entries_of es)))
-    (c.in_ok-new.ensures ∙ c.in_ok-entries.ensures ∙ ap (with_property c.args.name.now (datum_of c.args.new.now)) (c.in_ok-into_attrs.ensures ∙ c.in_ok-copy.ensures))
+    (c.in_ok-changed.ensures ∙ ap (with_property c.args.name.now (datum_of c.args.new.now)) c.in_ok-copy.ensures)
     ∙ sym (property_replaced_is c.args.record.now c.in-Rec.record c.in-Rec.is c.args.name.now (datum_of c.args.new.now)))
     c.measured.ensures

@@ -1,7 +1,9 @@
-use Rattle.std.proofs.Common.{ap, arith, subst, sym, ◌∙◌}
-use Rattle.pg_value.specs.Value.{datum_of}
-use Rattle.site_journal.proofs.Parts.{entries_parts, entry_parts, item_parts, items_parts, list_parts, rec_parts}
-use Rattle.site_journal.proofs.Written.{entries_all, entry_next, item_next, items_all, list_text, rec_text}
+use Rattle.std.proofs.Common.{ap, arith, length, map, refl, rules, ◌+◌, ◌*◌, ◌<◌, subst, sym, ◌∙◌}
+use Rattle.pg_value.proofs.Sizes.{run_length, run_size}
+use Rattle.pg_value.specs.Size.{entries_size}
+use Rattle.pg_value.specs.Value.{datum_of, entry_of}
+use Rattle.site_journal.proofs.Parts.{entries_parts, entry_parts, item_parts, items_parts, list_parts, rec_parts, run_parts, runs_parts}
+use Rattle.site_journal.proofs.Written.{entries_all, entry_next, item_next, items_all, list_text, rec_text, run_next, runs_all}
 use Rattle.sink_buffer.proofs.Writing.{writes_both, writes_none, writes_same}
 use Rattle.site_journal.specs.Journal.{of_value}
 use Rattle.site_journal.specs.Reading.{IsDatum}
@@ -31,11 +33,36 @@ put_value-returns-in-List-clause-can_be g t c = subst (λ v. IsDatum (datum_of v
 
 pub put_value-returns-in-Rec-clause-writes : goal.put_value-returns-in-Rec-clause-writes
 put_value-returns-in-Rec-clause-writes g t c =
-    writes_same (rec_text _ _ _ c.len-in-Rec.ensures c.as_slice-in-Rec.ensures.entries ∙ ap of_value (sym c.in-Rec.is)) (writes_both (writes_both c.put_byte-in-Rec.ensures c.put_number-in-Rec.ensures.writes) c.put_keys.ensures.writes)
+    writes_same (rec_text _ _ _ c.len-in-Rec.ensures.len refl ∙ ap of_value (sym c.in-Rec.is)) (writes_both (writes_both c.put_byte-in-Rec.ensures c.put_number-in-Rec.ensures.writes) c.put_record.ensures.writes)
 
 pub put_value-returns-in-Rec-clause-can_be : goal.put_value-returns-in-Rec-clause-can_be
 put_value-returns-in-Rec-clause-can_be g t c =
-    subst (λ v. IsDatum (datum_of v)) (sym c.in-Rec.is) (rec_parts _ _ _ c.len-in-Rec.ensures c.as_slice-in-Rec.ensures.entries c.put_number-in-Rec.ensures.can_be c.as_slice-in-Rec.ensures.order c.put_keys.ensures.can_be)
+    subst (λ v. IsDatum (datum_of v)) (sym c.in-Rec.is) (rec_parts _ _ _ c.len-in-Rec.ensures.len refl c.put_number-in-Rec.ensures.can_be c.keys_rise.ensures c.put_record.ensures.can_be)
+
+pub put_record-loop-place-init : goal.put_record-loop-place-init
+put_record-loop-place-init g t c = record { written = writes_none _ _ _; can_be = tt }
+
+pub put_record-put_keys-requires : goal.put_record-put_keys-requires
+put_record-put_keys-requires g t c =
+    let next = c.entries_from-next.result.now in
+    let size = run_size (map entry_of next) c.args.entries.now (length next) c.loop-place.place c.entries_from-next.ensures.same in
+    let less : 3 * entries_size (map entry_of next) + 1 < t = omega (arith, c.decreases, size) in
+    search (rules, less)
+
+pub put_record-overflow_add-place : goal.put_record-overflow_add-place
+put_record-overflow_add-place g t c = omega (arith, run_length c.entries_from-next.result.now c.args.entries.now c.loop-place.place c.entries_from-next.ensures.same, c.len.ensures.len, c.len.ensures.few)
+
+pub put_record-loop-place-preserved : goal.put_record-loop-place-preserved
+put_record-loop-place-preserved g t c = record {
+  written = run_next c.args.entries.now _ c.loop-place.place _ c.entries_from-next.ensures.same c.loop-place.invariant.written c.put_keys.ensures.writes;
+  can_be = run_parts c.args.entries.now _ c.loop-place.place _ c.entries_from-next.ensures.same c.loop-place.invariant.can_be c.put_keys.ensures.can_be;
+}
+
+pub put_record-returns-clause-writes : goal.put_record-returns-clause-writes
+put_record-returns-clause-writes g t c = runs_all c.args.entries.now c.loop-place.place (omega (arith, c.len.ensures.len)) c.loop-place.invariant.written
+
+pub put_record-returns-clause-can_be : goal.put_record-returns-clause-can_be
+put_record-returns-clause-can_be g t c = runs_parts c.args.entries.now c.loop-place.place (omega (arith, c.len.ensures.len)) c.loop-place.invariant.can_be
 
 pub put_items-loop-item-init : goal.put_items-loop-item-init
 put_items-loop-item-init g t c = record { written = writes_none _ _ _; can_be = tt }

@@ -1,8 +1,13 @@
 use Rattle.std.proofs.Common.{rules, sym, subst}
-use Rattle.pg_value.specs.Attrs.{AreInOrder}
-use Rattle.pg_value.proofs.Order.{AreInOrder-with_entry}
+use Rattle.pg_value.specs.Datum.{entries_of, rec}
+use Rattle.pg_value.specs.Measured.{IsMeasured}
 use Rattle.pg_value.proofs.record.Record.insert.Goals as goal
 
+-- nothing was put
+pub invariant_of-self : goal.invariant_of-self
+invariant_of-self c =
+    (c.put.ensures.kept, subst (λ es. IsMeasured (rec (entries_of es)) c.self.inside.weight c.self.inside.depth) (sym c.in_err-put.ensures.err) c.self.invariant.1)
+
+-- measured anew
 pub invariant_of-self-2 : goal.invariant_of-self-2
-invariant_of-self-2 c =
-    (subst AreInOrder (sym c.in_ok-put.ensures.ok) (AreInOrder-with_entry _ _ _ c.self.invariant.0), record { weighs = search rules; reaches = search rules })
+invariant_of-self-2 c = (c.put.ensures.kept, record { weighs = search rules; reaches = search rules })
