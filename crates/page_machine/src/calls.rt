@@ -8,26 +8,26 @@ ghost use Rattle.page_table.specs.Act.{called_out};
 ghost use Rattle.page_table.specs.Calls.{call_entered, call_of as made_call, given_called};
 ghost use Rattle.page_table.specs.Checked.{SeatFits};
 ghost use Rattle.page_table.specs.Program.{tag_at};
-ghost use Rattle.page_table.specs.Seat.{Seat as Seat', code_of, in_tag, page_run_of, source_text};
+ghost use Rattle.page_table.specs.Seat.{Seat as Seat', code_of, in_tag, source_text};
 ghost use Rattle.run_moves.specs.Acted.{Acted};
+ghost use Rattle.run_moves.specs.At.{IsRecordsAt, seat_at};
 ghost use Rattle.run_moves.specs.Opened.{open_of};
 ghost use Rattle.run_parts.specs.Given.{given_by, given_of};
-ghost use Rattle.run_parts.specs.Records.{IsRecordsOf};
 ghost use Rattle.run_world.specs.Known.{Known, ServesSo};
 ghost use Rattle.run_world.specs.Programs.{program_of};
-ghost use Rattle.run_world.specs.Seats.{call_of, seat_of};
+ghost use Rattle.run_world.specs.Seats.{call_of};
 ghost use Rattle.run_world.specs.Tags.{tag_of};
 
-use crate::turn::run_code;
+use crate::turn::{CodeStart, run_code};
 use page_code::{CallBody, TagCall};
-use pg_text::{Path, Place, Text};
+use pg_text::{Path, Text};
 use pg_value::{Attrs, RunFault};
-use run_moves::{End, Flow, Open, fail, throw};
+use run_moves::{At, End, Flow, Open, fail, throw};
 use run_parts::{
     Given, RequestRecords, body_given, copy_out, exports_of, first_frame, fragment_given,
     give_back, nested_changes,
 };
-use run_world::{CallSeat, Program, Seat, Served, TagProgram, World};
+use run_world::{CallSeat, Program, Seat, TagProgram, World};
 use std::alloc::Global;
 
 // The tag file of this path in a page's unit.
@@ -58,87 +58,90 @@ fn size_of(call: &TagCall) -> usize
 
 // Calls a tag file with the values of its attributes. A unit has each one that it calls.
 #[cycle(machine)]
-pub(crate) fn tag_call<W: World>(
+pub(crate) fn tag_call<'a, W: World>(
     alloc: Global,
-    served: &Served,
-    seat: &Seat,
+    at: &At<'a>,
     records: &mut RequestRecords,
-    pc: usize,
-    place: &Place,
-    call: &TagCall,
-    open: &mut Open,
+    call: &'a TagCall,
+    opened: &mut Open,
     world: &mut W,
 ) -> Flow
     requires covered { W.covered world.old }
-    requires records { IsRecordsOf served.now.request.now (page_run_of (seat_of seat.now)).params records.old }
-    requires known { Known W.reached W.stores served.now world.old }
-    requires seat { SeatFits (seat_of seat.now) }
-    requires holds { SeatHolds (seat_of seat.now) (length (W.variables world.old).frames) }
-    requires fits { BodyBegins (code_of (seat_of seat.now)) (pc + 1) call.now.body × FragmentsBegin
-        (code_of (seat_of seat.now)) (pc + 1 + body_size call.now.body) call.now.fragments }
-    requires within { pc + 1 + call_size call.now < 2 ^ 64 }
-    requires filled { length call.now.names ≤ length open.old.stack }
+    requires records { IsRecordsAt at.now records.old }
+    requires known { Known W.reached W.stores at.now.served.now world.old }
+    requires seat { SeatFits (seat_at at.now) }
+    requires holds { SeatHolds (seat_at at.now) (length (W.variables world.old).frames) }
+    requires fits { BodyBegins (code_of (seat_at at.now)) (at.now.pc + 1) call.now.body × FragmentsBegin
+        (code_of (seat_at at.now)) (at.now.pc + 1 + body_size call.now.body) call.now.fragments }
+    requires within { at.now.pc + 1 + call_size call.now < 2 ^ 64 }
+    requires filled { length call.now.names ≤ length opened.old.stack }
     ensures covered { W.covered world.new }
-    ensures records { IsRecordsOf served.now.request.now (page_run_of (seat_of seat.now)).params records.new }
-    ensures stepped { Stepped W.reached W.replies (ServesSo W.stores served.now) (seat_of seat.now)
-        (λ serving s. called_out serving (seat_of seat.now) place.now (pc + 1) (call_out.Tag call.now) s
-        (open_of open.old)) world.old world.new (open_of open.new) result }
-    ensures left { open.new.left ≡ open.old.left }
+    ensures records { IsRecordsAt at.now records.new }
+    ensures stepped { Stepped W.reached W.replies (ServesSo W.stores at.now.served.now) (seat_at at.now)
+        (λ serving s. called_out serving (seat_at at.now) at.now.cell.now.place (at.now.pc + 1)
+        (call_out.Tag call.now) s (open_of opened.old)) world.old world.new (open_of opened.new) result }
+    ensures left { opened.new.left ≡ opened.old.left }
 {
     let count = call.names.len();
-    let Some(tag) = tag_at(seat.program(), &call.path) else {
-        open.stack.drop_top(count);
-        return Flow::Go(pc + 1 + size_of(call));
+    let Some(tag) = tag_at(at.seat.program(), &call.path) else {
+        opened.stack.drop_top(count);
+        return Flow::Go(at.pc + 1 + size_of(call));
     };
     let made = first_frame(
         alloc,
         &tag.decl,
         call.names.as_slice(),
-        open.stack.top(count),
+        opened.stack.top(count),
     );
-    open.stack.drop_top(count);
+    opened.stack.drop_top(count);
     match made {
-        Ok(entries) => enter_call(
-            alloc, served, seat, records, pc, place, call, tag, entries, open, world,
-        ),
-        Err(failed) => fail(alloc, failed, place, open, world),
+        Ok(entries) => {
+            let start = TagStart { call, tag, entries };
+            enter_call(alloc, at, records, start, opened, world)
+        }
+        Err(failed) => fail(alloc, failed, &at.cell.place, opened, world),
     }
 }
 
-// Runs a tag file's code one level deeper, in a frame of its own that begins with these variables.
+// A call, the tag file that it calls, and the variables with which that one's frame begins.
+#[derive(Drop)]
+struct TagStart<'a> {
+    call: &'a TagCall,
+    tag: &'a TagProgram,
+    entries: Attrs,
+}
+
+// Runs a tag file's code one level deeper, in a frame of its own.
 #[cycle(machine)]
 fn enter_call<W: World>(
     alloc: Global,
-    served: &Served,
-    seat: &Seat,
+    at: &At,
     records: &mut RequestRecords,
-    pc: usize,
-    place: &Place,
-    call: &TagCall,
-    tag: &TagProgram,
-    entries: Attrs,
-    open: &mut Open,
+    start: TagStart,
+    opened: &mut Open,
     world: &mut W,
 ) -> Flow
     requires covered { W.covered world.old }
-    requires records { IsRecordsOf served.now.request.now (page_run_of (seat_of seat.now)).params records.old }
-    requires known { Known W.reached W.stores served.now world.old }
-    requires seat { SeatFits (seat_of seat.now) }
-    requires holds { SeatHolds (seat_of seat.now) (length (W.variables world.old).frames) }
-    requires tag { CodeFits (tag_of tag.now).code }
-    requires fits { BodyBegins (code_of (seat_of seat.now)) (pc + 1) call.now.body × FragmentsBegin
-        (code_of (seat_of seat.now)) (pc + 1 + body_size call.now.body) call.now.fragments }
-    requires within { pc + 1 + call_size call.now < 2 ^ 64 }
+    requires records { IsRecordsAt at.now records.old }
+    requires known { Known W.reached W.stores at.now.served.now world.old }
+    requires seat { SeatFits (seat_at at.now) }
+    requires holds { SeatHolds (seat_at at.now) (length (W.variables world.old).frames) }
+    requires tag { CodeFits (tag_of start.tag.now).code }
+    requires fits { BodyBegins (code_of (seat_at at.now)) (at.now.pc + 1) start.call.now.body × FragmentsBegin
+        (code_of (seat_at at.now)) (at.now.pc + 1 + body_size start.call.now.body) start.call.now.fragments }
+    requires within { at.now.pc + 1 + call_size start.call.now < 2 ^ 64 }
     ensures covered { W.covered world.new }
-    ensures records { IsRecordsOf served.now.request.now (page_run_of (seat_of seat.now)).params records.new }
-    ensures stepped { Stepped W.reached W.replies (ServesSo W.stores served.now) (seat_of seat.now)
-        (λ serving s. call_entered place.now (made_call (tag_of tag.now) call.now (pc + 1) entries s) entries
-        (seat_of seat.now) (pc + 1 + call_size call.now) s (open_of open.old)) world.old world.new
-        (open_of open.new) result }
-    ensures left { open.new.left ≡ open.old.left }
+    ensures records { IsRecordsAt at.now records.new }
+    ensures stepped { Stepped W.reached W.replies (ServesSo W.stores at.now.served.now) (seat_at at.now)
+        (λ serving s. call_entered at.now.cell.now.place
+        (made_call (tag_of start.entry.tag.now) start.entry.call.now (at.now.pc + 1) start.entry.entries s)
+        start.entry.entries (seat_at at.now) (at.now.pc + 1 + call_size start.entry.call.now) s (open_of opened.old))
+        world.old world.new (open_of opened.new) result }
+    ensures left { opened.new.left ≡ opened.old.left }
 {
-    let Some(left) = open.left.checked_sub(1) else {
-        return throw(alloc, RunFault::TooDeep, place, open, world);
+    let TagStart { call, tag, entries } = start;
+    let Some(left) = opened.left.checked_sub(1) else {
+        return throw(alloc, RunFault::TooDeep, &at.cell.place, opened, world);
     };
     let frame = world.frame();
     let frames = world.scopes().frames();
@@ -157,28 +160,26 @@ fn enter_call<W: World>(
         exports,
         body: &call.body,
         fragments: call.fragments.as_slice(),
-        behind: pc + 1,
+        behind: at.pc + 1,
         frame,
     };
-    match run_code(
-        alloc,
-        served,
-        &Seat::InTag(&inner, &*seat),
-        records,
-        0,
+    let seat = Seat::InTag(&inner, &*at.seat);
+    let start = CodeStart {
+        seat: &seat,
+        pc: 0,
         left,
-        world,
-    ) {
+    };
+    match run_code(alloc, &*at.served, start, records, world) {
         End::Normal => match give_back(alloc, exports, before.as_slice(), frame, world) {
             Ok(()) => {
                 world.go_back(frames, frame);
-                Flow::Go(pc + 1 + size_of(call))
+                Flow::Go(at.pc + 1 + size_of(call))
             }
-            Err(failed) => fail(alloc, failed, place, open, world),
+            Err(failed) => fail(alloc, failed, &at.cell.place, opened, world),
         },
         End::Raised { fault, place } => {
             world.go_back(frames, frame);
-            throw(alloc, fault, &place, open, world)
+            throw(alloc, fault, &place, opened, world)
         }
         end => Flow::Over(end),
     }
@@ -202,52 +203,54 @@ fn given<'a>(name: Option<&Text>, call: &'a CallSeat) -> Given<'a>
 #[cycle(machine)]
 pub(crate) fn given_call<W: World>(
     alloc: Global,
-    served: &Served,
-    seat: &Seat,
+    at: &At,
     records: &mut RequestRecords,
-    pc: usize,
-    place: &Place,
     name: Option<&Text>,
-    open: &mut Open,
+    opened: &mut Open,
     world: &mut W,
 ) -> Flow
     requires covered { W.covered world.old }
-    requires records { IsRecordsOf served.now.request.now (page_run_of (seat_of seat.now)).params records.old }
-    requires known { Known W.reached W.stores served.now world.old }
-    requires seat { SeatFits (seat_of seat.now) }
-    requires holds { SeatHolds (seat_of seat.now) (length (W.variables world.old).frames) }
-    requires within { pc + 1 < 2 ^ 64 }
+    requires records { IsRecordsAt at.now records.old }
+    requires known { Known W.reached W.stores at.now.served.now world.old }
+    requires seat { SeatFits (seat_at at.now) }
+    requires holds { SeatHolds (seat_at at.now) (length (W.variables world.old).frames) }
+    requires within { at.now.pc + 1 < 2 ^ 64 }
     ensures covered { W.covered world.new }
-    ensures records { IsRecordsOf served.now.request.now (page_run_of (seat_of seat.now)).params records.new }
-    ensures stepped { Stepped W.reached W.replies (ServesSo W.stores served.now) (seat_of seat.now)
-        (λ serving s. given_called place.now (given_by (option_map (λ name. name.now) name.entry)
-        (seat_of seat.now)) (seat_of seat.now) (pc + 1) s (open_of open.old)) world.old world.new
-        (open_of open.new) result }
-    ensures left { open.new.left ≡ open.old.left }
+    ensures records { IsRecordsAt at.now records.new }
+    ensures stepped { Stepped W.reached W.replies (ServesSo W.stores at.now.served.now) (seat_at at.now)
+        (λ serving s. given_called at.now.cell.now.place (given_by (option_map (λ name. name.now) name.entry)
+        (seat_at at.now)) (seat_at at.now) (at.now.pc + 1) s (open_of opened.old)) world.old world.new
+        (open_of opened.new) result }
+    ensures left { opened.new.left ≡ opened.old.left }
 {
-    match seat {
-        Seat::InPage(_, _) => Flow::Go(pc + 1),
+    match at.seat {
+        Seat::InPage(_, _) => Flow::Go(at.pc + 1),
         Seat::InTag(call, caller) => match given(name, call) {
-            Given::Nothing => Flow::Go(pc + 1),
-            Given::Source(text) => write_source(alloc, pc, place, call, text, open, world),
-            Given::Code(at) => {
-                let Some(left) = open.left.checked_sub(1) else {
-                    return throw(alloc, RunFault::TooDeep, place, open, world);
+            Given::Nothing => Flow::Go(at.pc + 1),
+            Given::Source(text) => write_source(alloc, at, call, text, opened, world),
+            Given::Code(pc) => {
+                let Some(left) = opened.left.checked_sub(1) else {
+                    return throw(alloc, RunFault::TooDeep, &at.cell.place, opened, world);
                 };
                 if let Err(failed) = copy_out(alloc, call.exports, call.frame, world) {
-                    return fail(alloc, failed, place, open, world);
+                    return fail(alloc, failed, &at.cell.place, opened, world);
                 }
                 let frame = world.frame();
                 let frames = world.scopes().frames();
                 world.turn_to(call.frame);
-                match run_code(alloc, served, &*caller, records, at, left, world) {
+                let start = CodeStart {
+                    seat: &*caller,
+                    pc,
+                    left,
+                };
+                match run_code(alloc, &*at.served, start, records, world) {
                     End::Normal => {
                         world.go_back(frames, frame);
-                        Flow::Go(pc + 1)
+                        Flow::Go(at.pc + 1)
                     }
                     End::Raised { fault, place } => {
                         world.go_back(frames, frame);
-                        throw(alloc, fault, &place, open, world)
+                        throw(alloc, fault, &place, opened, world)
                     }
                     end => Flow::Over(end),
                 }
@@ -259,31 +262,30 @@ pub(crate) fn given_call<W: World>(
 // Writes the source text that a call gives.
 fn write_source<W: World>(
     alloc: Global,
-    pc: usize,
-    place: &Place,
+    at: &At,
     call: &CallSeat,
     text: &Text,
-    open: &mut Open,
+    opened: &mut Open,
     world: &mut W,
 ) -> Flow
     requires covered { W.covered world.old }
-    requires within { pc + 1 < 2 ^ 64 }
+    requires within { at.now.pc + 1 < 2 ^ 64 }
     requires there { call.now.frame < length (W.variables world.old).frames }
     ensures covered { W.covered world.new }
     ensures acted { (name : Option (List ℕ)) (seat caller : Seat') →
         seat ≡ in_tag (call_of call.now) caller → given_by name seat ≡ source_text text.now
-        → Acted W.reached W.replies (λ s. given_called place.now (given_by name seat) seat (pc + 1) s
-        (open_of open.old)) world.old world.new (open_of open.new) result }
-    ensures left { open.new.left ≡ open.old.left }
+        → Acted W.reached W.replies (λ s. given_called at.now.cell.now.place (given_by name seat) seat
+        (at.now.pc + 1) s (open_of opened.old)) world.old world.new (open_of opened.new) result }
+    ensures left { opened.new.left ≡ opened.old.left }
 {
-    let Some(_left) = open.left.checked_sub(1) else {
-        return throw(alloc, RunFault::TooDeep, place, open, world);
+    let Some(_left) = opened.left.checked_sub(1) else {
+        return throw(alloc, RunFault::TooDeep, &at.cell.place, opened, world);
     };
     if let Err(failed) = copy_out(alloc, call.exports, call.frame, world) {
-        return fail(alloc, failed, place, open, world);
+        return fail(alloc, failed, &at.cell.place, opened, world);
     }
     match world.put(text.as_str()) {
-        Ok(()) => Flow::Go(pc + 1),
-        Err(failed) => fail(alloc, failed, place, open, world),
+        Ok(()) => Flow::Go(at.pc + 1),
+        Err(failed) => fail(alloc, failed, &at.cell.place, opened, world),
     }
 }

@@ -14,10 +14,11 @@ ghost use Rattle.page_table.specs.Move.{On};
 ghost use Rattle.page_table.specs.Operations.{text_at};
 ghost use Rattle.page_table.specs.Pages.{page_begun};
 ghost use Rattle.page_table.specs.Runs.{PageRuns};
-ghost use Rattle.page_table.specs.Seat.{Seat as Seat', page_run_of};
+ghost use Rattle.page_table.specs.Seat.{page_run_of};
 ghost use Rattle.pg_text.specs.declared.failure.Failure.TheVariants as failure;
 ghost use Rattle.pg_value.specs.Value.{datum_of};
 ghost use Rattle.run_moves.specs.Acted.{Acted};
+ghost use Rattle.run_moves.specs.At.{seat_at};
 ghost use Rattle.run_moves.specs.Opened.{open_of};
 ghost use Rattle.run_moves.specs.declared.flow.End.TheVariants as end;
 ghost use Rattle.run_moves.specs.declared.flow.Flow.TheVariants as flow;
@@ -26,16 +27,24 @@ ghost use Rattle.run_world.specs.Part.{Changes, Doing};
 ghost use Rattle.run_world.specs.Programs.{program_of};
 ghost use Rattle.run_world.specs.Seats.{seat_of};
 
-use crate::turn::run_code;
+use crate::turn::{CodeStart, run_code};
 use http_in::Param;
-use pg_text::{Failure, Listed, Path, Place, Text};
+use pg_text::{Failure, Listed, Path, Text};
 use pg_value::{RunFault, Value};
-use run_moves::{End, Flow, Open, fail, named_path, throw};
+use run_moves::{At, End, Flow, Open, fail, named_path, throw};
 use run_parts::{RequestRecords, target_params};
 use run_values::text_of;
 use run_world::{Program, Seat, Served, World, know_tags};
 use site_words::Paged;
 use std::alloc::{AllocError, Global};
+
+/// A page that begins to run, with its parameters and so many levels left below it.
+#[derive(Drop)]
+pub(crate) struct PageStart<'a> {
+    pub program: &'a Program,
+    pub params: &'a [Param],
+    pub left: u32,
+}
 
 // What an include or an import names: its path and its parameters. X11 where it names no path.
 #[derive(Drop)]
@@ -81,132 +90,120 @@ fn flush_if<W: World>(flush: bool, world: &mut W) -> Result<(), AllocError>
 #[cycle(machine)]
 pub(crate) fn include_call<W: World>(
     alloc: Global,
-    served: &Served,
-    seat: &Seat,
-    pc: usize,
-    place: &Place,
+    at: &At,
     flush: bool,
     params: usize,
-    open: &mut Open,
+    opened: &mut Open,
     world: &mut W,
 ) -> Flow
     requires covered { W.covered world.old }
-    requires known { Known W.reached W.stores served.now world.old }
-    requires within { pc + 1 < 2 ^ 64 }
-    requires filled { address_with params ≤ length open.old.stack }
+    requires known { Known W.reached W.stores at.now.served.now world.old }
+    requires within { at.now.pc + 1 < 2 ^ 64 }
+    requires filled { address_with params ≤ length opened.old.stack }
     ensures covered { W.covered world.new }
-    ensures stepped { Stepped W.reached W.replies (ServesSo W.stores served.now) (seat_of seat.now)
-        (λ serving s. called_out serving (seat_of seat.now) place.now (pc + 1) (call.Include flush params) s
-        (open_of open.old)) world.old world.new (open_of open.new) result }
-    ensures left { open.new.left ≡ open.old.left }
+    ensures stepped { Stepped W.reached W.replies (ServesSo W.stores at.now.served.now) (seat_at at.now)
+        (λ serving s. called_out serving (seat_at at.now) at.now.cell.now.place (at.now.pc + 1)
+        (call.Include flush params) s (open_of opened.old)) world.old world.new (open_of opened.new) result }
+    ensures left { opened.new.left ≡ opened.old.left }
 {
     let Ok(()) = flush_if(flush, world) else {
         return Flow::Over(End::NoMemory);
     };
-    let _ = open.stack.len();
+    let _ = opened.stack.len();
     let count = 2 * params + 1;
-    let found = find_target(alloc, seat, open.stack.top(count));
-    open.stack.drop_top(count);
-    include(alloc, served, pc, place, found, open, world)
+    let found = find_target(alloc, at.seat, opened.stack.top(count));
+    opened.stack.drop_top(count);
+    include(alloc, at, found, opened, world)
 }
 
 /// Includes what a url names: X15 where it has `://`.
 #[cycle(machine)]
 pub(crate) fn import_call<W: World>(
     alloc: Global,
-    served: &Served,
-    seat: &Seat,
-    pc: usize,
-    place: &Place,
-    open: &mut Open,
+    at: &At,
+    opened: &mut Open,
     world: &mut W,
 ) -> Flow
     requires covered { W.covered world.old }
-    requires known { Known W.reached W.stores served.now world.old }
-    requires within { pc + 1 < 2 ^ 64 }
-    requires filled { 1 ≤ length open.old.stack }
+    requires known { Known W.reached W.stores at.now.served.now world.old }
+    requires within { at.now.pc + 1 < 2 ^ 64 }
+    requires filled { 1 ≤ length opened.old.stack }
     ensures covered { W.covered world.new }
-    ensures stepped { Stepped W.reached W.replies (ServesSo W.stores served.now) (seat_of seat.now)
-        (λ serving s. called_out serving (seat_of seat.now) place.now (pc + 1) call.Import s
-        (open_of open.old)) world.old world.new (open_of open.new) result }
-    ensures left { open.new.left ≡ open.old.left }
+    ensures stepped { Stepped W.reached W.replies (ServesSo W.stores at.now.served.now) (seat_at at.now)
+        (λ serving s. called_out serving (seat_at at.now) at.now.cell.now.place (at.now.pc + 1) call.Import s
+        (open_of opened.old)) world.old world.new (open_of opened.new) result }
+    ensures left { opened.new.left ≡ opened.old.left }
 {
-    let found = import_target(alloc, seat, open.stack.top(1));
-    open.stack.drop_top(1);
-    include(alloc, served, pc, place, found, open, world)
+    let found = import_target(alloc, at.seat, opened.stack.top(1));
+    opened.stack.drop_top(1);
+    include(alloc, at, found, opened, world)
 }
 
 // Includes a target, one level deeper: X17, then what stands at its path.
 #[cycle(machine)]
 fn include<W: World>(
     alloc: Global,
-    served: &Served,
-    pc: usize,
-    place: &Place,
+    at: &At,
     found: Result<Target, Failure<RunFault>>,
-    open: &mut Open,
+    opened: &mut Open,
     world: &mut W,
 ) -> Flow
     requires covered { W.covered world.old }
-    requires known { Known W.reached W.stores served.now world.old }
-    requires within { pc + 1 < 2 ^ 64 }
+    requires known { Known W.reached W.stores at.now.served.now world.old }
+    requires within { at.now.pc + 1 < 2 ^ 64 }
     ensures covered { W.covered world.new }
-    ensures stepped { (seat : Seat') → Stepped W.reached W.replies (ServesSo W.stores served.now) seat
-        (λ serving s. include_found serving place.now found (pc + 1) s (open_of open.old)) world.old world.new
-        (open_of open.new) result }
+    ensures stepped { Stepped W.reached W.replies (ServesSo W.stores at.now.served.now) (seat_at at.now)
+        (λ serving s. include_found serving at.now.cell.now.place found (at.now.pc + 1) s (open_of opened.old))
+        world.old world.new (open_of opened.new) result }
     ensures short { found ≡ Err failure.NoMemory → (result ≡ flow.Over end.NoMemory) × (world.new
         ≡ world.old) }
-    ensures left { open.new.left ≡ open.old.left }
+    ensures left { opened.new.left ≡ opened.old.left }
 {
     let target = match found {
         Ok(target) => target,
-        Err(failed) => return fail(alloc, failed, place, open, world),
+        Err(failed) => return fail(alloc, failed, &at.cell.place, opened, world),
     };
-    let Some(left) = open.left.checked_sub(1) else {
-        return throw(alloc, RunFault::TooDeep, place, open, world);
+    let Some(left) = opened.left.checked_sub(1) else {
+        return throw(alloc, RunFault::TooDeep, &at.cell.place, opened, world);
     };
     let paged = match world.page(&target.path) {
         Ok(paged) => paged,
-        Err(failed) => return fail(alloc, failed, place, open, world),
+        Err(failed) => return fail(alloc, failed, &at.cell.place, opened, world),
     };
     match paged {
-        Paged::Page(program) => included_page(
-            alloc,
-            served,
-            pc,
-            place,
-            &program,
-            target.params.as_slice(),
-            left,
-            open,
-            world,
-        ),
-        Paged::Plain(text) => include_text(alloc, pc, place, &text, open, world),
-        Paged::Absent => Flow::Go(pc + 1),
-        Paged::Bad(_) => Flow::Go(pc + 1),
+        Paged::Page(program) => {
+            let start = PageStart {
+                program: &program,
+                params: target.params.as_slice(),
+                left,
+            };
+            included_page(alloc, at, start, opened, world)
+        }
+        Paged::Plain(text) => include_text(alloc, at, &text, opened, world),
+        Paged::Absent => Flow::Go(at.pc + 1),
+        Paged::Bad(_) => Flow::Go(at.pc + 1),
     }
 }
 
 // Includes a file that is no page.
 fn include_text<W: World>(
     alloc: Global,
-    pc: usize,
-    place: &Place,
+    at: &At,
     text: &Text,
-    open: &mut Open,
+    opened: &mut Open,
     world: &mut W,
 ) -> Flow
     requires covered { W.covered world.old }
-    requires within { pc + 1 < 2 ^ 64 }
+    requires within { at.now.pc + 1 < 2 ^ 64 }
     ensures covered { W.covered world.new }
     ensures acted { Acted W.reached W.replies
-        (λ s. On (land (pc + 1) (λ u. (open_of open.old).stack) (open_of open.old)
-        (put_text place.now text.now s))) world.old world.new (open_of open.new) result }
-    ensures left { open.new.left ≡ open.old.left }
+        (λ s. On (land (at.now.pc + 1) (λ u. (open_of opened.old).stack) (open_of opened.old)
+        (put_text at.now.cell.now.place text.now s))) world.old world.new (open_of opened.new) result }
+    ensures left { opened.new.left ≡ opened.old.left }
 {
     match world.put(text.as_str()) {
-        Ok(()) => Flow::Go(pc + 1),
-        Err(failed) => fail(alloc, failed, place, open, world),
+        Ok(()) => Flow::Go(at.pc + 1),
+        Err(failed) => fail(alloc, failed, &at.cell.place, opened, world),
     }
 }
 
@@ -215,23 +212,20 @@ fn include_text<W: World>(
 #[cycle(machine)]
 fn included_page<W: World>(
     alloc: Global,
-    served: &Served,
-    pc: usize,
-    place: &Place,
-    program: &Program,
-    params: &[Param],
-    left: u32,
-    open: &mut Open,
+    at: &At,
+    start: PageStart,
+    opened: &mut Open,
     world: &mut W,
 ) -> Flow
     requires covered { W.covered world.old }
-    requires known { Known W.reached W.stores served.now world.old }
-    requires within { pc + 1 < 2 ^ 64 }
+    requires known { Known W.reached W.stores at.now.served.now world.old }
+    requires within { at.now.pc + 1 < 2 ^ 64 }
     ensures covered { W.covered world.new }
-    ensures stepped { (seat : Seat') → Stepped W.reached W.replies (ServesSo W.stores served.now) seat
-        (λ serving s. included_run place.now (program_of program.now) params.now left (pc + 1) s
-        (open_of open.old)) world.old world.new (open_of open.new) result }
-    ensures left { open.new.left ≡ open.old.left }
+    ensures stepped { Stepped W.reached W.replies (ServesSo W.stores at.now.served.now) (seat_at at.now)
+        (λ serving s. included_run at.now.cell.now.place (program_of start.entry.program.now)
+        start.entry.params.now start.entry.left (at.now.pc + 1) s (open_of opened.old)) world.old world.new
+        (open_of opened.new) result }
+    ensures left { opened.new.left ≡ opened.old.left }
 {
     let bodies = world.bodies();
     let frame = world.frame();
@@ -239,19 +233,19 @@ fn included_page<W: World>(
     let Ok(()) = world.push_frame() else {
         return Flow::Over(End::NoMemory);
     };
-    match page_run(alloc, served, program, params, left, world) {
+    match page_run(alloc, at.served, start, world) {
         End::Normal => {
             world.go_back(frames, frame);
-            Flow::Go(pc + 1)
+            Flow::Go(at.pc + 1)
         }
         End::Raised { fault, .. } => {
             world.go_back(frames, frame);
-            throw(alloc, fault, place, open, world)
+            throw(alloc, fault, &at.cell.place, opened, world)
         }
         End::Redirect(_) => {
             world.drop_bodies(bodies);
             world.go_back(frames, frame);
-            Flow::Go(pc + 1)
+            Flow::Go(at.pc + 1)
         }
         end => Flow::Over(end),
     }
@@ -284,30 +278,32 @@ fn begin_page<W: World>(program: &Program, world: &mut W) -> Result<(), Failure<
 pub(crate) fn page_run<W: World>(
     alloc: Global,
     served: &Served,
-    program: &Program,
-    params: &[Param],
-    left: u32,
+    start: PageStart,
     world: &mut W,
 ) -> End
     requires covered { W.covered world.old }
     requires known { Known W.reached W.stores served.now world.old }
     ensures covered { W.covered world.new }
     ensures ran { Ran W.reached W.replies (ServesSo W.stores served.now) (λ serving s d.
-        PageRuns serving (program_of program.now) params.now left s d) world.old world.new result }
+        PageRuns serving (program_of start.entry.program.now) start.entry.params.now start.entry.left s d)
+        world.old world.new result }
 {
+    let PageStart {
+        program,
+        params,
+        left,
+    } = start;
     know_tags(program.tags.as_slice());
     let _ = program.code.code();
     let Ok(()) = begin_page(program, world) else {
         return End::NoMemory;
     };
     let mut records = RequestRecords::none();
-    run_code(
-        alloc,
-        served,
-        &Seat::InPage(program, params),
-        &mut records,
-        0,
+    let seat = Seat::InPage(program, params);
+    let start = CodeStart {
+        seat: &seat,
+        pc: 0,
         left,
-        world,
-    )
+    };
+    run_code(alloc, &*served, start, &mut records, world)
 }

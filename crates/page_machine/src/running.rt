@@ -11,7 +11,7 @@ ghost use Rattle.run_stage.specs.Standing.{HasCharged, KeepsResponse, KeepsSessi
 ghost use Rattle.run_world.specs.Origin.{Origin};
 ghost use Rattle.run_world.specs.Programs.{program_of};
 
-use crate::pages::page_run;
+use crate::pages::{PageStart, page_run};
 use edges::Sink;
 use http_in::{Param, Request};
 use out_buffer::Writer;
@@ -79,9 +79,12 @@ pub fn run<P: AppPort<Program>, K: Sink>(
         around,
         port,
     };
-    let end = run_seen(
-        alloc, program, request, &exception, params, left, &mut stage,
-    );
+    let start = PageStart {
+        program,
+        params,
+        left,
+    };
+    let end = run_seen(alloc, start, request, &exception, &mut stage);
     stage.around.exception = exception;
     end_run(end, stage.around)
 }
@@ -89,25 +92,24 @@ pub fn run<P: AppPort<Program>, K: Sink>(
 // Runs a page that sees this fault, where it is an error page.
 fn run_seen<'a, W: World>(
     alloc: Global,
-    program: &Program,
+    start: PageStart,
     request: &'a Request,
     exception: &'a Option<Raise>,
-    params: &[Param],
-    left: u32,
     world: &mut W,
 ) -> End
     requires covered { W.covered world.old }
     requires known { KnownSo W.reached W.stores request.now exception.now world.old }
     ensures covered { W.covered world.new }
     ensures ran { Ran W.reached W.replies (SeesSo W.stores request.now exception.now) (λ serving s d.
-        PageRuns serving (program_of program.now) params.now left s d) world.old world.new result }
+        PageRuns serving (program_of start.entry.program.now) start.entry.params.now start.entry.left s d)
+        world.old world.new result }
 {
     let seen = exception.as_ref();
     let served = Served {
         request,
         exception: seen,
     };
-    page_run(alloc, &served, program, params, left, world)
+    page_run(alloc, &served, start, world)
 }
 
 // The end of a run as its caller sees it, and the depth of a forward's target.

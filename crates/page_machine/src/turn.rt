@@ -8,6 +8,7 @@ ghost use Rattle.page_table.specs.Act.{called_out, move_of};
 ghost use Rattle.page_table.specs.Checked.{SeatFits};
 ghost use Rattle.page_table.specs.Finds.{CallFinds};
 ghost use Rattle.page_table.specs.Seat.{code_of, page_run_of};
+ghost use Rattle.run_moves.specs.At.{IsRecordsAt, seat_at};
 ghost use Rattle.run_moves.specs.Opened.{open_of};
 ghost use Rattle.run_moves.specs.Quick.{is_quick};
 ghost use Rattle.run_parts.specs.Records.{IsRecordsOf};
@@ -17,41 +18,54 @@ ghost use Rattle.run_world.specs.Seats.{seat_of};
 use crate::calls::{given_call, tag_call};
 use crate::pages::{import_call, include_call};
 use page_code::{CallOut, Cell, Code, Instr, Op};
-use pg_text::Place;
-use run_moves::{End, Flow, Open, fail, is_quick, quick, step};
+use run_moves::{At, End, Flow, Open, fail, is_quick, quick, step};
 use run_parts::RequestRecords;
 use run_world::{Seat, Served, World};
 use std::alloc::Global;
 
+/// Where the run of a code begins: its seat, a place in it, and so many levels left below it.
+#[derive(Drop)]
+pub(crate) struct CodeStart<'a> {
+    pub seat: &'a Seat<'a>,
+    pub pc: usize,
+    pub left: u32,
+}
+
 /// Runs a checked code from a place in it to its end.
 #[cycle(machine)]
-pub(crate) fn run_code<W: World>(
+pub(crate) fn run_code<'a, W: World>(
     alloc: Global,
-    served: &Served,
-    seat: &Seat,
+    served: &'a Served<'a>,
+    start: CodeStart<'a>,
     records: &mut RequestRecords,
-    at: usize,
-    left: u32,
     world: &mut W,
 ) -> End
     requires covered { W.covered world.old }
-    requires records { IsRecordsOf served.now.request.now (page_run_of (seat_of seat.now)).params records.old }
+    requires records { IsRecordsOf served.now.request.now (page_run_of (seat_of start.seat.now)).params records.old }
     requires known { Known W.reached W.stores served.now world.old }
-    requires seat { SeatFits (seat_of seat.now) }
-    requires holds { SeatHolds (seat_of seat.now) (length (W.variables world.old).frames) }
-    requires at { Carries (code_of (seat_of seat.now)) at empty_shape }
+    requires seat { SeatFits (seat_of start.seat.now) }
+    requires holds { SeatHolds (seat_of start.seat.now) (length (W.variables world.old).frames) }
+    requires at { Carries (code_of (seat_of start.seat.now)) start.pc empty_shape }
     ensures covered { W.covered world.new }
-    ensures records { IsRecordsOf served.now.request.now (page_run_of (seat_of seat.now)).params records.new }
-    ensures ran { Ran W.reached W.replies (ServesSo W.stores served.now) (CodeRuns (seat_of seat.now) at left)
-        world.old world.new result }
+    ensures records { IsRecordsOf served.now.request.now (page_run_of (seat_of start.entry.seat.now)).params
+        records.new }
+    ensures ran { Ran W.reached W.replies (ServesSo W.stores served.now)
+        (CodeRuns (seat_of start.entry.seat.now) start.entry.pc start.entry.left) world.old world.new result }
 {
+    let seat = start.seat;
     let code = seat.code();
-    let mut open = Open::fresh(alloc, left);
-    let mut pc = at;
+    let mut opened = Open::fresh(alloc, start.left);
+    let mut pc = start.pc;
     loop {
         let cell = cell_of(code, pc);
         let Some(op) = frequent_of(cell) else {
-            match turn(alloc, served, seat, records, pc, cell, &mut open, world) {
+            let at = At {
+                served,
+                seat,
+                pc,
+                cell,
+            };
+            match turn(alloc, &at, records, &mut opened, world) {
                 Flow::Go(to) => {
                     pc = to;
                     continue;
@@ -59,9 +73,9 @@ pub(crate) fn run_code<W: World>(
                 Flow::Over(end) => return end,
             }
         };
-        match quick(alloc, seat, op, &mut open, world) {
+        match quick(alloc, seat, op, &mut opened, world) {
             Ok(()) => pc += 1,
-            Err(failed) => match fail(alloc, failed, &cell.place, &mut open, world) {
+            Err(failed) => match fail(alloc, failed, &cell.place, &mut opened, world) {
                 Flow::Go(to) => pc = to,
                 Flow::Over(end) => return end,
             },
@@ -97,57 +111,34 @@ fn frequent_of(cell: &Cell) -> Option<&Op>
     }
 }
 
-// One instruction, with the run that it calls.
+// The instruction that a run is at, with the run that it calls.
 #[cycle(machine)]
 #[inline(never)]
 fn turn<W: World>(
     alloc: Global,
-    served: &Served,
-    seat: &Seat,
+    at: &At,
     records: &mut RequestRecords,
-    pc: usize,
-    cell: &Cell,
-    open: &mut Open,
+    opened: &mut Open,
     world: &mut W,
 ) -> Flow
     requires covered { W.covered world.old }
-    requires records { IsRecordsOf served.now.request.now (page_run_of (seat_of seat.now)).params records.old }
-    requires known { Known W.reached W.stores served.now world.old }
-    requires seat { SeatFits (seat_of seat.now) }
-    requires holds { SeatHolds (seat_of seat.now) (length (W.variables world.old).frames) }
-    requires cell { slice_get (code_of (seat_of seat.now)) pc ≡ Some cell.now }
-    requires within { length (code_of (seat_of seat.now)) < 2 ^ 64 }
-    requires standing { Standing (seat_of seat.now) pc (W.kept world.old) (open_of open.old) }
+    requires records { IsRecordsAt at.now records.old }
+    requires known { Known W.reached W.stores at.now.served.now world.old }
+    requires seat { SeatFits (seat_at at.now) }
+    requires holds { SeatHolds (seat_at at.now) (length (W.variables world.old).frames) }
+    requires cell { slice_get (code_of (seat_at at.now)) at.now.pc ≡ Some at.now.cell.now }
+    requires within { length (code_of (seat_at at.now)) < 2 ^ 64 }
+    requires standing { Standing (seat_at at.now) at.now.pc (W.kept world.old) (open_of opened.old) }
     ensures covered { W.covered world.new }
-    ensures records { IsRecordsOf served.now.request.now (page_run_of (seat_of seat.now)).params records.new }
-    ensures stepped { Stepped W.reached W.replies (ServesSo W.stores served.now) (seat_of seat.now)
-        (λ serving s. move_of serving (seat_of seat.now) pc s (open_of open.old)) world.old world.new
-        (open_of open.new) result }
-    ensures left { open.new.left ≡ open.old.left }
+    ensures records { IsRecordsAt at.now records.new }
+    ensures stepped { Stepped W.reached W.replies (ServesSo W.stores at.now.served.now) (seat_at at.now)
+        (λ serving s. move_of serving (seat_at at.now) at.now.pc s (open_of opened.old)) world.old world.new
+        (open_of opened.new) result }
+    ensures left { opened.new.left ≡ opened.old.left }
 {
-    match &cell.instr {
-        Instr::CallOut(what) => call_out(
-            alloc,
-            served,
-            seat,
-            records,
-            pc,
-            &cell.place,
-            what,
-            open,
-            world,
-        ),
-        instr => step(
-            alloc,
-            served,
-            seat,
-            records,
-            pc,
-            &cell.place,
-            instr,
-            open,
-            world,
-        ),
+    match &at.cell.instr {
+        Instr::CallOut(what) => call_out(alloc, at, records, what, opened, world),
+        _ => step(alloc, at, records, opened, world),
     }
 }
 
@@ -156,49 +147,34 @@ fn turn<W: World>(
 #[inline(never)]
 fn call_out<W: World>(
     alloc: Global,
-    served: &Served,
-    seat: &Seat,
+    at: &At,
     records: &mut RequestRecords,
-    pc: usize,
-    place: &Place,
     what: &CallOut,
-    open: &mut Open,
+    opened: &mut Open,
     world: &mut W,
 ) -> Flow
     requires covered { W.covered world.old }
-    requires records { IsRecordsOf served.now.request.now (page_run_of (seat_of seat.now)).params records.old }
-    requires known { Known W.reached W.stores served.now world.old }
-    requires seat { SeatFits (seat_of seat.now) }
-    requires holds { SeatHolds (seat_of seat.now) (length (W.variables world.old).frames) }
-    requires within { length (code_of (seat_of seat.now)) < 2 ^ 64 }
-    requires begins { CallBegins (code_of (seat_of seat.now)) (pc + 1) what.now }
-    requires finds { CallFinds (length (code_of (seat_of seat.now))) (pc + 1) (open_of open.old) what.now }
+    requires records { IsRecordsAt at.now records.old }
+    requires known { Known W.reached W.stores at.now.served.now world.old }
+    requires seat { SeatFits (seat_at at.now) }
+    requires holds { SeatHolds (seat_at at.now) (length (W.variables world.old).frames) }
+    requires within { length (code_of (seat_at at.now)) < 2 ^ 64 }
+    requires begins { CallBegins (code_of (seat_at at.now)) (at.now.pc + 1) what.now }
+    requires finds { CallFinds (length (code_of (seat_at at.now))) (at.now.pc + 1) (open_of opened.old) what.now }
     ensures covered { W.covered world.new }
-    ensures records { IsRecordsOf served.now.request.now (page_run_of (seat_of seat.now)).params records.new }
-    ensures stepped { Stepped W.reached W.replies (ServesSo W.stores served.now) (seat_of seat.now)
-        (λ serving s. called_out serving (seat_of seat.now) place.now (pc + 1) what.now s (open_of open.old))
-        world.old world.new (open_of open.new) result }
-    ensures left { open.new.left ≡ open.old.left }
+    ensures records { IsRecordsAt at.now records.new }
+    ensures stepped { Stepped W.reached W.replies (ServesSo W.stores at.now.served.now) (seat_at at.now)
+        (λ serving s. called_out serving (seat_at at.now) at.now.cell.now.place (at.now.pc + 1) what.now s
+        (open_of opened.old)) world.old world.new (open_of opened.new) result }
+    ensures left { opened.new.left ≡ opened.old.left }
 {
     match what {
-        CallOut::Tag(call) => tag_call(alloc, served, seat, records, pc, place, call, open, world),
-        CallOut::Body => given_call(alloc, served, seat, records, pc, place, None, open, world),
-        CallOut::Fragment(name) => {
-            given_call(
-                alloc,
-                served,
-                seat,
-                records,
-                pc,
-                place,
-                Some(name),
-                open,
-                world,
-            )
-        }
+        CallOut::Tag(call) => tag_call(alloc, &*at, records, call, opened, world),
+        CallOut::Body => given_call(alloc, at, records, None, opened, world),
+        CallOut::Fragment(name) => given_call(alloc, at, records, Some(name), opened, world),
         CallOut::Include { flush, params } => {
-            include_call(alloc, served, seat, pc, place, *flush, *params, open, world)
+            include_call(alloc, at, *flush, *params, opened, world)
         }
-        CallOut::Import => import_call(alloc, served, seat, pc, place, open, world),
+        CallOut::Import => import_call(alloc, at, opened, world),
     }
 }

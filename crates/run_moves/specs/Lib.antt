@@ -1,4 +1,5 @@
 pub mod Acted
+pub mod At
 pub mod Landing
 pub mod Leaving
 pub mod LoopCode

@@ -16,11 +16,12 @@ ghost use Rattle.scopes.specs.HeldScope.{held_scope};
 ghost use Rattle.site_words.specs.Law.{told};
 ghost use Rattle.site_words.specs.PageSteps.{tells_created};
 
+use crate::at::At;
 use crate::flow::{End, Flow};
 use crate::landing::fail;
 use crate::open::{Open, OpenCatch, Stack};
 use page_code::{Bean, ScopedName};
-use pg_text::{Failure, Place};
+use pg_text::Failure;
 use pg_value::{RunFault, Value};
 use run_world::World;
 use scopes::HeldScope;
@@ -29,28 +30,28 @@ use std::alloc::Global;
 
 // Brings the value that has so many above it to the top.
 #[inline(always)]
-pub(crate) fn take<W: World>(pc: usize, above: usize, open: &mut Open, world: &mut W) -> Flow
+pub(crate) fn take<W: World>(pc: usize, above: usize, opened: &mut Open, world: &mut W) -> Flow
     requires covered { W.covered world.old }
     requires within { pc + 1 < 2 ^ 64 }
-    requires there { above < length open.old.stack }
+    requires there { above < length opened.old.stack }
     ensures covered { W.covered world.new }
-    ensures acted { Acted W.reached W.replies (λ s. brought_up (slice_get (open_of open.old).stack above) above
-        (pc + 1) s (open_of open.old)) world.old world.new (open_of open.new) result }
-    ensures left { open.new.left ≡ open.old.left }
+    ensures acted { Acted W.reached W.replies (λ s. brought_up (slice_get (open_of opened.old).stack above) above
+        (pc + 1) s (open_of opened.old)) world.old world.new (open_of opened.new) result }
+    ensures left { opened.new.left ≡ opened.old.left }
 {
-    open.stack.bring_up(above);
+    opened.stack.bring_up(above);
     Flow::Go(pc + 1)
 }
 
 // Keeps what is written from here on.
-pub(crate) fn start_body<W: World>(pc: usize, open: &mut Open, world: &mut W) -> Flow
+pub(crate) fn start_body<W: World>(pc: usize, opened: &mut Open, world: &mut W) -> Flow
     requires covered { W.covered world.old }
     requires within { pc + 1 < 2 ^ 64 }
     ensures covered { W.covered world.new }
     ensures acted { Acted W.reached W.replies
-        (λ s. On (Running (pc + 1) (in_writer (with_body s.writer) s) (open_of open.old))) world.old world.new
-        (open_of open.new) result }
-    ensures left { open.new.left ≡ open.old.left }
+        (λ s. On (Running (pc + 1) (in_writer (with_body s.writer) s) (open_of opened.old))) world.old world.new
+        (open_of opened.new) result }
+    ensures left { opened.new.left ≡ opened.old.left }
 {
     match world.start_body() {
         Ok(()) => Flow::Go(pc + 1),
@@ -60,28 +61,22 @@ pub(crate) fn start_body<W: World>(pc: usize, open: &mut Open, world: &mut W) ->
 
 // Pushes the innermost kept body as a text.
 #[inline(never)]
-pub(crate) fn take_body<W: World>(
-    alloc: Global,
-    pc: usize,
-    place: &Place,
-    open: &mut Open,
-    world: &mut W,
-) -> Flow
+pub(crate) fn take_body<W: World>(alloc: Global, at: &At, opened: &mut Open, world: &mut W) -> Flow
     requires covered { W.covered world.old }
-    requires within { pc + 1 < 2 ^ 64 }
+    requires within { at.now.pc + 1 < 2 ^ 64 }
     requires some { 0 < W.kept world.old }
     ensures covered { W.covered world.new }
     ensures acted { Acted W.reached W.replies
-        (λ s. On (land (pc + 1) (λ t. text t ∷ (open_of open.old).stack) (open_of open.old)
-        (taken place.now s))) world.old world.new (open_of open.new) result }
-    ensures left { open.new.left ≡ open.old.left }
+        (λ s. On (land (at.now.pc + 1) (λ t. text t ∷ (open_of opened.old).stack) (open_of opened.old)
+        (taken at.now.cell.now.place s))) world.old world.new (open_of opened.new) result }
+    ensures left { opened.new.left ≡ opened.old.left }
 {
     match world.take_body() {
-        Ok(text) => match open.stack.push(Value::Text(text)) {
-            Ok(()) => Flow::Go(pc + 1),
+        Ok(text) => match opened.stack.push(Value::Text(text)) {
+            Ok(()) => Flow::Go(at.pc + 1),
             Err(_) => Flow::Over(End::NoMemory),
         },
-        Err(failed) => fail(alloc, failed, place, open, world),
+        Err(failed) => fail(alloc, failed, &at.cell.place, opened, world),
     }
 }
 
@@ -91,19 +86,19 @@ pub(crate) fn jump_if<W: World>(
     pc: usize,
     holds: bool,
     size: usize,
-    open: &mut Open,
+    opened: &mut Open,
     world: &mut W,
 ) -> Flow
     requires covered { W.covered world.old }
     requires within { pc + 1 + size < 2 ^ 64 }
-    requires filled { 0 < length open.old.stack }
+    requires filled { 0 < length opened.old.stack }
     ensures covered { W.covered world.new }
-    ensures acted { Acted W.reached W.replies (λ s. popped (open_of open.old) (open_of open.old).stack
+    ensures acted { Acted W.reached W.replies (λ s. popped (open_of opened.old) (open_of opened.old).stack
         (λ d p. On (one_of (is_same_truth holds (is_true d)) (Running (pc + 1 + size) s p)
-        (Running (pc + 1) s p)))) world.old world.new (open_of open.new) result }
-    ensures left { open.new.left ≡ open.old.left }
+        (Running (pc + 1) s p)))) world.old world.new (open_of opened.new) result }
+    ensures left { opened.new.left ≡ opened.old.left }
 {
-    let Some(value) = open.stack.pop() else {
+    let Some(value) = opened.stack.pop() else {
         unreachable!()
     };
     if is_same(holds, &value) {
@@ -144,18 +139,18 @@ fn has_null(stack: &Stack) -> bool
 
 // Takes null from the top and passes over so many cells, where it is there.
 #[inline(always)]
-pub(crate) fn jump_null<W: World>(pc: usize, size: usize, open: &mut Open, world: &mut W) -> Flow
+pub(crate) fn jump_null<W: World>(pc: usize, size: usize, opened: &mut Open, world: &mut W) -> Flow
     requires covered { W.covered world.old }
     requires within { pc + 1 + size < 2 ^ 64 }
-    requires filled { 0 < length open.old.stack }
+    requires filled { 0 < length opened.old.stack }
     ensures covered { W.covered world.new }
-    ensures acted { Acted W.reached W.replies (λ s. popped (open_of open.old) (open_of open.old).stack
-        (λ d p. On (jump_null d (pc + 1 + size) (pc + 1) s (open_of open.old) p))) world.old world.new
-        (open_of open.new) result }
-    ensures left { open.new.left ≡ open.old.left }
+    ensures acted { Acted W.reached W.replies (λ s. popped (open_of opened.old) (open_of opened.old).stack
+        (λ d p. On (jump_null d (pc + 1 + size) (pc + 1) s (open_of opened.old) p))) world.old world.new
+        (open_of opened.new) result }
+    ensures left { opened.new.left ≡ opened.old.left }
 {
-    if has_null(&open.stack) {
-        open.stack.drop_top(1);
+    if has_null(&opened.stack) {
+        opened.stack.drop_top(1);
         Flow::Go(pc + 1 + size)
     } else {
         Flow::Go(pc + 1)
@@ -164,22 +159,27 @@ pub(crate) fn jump_null<W: World>(pc: usize, size: usize, open: &mut Open, world
 
 // A catch opens, whose faults go on behind so many cells.
 #[inline(never)]
-pub(crate) fn catch_start<W: World>(pc: usize, size: usize, open: &mut Open, world: &mut W) -> Flow
+pub(crate) fn catch_start<W: World>(
+    pc: usize,
+    size: usize,
+    opened: &mut Open,
+    world: &mut W,
+) -> Flow
     requires covered { W.covered world.old }
     requires within { pc + 1 + size < 2 ^ 64 }
     ensures covered { W.covered world.new }
     ensures acted { Acted W.reached W.replies
-        (λ s. On (Running (pc + 1) s (with_catch (pc + 1 + size) s (open_of open.old)))) world.old world.new
-        (open_of open.new) result }
-    ensures left { open.new.left ≡ open.old.left }
+        (λ s. On (Running (pc + 1) s (with_catch (pc + 1 + size) s (open_of opened.old)))) world.old world.new
+        (open_of opened.new) result }
+    ensures left { opened.new.left ≡ opened.old.left }
 {
-    let opened = OpenCatch {
+    let innermost = OpenCatch {
         to: pc + 1 + size,
-        values: open.stack.len(),
+        values: opened.stack.len(),
         bodies: world.bodies(),
-        loops: open.loops.len(),
+        loops: opened.loops.len(),
     };
-    match open.catches.push(opened) {
+    match opened.catches.push(innermost) {
         Ok(()) => Flow::Go(pc + 1),
         Err(_) => Flow::Over(End::NoMemory),
     }
@@ -187,16 +187,16 @@ pub(crate) fn catch_start<W: World>(pc: usize, size: usize, open: &mut Open, wor
 
 // The innermost catch closes.
 #[inline(never)]
-pub(crate) fn catch_end<W: World>(pc: usize, open: &mut Open, world: &mut W) -> Flow
+pub(crate) fn catch_end<W: World>(pc: usize, opened: &mut Open, world: &mut W) -> Flow
     requires covered { W.covered world.old }
     requires within { pc + 1 < 2 ^ 64 }
-    requires opened { 0 < length open.old.catches }
+    requires opened { 0 < length opened.old.catches }
     ensures covered { W.covered world.new }
-    ensures acted { Acted W.reached W.replies (λ s. catch_closed (open_of open.old).catches (pc + 1) s
-        (open_of open.old)) world.old world.new (open_of open.new) result }
-    ensures left { open.new.left ≡ open.old.left }
+    ensures acted { Acted W.reached W.replies (λ s. catch_closed (open_of opened.old).catches (pc + 1) s
+        (open_of opened.old)) world.old world.new (open_of opened.new) result }
+    ensures left { opened.new.left ≡ opened.old.left }
 {
-    let Some(_) = open.catches.pop() else {
+    let Some(_) = opened.catches.pop() else {
         unreachable!()
     };
     Flow::Go(pc + 1)
@@ -235,31 +235,39 @@ fn make_bean<W: World>(
     Ok(true)
 }
 
+// A variable, the bean to which it is set where it is absent, and the number of cells that are
+// passed over where it is not.
+#[derive(Drop)]
+pub(crate) struct Ensured<'a> {
+    pub variable: &'a ScopedName,
+    pub bean: &'a Bean,
+    pub size: usize,
+}
+
 // A bean is set where its variable is absent; else so many cells are passed over.
 #[inline(never)]
 pub(crate) fn ensure<W: World>(
     alloc: Global,
-    pc: usize,
-    place: &Place,
-    variable: &ScopedName,
-    bean: &Bean,
-    size: usize,
-    open: &mut Open,
+    at: &At,
+    ensured: &Ensured,
+    opened: &mut Open,
     world: &mut W,
 ) -> Flow
     requires covered { W.covered world.old }
-    requires within { pc + 1 + size < 2 ^ 64 }
+    requires within { at.now.pc + 1 + ensured.now.size < 2 ^ 64 }
     ensures covered { W.covered world.new }
     ensures acted { Acted W.reached W.replies
-        (λ s. On (then_at (open_of open.old) (bean_made place.now (held_scope variable.now.scope)
-        variable.now.name (datum_of bean.now) s) (λ made s1.
-        one_of made (Running (pc + 1) s1 (open_of open.old)) (Running (pc + 1 + size) s1 (open_of open.old)))))
-        world.old world.new (open_of open.new) result }
-    ensures left { open.new.left ≡ open.old.left }
+        (λ s. On (then_at (open_of opened.old) (bean_made at.now.cell.now.place
+        (held_scope ensured.now.variable.now.scope) ensured.now.variable.now.name
+        (datum_of ensured.now.bean.now) s) (λ made s1.
+        one_of made (Running (at.now.pc + 1) s1 (open_of opened.old))
+        (Running (at.now.pc + 1 + ensured.now.size) s1 (open_of opened.old)))))
+        world.old world.new (open_of opened.new) result }
+    ensures left { opened.new.left ≡ opened.old.left }
 {
-    match make_bean(variable, bean, world) {
-        Ok(true) => Flow::Go(pc + 1),
-        Ok(false) => Flow::Go(pc + 1 + size),
-        Err(failed) => fail(alloc, failed, place, open, world),
+    match make_bean(ensured.variable, ensured.bean, world) {
+        Ok(true) => Flow::Go(at.pc + 1),
+        Ok(false) => Flow::Go(at.pc + 1 + ensured.size),
+        Err(failed) => fail(alloc, failed, &at.cell.place, opened, world),
     }
 }

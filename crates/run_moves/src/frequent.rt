@@ -51,29 +51,29 @@ pub fn quick<W: World>(
     alloc: Global,
     seat: &Seat,
     op: &Op,
-    open: &mut Open,
+    opened: &mut Open,
     world: &mut W,
 ) -> Result<(), Failure<RunFault>>
     requires covered { W.covered world.old }
-    requires filled { takes op.now ≤ length open.old.stack }
+    requires filled { takes op.now ≤ length opened.old.stack }
     requires quick { IsTrue (is_quick op.now) }
     ensures covered { W.covered world.new }
     ensures lands { (serving : Serving) →
-        LandsSo W.reached W.replies (λ place pc s. act serving (seat_of seat.now) place pc s (open_of open.old)
-        (instr.Op op.now)) world.old world.new (open_of open.new) result }
-    ensures left { open.new.left ≡ open.old.left }
+        LandsSo W.reached W.replies (λ place pc s. act serving (seat_of seat.now) place pc s (open_of opened.old)
+        (instr.Op op.now)) world.old world.new (open_of opened.new) result }
+    ensures left { opened.new.left ≡ opened.old.left }
 {
     match op {
         Op::Write(text) => world.put(text.as_str()),
         Op::Visit(count) => count_visits(*count, world),
-        Op::Find(name) => find_top(seat, name, open, world),
-        Op::Put => put_top(open, world),
-        Op::PutEscaped => put_escaped_top(alloc, open, world),
-        Op::Const(value) => push_copy(value, &mut open.stack),
-        Op::Index => index_top(alloc, &mut open.stack),
-        Op::Coerce(coercion) => coerce_top(alloc, *coercion, &mut open.stack),
-        Op::Unary(op) => unary_top(*op, &mut open.stack),
-        Op::Binary(op) => binary_top(alloc, *op, &mut open.stack),
+        Op::Find(name) => find_top(seat, name, opened, world),
+        Op::Put => put_top(opened, world),
+        Op::PutEscaped => put_escaped_top(alloc, opened, world),
+        Op::Const(value) => push_copy(value, &mut opened.stack),
+        Op::Index => index_top(alloc, &mut opened.stack),
+        Op::Coerce(coercion) => coerce_top(alloc, *coercion, &mut opened.stack),
+        Op::Unary(op) => unary_top(*op, &mut opened.stack),
+        Op::Binary(op) => binary_top(alloc, *op, &mut opened.stack),
         _ => unreachable!(),
     }
 }
@@ -83,36 +83,36 @@ pub fn quick<W: World>(
 fn find_top<W: World>(
     seat: &Seat,
     name: &Name,
-    open: &mut Open,
+    opened: &mut Open,
     world: &mut W,
 ) -> Result<(), Failure<RunFault>>
     requires covered { W.covered world.old }
     ensures covered { W.covered world.new }
     ensures lands { (serving : Serving) →
-        LandsSo W.reached W.replies (λ place pc s. act serving (seat_of seat.now) place pc s (open_of open.old)
-        (instr.Op (ops.Find name.now))) world.old world.new (open_of open.new) result }
-    ensures left { open.new.left ≡ open.old.left }
+        LandsSo W.reached W.replies (λ place pc s. act serving (seat_of seat.now) place pc s (open_of opened.old)
+        (instr.Op (ops.Find name.now))) world.old world.new (open_of opened.new) result }
+    ensures left { opened.new.left ≡ opened.old.left }
 {
     let found = find(seat.is_strict(), name, world);
-    push_made(found, &mut open.stack)
+    push_made(found, &mut opened.stack)
 }
 
 // Writes the text on top.
 #[inline(always)]
-fn put_top<W: World>(open: &mut Open, world: &mut W) -> Result<(), Failure<RunFault>>
+fn put_top<W: World>(opened: &mut Open, world: &mut W) -> Result<(), Failure<RunFault>>
     requires covered { W.covered world.old }
-    requires filled { 1 ≤ length open.old.stack }
+    requires filled { 1 ≤ length opened.old.stack }
     ensures covered { W.covered world.new }
     ensures lands { (serving : Serving) (seat : Seat') →
-        LandsSo W.reached W.replies (λ place pc s. act serving seat place pc s (open_of open.old) (instr.Op ops.Put))
-        world.old world.new (open_of open.new) result }
-    ensures left { open.new.left ≡ open.old.left }
+        LandsSo W.reached W.replies (λ place pc s. act serving seat place pc s (open_of opened.old) (instr.Op ops.Put))
+        world.old world.new (open_of opened.new) result }
+    ensures left { opened.new.left ≡ opened.old.left }
 {
-    let Some(value) = open.stack.topmost() else {
+    let Some(value) = opened.stack.topmost() else {
         unreachable!()
     };
     let done = world.put(text_of(value));
-    open.stack.drop_top(1);
+    opened.stack.drop_top(1);
     done
 }
 
@@ -120,22 +120,22 @@ fn put_top<W: World>(open: &mut Open, world: &mut W) -> Result<(), Failure<RunFa
 #[inline(always)]
 fn put_escaped_top<W: World>(
     alloc: Global,
-    open: &mut Open,
+    opened: &mut Open,
     world: &mut W,
 ) -> Result<(), Failure<RunFault>>
     requires covered { W.covered world.old }
-    requires filled { 1 ≤ length open.old.stack }
+    requires filled { 1 ≤ length opened.old.stack }
     ensures covered { W.covered world.new }
     ensures lands { (serving : Serving) (seat : Seat') →
-        LandsSo W.reached W.replies (λ place pc s. act serving seat place pc s (open_of open.old)
-        (instr.Op ops.PutEscaped)) world.old world.new (open_of open.new) result }
-    ensures left { open.new.left ≡ open.old.left }
+        LandsSo W.reached W.replies (λ place pc s. act serving seat place pc s (open_of opened.old)
+        (instr.Op ops.PutEscaped)) world.old world.new (open_of opened.new) result }
+    ensures left { opened.new.left ≡ opened.old.left }
 {
-    let Some(value) = open.stack.topmost() else {
+    let Some(value) = opened.stack.topmost() else {
         unreachable!()
     };
     let done = put_escaped(alloc, text_of(value), world);
-    open.stack.drop_top(1);
+    opened.stack.drop_top(1);
     done
 }
 

@@ -8,6 +8,7 @@ ghost use Rattle.run_moves.specs.declared.flow.End.TheVariants as end;
 ghost use Rattle.run_moves.specs.declared.flow.Flow.TheVariants as flow;
 ghost use Rattle.run_parts.specs.Answers.{none_of};
 
+use crate::at::At;
 use crate::flow::{End, Flow};
 use crate::open::Open;
 use crate::raising::throw;
@@ -22,18 +23,18 @@ pub fn fail<W: World>(
     alloc: Global,
     failed: Failure<RunFault>,
     place: &Place,
-    open: &mut Open,
+    opened: &mut Open,
     world: &mut W,
 ) -> Flow
     requires covered { W.covered world.old }
     ensures covered { W.covered world.new }
-    ensures acted { Acted W.reached W.replies (failing place.now (open_of open.old) failed) world.old world.new
-        (open_of open.new) result }
+    ensures acted { Acted W.reached W.replies (failing place.now (open_of opened.old) failed) world.old world.new
+        (open_of opened.new) result }
     ensures short { failed ≡ failure.NoMemory → (result ≡ flow.Over end.NoMemory) × (world.new ≡ world.old) }
-    ensures left { open.new.left ≡ open.old.left }
+    ensures left { opened.new.left ≡ opened.old.left }
 {
     match failed {
-        Failure::Fault(fault) => throw(alloc, fault, place, open, world),
+        Failure::Fault(fault) => throw(alloc, fault, place, opened, world),
         Failure::NoMemory => Flow::Over(End::NoMemory),
     }
 }
@@ -42,29 +43,28 @@ pub fn fail<W: World>(
 #[inline(always)]
 pub(crate) fn land<W: World>(
     alloc: Global,
-    pc: usize,
-    place: &Place,
+    at: &At,
     made: Result<Option<Value>, Failure<RunFault>>,
-    open: &mut Open,
+    opened: &mut Open,
     world: &mut W,
 ) -> Flow
     requires covered { W.covered world.old }
-    requires within { pc + 1 < 2 ^ 64 }
+    requires within { at.now.pc + 1 < 2 ^ 64 }
     ensures covered { W.covered world.new }
-    ensures acted { Acted W.reached W.replies (landing pc place.now (open_of open.old) made) world.old world.new
-        (open_of open.new) result }
+    ensures acted { Acted W.reached W.replies (landing at.now.pc at.now.cell.now.place (open_of opened.old) made)
+        world.old world.new (open_of opened.new) result }
     ensures short { made ≡ Err failure.NoMemory → (result ≡ flow.Over end.NoMemory) × (world.new ≡ world.old) }
-    ensures left { open.new.left ≡ open.old.left }
+    ensures left { opened.new.left ≡ opened.old.left }
 {
     let made = match made {
         Ok(made) => made,
-        Err(failed) => return fail(alloc, failed, place, open, world),
+        Err(failed) => return fail(alloc, failed, &at.cell.place, opened, world),
     };
     let Some(value) = made else {
-        return Flow::Go(pc + 1);
+        return Flow::Go(at.pc + 1);
     };
-    match open.stack.push(value) {
-        Ok(()) => Flow::Go(pc + 1),
+    match opened.stack.push(value) {
+        Ok(()) => Flow::Go(at.pc + 1),
         Err(_) => Flow::Over(End::NoMemory),
     }
 }
@@ -73,22 +73,21 @@ pub(crate) fn land<W: World>(
 #[inline(always)]
 pub(crate) fn land_done<W: World>(
     alloc: Global,
-    pc: usize,
-    place: &Place,
+    at: &At,
     done: Result<(), Failure<RunFault>>,
-    open: &mut Open,
+    opened: &mut Open,
     world: &mut W,
 ) -> Flow
     requires covered { W.covered world.old }
-    requires within { pc + 1 < 2 ^ 64 }
+    requires within { at.now.pc + 1 < 2 ^ 64 }
     ensures covered { W.covered world.new }
-    ensures acted { Acted W.reached W.replies (landing pc place.now (open_of open.old) (none_of done))
-        world.old world.new (open_of open.new) result }
+    ensures acted { Acted W.reached W.replies (landing at.now.pc at.now.cell.now.place (open_of opened.old)
+        (none_of done)) world.old world.new (open_of opened.new) result }
     ensures short { done ≡ Err failure.NoMemory → (result ≡ flow.Over end.NoMemory) × (world.new ≡ world.old) }
-    ensures left { open.new.left ≡ open.old.left }
+    ensures left { opened.new.left ≡ opened.old.left }
 {
     match done {
-        Ok(()) => Flow::Go(pc + 1),
-        Err(failed) => fail(alloc, failed, place, open, world),
+        Ok(()) => Flow::Go(at.pc + 1),
+        Err(failed) => fail(alloc, failed, &at.cell.place, opened, world),
     }
 }

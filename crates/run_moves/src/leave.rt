@@ -13,12 +13,14 @@ ghost use Rattle.page_table.specs.Seat.{Seat as Seat', page_run_of};
 ghost use Rattle.pg_text.specs.Failure.{Answers};
 ghost use Rattle.pg_value.specs.Value.{datum_of};
 ghost use Rattle.run_moves.specs.Acted.{Acted, ActedFor};
+ghost use Rattle.run_moves.specs.At.{seat_at};
 ghost use Rattle.run_moves.specs.Leaving.{forward_asked, goal_of, path_named, redirect_asked};
 ghost use Rattle.run_moves.specs.Opened.{open_of};
 ghost use Rattle.run_world.specs.Known.{ServesSo};
 ghost use Rattle.run_world.specs.Part.{Doing};
 ghost use Rattle.run_world.specs.Seats.{seat_of};
 
+use crate::at::At;
 use crate::flow::{End, Flow};
 use crate::landing::fail;
 use crate::open::Open;
@@ -28,7 +30,7 @@ use pg_text::{Failure, Listed, Path, Place, Text};
 use pg_value::{RunFault, Value};
 use run_parts::{target_params, target_path};
 use run_values::text_of;
-use run_world::{Seat, Served, World};
+use run_world::{Seat, World};
 use std::alloc::Global;
 
 // Where a page is left for: a path, its parameters, and the levels left below it.
@@ -43,76 +45,72 @@ pub(crate) struct Forward {
 #[inline(never)]
 pub(crate) fn leave<W: World>(
     alloc: Global,
-    served: &Served,
-    seat: &Seat,
-    place: &Place,
+    at: &At,
     how: &Leave,
-    open: &mut Open,
+    opened: &mut Open,
     world: &mut W,
 ) -> Flow
     requires covered { W.covered world.old }
-    requires finds { LeaveFinds (open_of open.old) how.now }
+    requires finds { LeaveFinds (open_of opened.old) how.now }
     ensures covered { W.covered world.new }
-    ensures acted { ActedFor W.reached W.replies (ServesSo W.stores served.now) (λ serving s.
-        leaving serving (seat_of seat.now) place.now how.now s (open_of open.old)) world.old world.new
-        (open_of open.new) result }
-    ensures left { open.new.left ≡ open.old.left }
+    ensures acted { ActedFor W.reached W.replies (ServesSo W.stores at.now.served.now) (λ serving s.
+        leaving serving (seat_at at.now) at.now.cell.now.place how.now s (open_of opened.old)) world.old world.new
+        (open_of opened.new) result }
+    ensures left { opened.new.left ≡ opened.old.left }
 {
     match how {
         Leave::End => Flow::Over(End::Normal),
-        Leave::Redirect => redirect_away(alloc, place, open, world),
-        Leave::Forward(params) => { forward_away(alloc, served, seat, place, *params, open, world) }
+        Leave::Redirect => redirect_away(alloc, &at.cell.place, opened, world),
+        Leave::Forward(params) => forward_away(alloc, at, *params, opened, world),
     }
 }
 
 // Sends the client to the address on top.
-fn redirect_away<W: World>(alloc: Global, place: &Place, open: &mut Open, world: &mut W) -> Flow
+fn redirect_away<W: World>(alloc: Global, place: &Place, opened: &mut Open, world: &mut W) -> Flow
     requires covered { W.covered world.old }
-    requires filled { 1 ≤ length open.old.stack }
+    requires filled { 1 ≤ length opened.old.stack }
     ensures covered { W.covered world.new }
     ensures acted { (serving : Serving) (seat : Seat') →
-        Acted W.reached W.replies (λ s. leaving serving seat place.now leave.Redirect s (open_of open.old))
-        world.old world.new (open_of open.new) result }
-    ensures left { open.new.left ≡ open.old.left }
+        Acted W.reached W.replies (λ s. leaving serving seat place.now leave.Redirect s (open_of opened.old))
+        world.old world.new (open_of opened.new) result }
+    ensures left { opened.new.left ≡ opened.old.left }
 {
-    let asked = ask_redirect(alloc, open.stack.top(1), world);
-    open.stack.drop_top(1);
+    let asked = ask_redirect(alloc, opened.stack.top(1), world);
+    opened.stack.drop_top(1);
     match asked {
         Ok(address) => Flow::Over(End::Redirect(address)),
-        Err(failed) => fail(alloc, failed, place, open, world),
+        Err(failed) => fail(alloc, failed, place, opened, world),
     }
 }
 
 // Goes over to the page at an address.
 fn forward_away<W: World>(
     alloc: Global,
-    served: &Served,
-    seat: &Seat,
-    place: &Place,
+    at: &At,
     params: usize,
-    open: &mut Open,
+    opened: &mut Open,
     world: &mut W,
 ) -> Flow
     requires covered { W.covered world.old }
-    requires filled { address_with params ≤ length open.old.stack }
+    requires filled { address_with params ≤ length opened.old.stack }
     ensures covered { W.covered world.new }
-    ensures acted { (serving : Serving) → ServesSo W.stores served.now world.old serving →
-        Acted W.reached W.replies (λ s. leaving serving (seat_of seat.now) place.now (leave.Forward params) s
-        (open_of open.old)) world.old world.new (open_of open.new) result }
-    ensures left { open.new.left ≡ open.old.left }
+    ensures acted { (serving : Serving) → ServesSo W.stores at.now.served.now world.old serving →
+        Acted W.reached W.replies (λ s. leaving serving (seat_at at.now) at.now.cell.now.place (leave.Forward params) s
+        (open_of opened.old)) world.old world.new (open_of opened.new) result }
+    ensures left { opened.new.left ≡ opened.old.left }
 {
-    let held = open.stack.len();
+    let held = opened.stack.len();
     let count = 2 * params + 1;
     prove!(count <= held);
-    let asked = ask_forward(alloc, served, seat, open.left, open.stack.top(count), world);
-    open.stack.drop_top(count);
+    let asked = ask_forward(alloc, at, opened.left, opened.stack.top(count), world);
+    opened.stack.drop_top(count);
     match asked {
         Ok(goal) => {
             world.clear();
             let Forward { path, params, left } = goal;
             Flow::Over(End::Forward { path, params, left })
         }
-        Err(failed) => fail(alloc, failed, place, open, world),
+        Err(failed) => fail(alloc, failed, &at.cell.place, opened, world),
     }
 }
 
@@ -159,8 +157,7 @@ pub fn named_path(alloc: Global, seat: &Seat, target: &str) -> Result<Path, Fail
 // stands at the path.
 fn ask_forward<W: World>(
     alloc: Global,
-    served: &Served,
-    seat: &Seat,
+    at: &At,
     left: u32,
     values: &[Value],
     world: &mut W,
@@ -168,9 +165,9 @@ fn ask_forward<W: World>(
     requires covered { W.covered world.old }
     requires some { 1 ≤ length values.now }
     ensures covered { W.covered world.new }
-    ensures does { (serving : Serving) → ServesSo W.stores served.now world.old serving →
+    ensures does { (serving : Serving) → ServesSo W.stores at.now.served.now world.old serving →
         Doing W.reached W.replies goal_of (λ place. forward_asked serving left place
-        (page_run_of (seat_of seat.now)) (text_at 0 (map datum_of values.now))
+        (page_run_of (seat_at at.now)) (text_at 0 (map datum_of values.now))
         (params_in (behind_first (map datum_of values.now)))) world.old world.new result }
     ensures uncommitted { IfOk result (λ goal. W.committed world.new ≡ false) }
 {
@@ -178,11 +175,11 @@ fn ask_forward<W: World>(
         return Err(Failure::Fault(RunFault::Committed));
     }
     let target = text_of(&values[0]);
-    let path = named_path(alloc, seat, target)?;
+    let path = named_path(alloc, at.seat, target)?;
     let Some(left) = left.checked_sub(1) else {
         return Err(Failure::Fault(RunFault::TooDeep));
     };
-    let params = target_params(alloc, seat, target, &values[1..])?;
+    let params = target_params(alloc, at.seat, target, &values[1..])?;
     let _ = world.page(&path)?;
     Ok(Forward { path, params, left })
 }

@@ -4,6 +4,7 @@
 #![tactic(auto)]
 
 mod arms;
+mod at;
 mod flow;
 mod frequent;
 mod landing;
@@ -15,6 +16,7 @@ mod raising;
 mod rounds_arm;
 mod simple;
 
+pub use at::At;
 pub use flow::{End, Flow};
 pub use frequent::{is_quick, quick};
 pub use landing::fail;

@@ -6,14 +6,13 @@ ghost use Rattle.page_code.specs.declared.op.Op.TheVariants as op;
 ghost use Rattle.page_code.specs.declared.operands.PropertyMode.TheVariants as mode;
 ghost use Rattle.page_table.specs.Act.{act};
 ghost use Rattle.page_table.specs.Program.{Serving};
-ghost use Rattle.page_table.specs.Seat.{Seat as Seat', page_run_of};
 ghost use Rattle.run_moves.specs.Acted.{Acted, ActedFor};
+ghost use Rattle.run_moves.specs.At.{IsRecordsAt, seat_at};
 ghost use Rattle.run_moves.specs.Opened.{open_of};
 ghost use Rattle.run_parts.specs.Operations.{HasOnePlace};
-ghost use Rattle.run_parts.specs.Records.{IsRecordsOf};
 ghost use Rattle.run_world.specs.Known.{ServesSo};
-ghost use Rattle.run_world.specs.Seats.{seat_of};
 
+use crate::at::At;
 use crate::flow::Flow;
 use crate::frequent::{is_quick, quick};
 use crate::landing::{fail, land, land_done};
@@ -22,46 +21,47 @@ use page_code::{Name, Op, PropertyMode};
 use pg_text::{Place, Text};
 use run_parts::{RequestRecords, find_property, operate, values_taken, write_back};
 use run_values::replaced;
-use run_world::{Seat, Served, World};
+use run_world::World;
 use std::alloc::Global;
 
 // An operation: its values are taken, and what it made lands on the stack.
 #[inline(always)]
 pub(crate) fn operation<W: World>(
     alloc: Global,
-    served: &Served,
-    seat: &Seat,
+    at: &At,
     records: &mut RequestRecords,
-    pc: usize,
-    place: &Place,
     op: &Op,
-    open: &mut Open,
+    opened: &mut Open,
     world: &mut W,
 ) -> Flow
     requires covered { W.covered world.old }
-    requires records { IsRecordsOf served.now.request.now (page_run_of (seat_of seat.now)).params records.old }
-    requires within { pc + 1 < 2 ^ 64 }
-    requires filled { takes op.now ≤ length open.old.stack }
+    requires records { IsRecordsAt at.now records.old }
+    requires within { at.now.pc + 1 < 2 ^ 64 }
+    requires filled { takes op.now ≤ length opened.old.stack }
     ensures covered { W.covered world.new }
-    ensures records { IsRecordsOf served.now.request.now (page_run_of (seat_of seat.now)).params records.new }
-    ensures acted { ActedFor W.reached W.replies (ServesSo W.stores served.now) (λ serving s.
-        act serving (seat_of seat.now) place.now pc s (open_of open.old) (instr.Op op.now)) world.old world.new
-        (open_of open.new) result }
-    ensures left { open.new.left ≡ open.old.left }
+    ensures records { IsRecordsAt at.now records.new }
+    ensures acted { ActedFor W.reached W.replies (ServesSo W.stores at.now.served.now) (λ serving s.
+        act serving (seat_at at.now) at.now.cell.now.place at.now.pc s (open_of opened.old) (instr.Op op.now))
+        world.old world.new (open_of opened.new) result }
+    ensures left { opened.new.left ≡ opened.old.left }
 {
     if is_quick(op) {
-        let done = quick(alloc, seat, op, open, world);
-        return land_done(alloc, pc, place, done, open, world);
+        let done = quick(alloc, at.seat, op, opened, world);
+        return land_done(alloc, at, done, opened, world);
     }
     match op {
         Op::SetProperty(name, mode) => match mode {
-            PropertyMode::Value {
-                property,
-                place: value_place,
-            } => set_value(alloc, pc, place, name, property, value_place, open, world),
-            _ => at_one_place(alloc, served, seat, records, pc, place, op, open, world),
+            PropertyMode::Value { property, place } => {
+                let setting = Setting {
+                    name,
+                    property,
+                    place,
+                };
+                set_value(alloc, at, &setting, opened, world)
+            }
+            _ => at_one_place(alloc, at, records, op, opened, world),
         },
-        _ => at_one_place(alloc, served, seat, records, pc, place, op, open, world),
+        _ => at_one_place(alloc, at, records, op, opened, world),
     }
 }
 
@@ -69,78 +69,81 @@ pub(crate) fn operation<W: World>(
 #[inline(never)]
 fn at_one_place<W: World>(
     alloc: Global,
-    served: &Served,
-    seat: &Seat,
+    at: &At,
     records: &mut RequestRecords,
-    pc: usize,
-    place: &Place,
     op: &Op,
-    open: &mut Open,
+    opened: &mut Open,
     world: &mut W,
 ) -> Flow
     requires covered { W.covered world.old }
-    requires records { IsRecordsOf served.now.request.now (page_run_of (seat_of seat.now)).params records.old }
-    requires within { pc + 1 < 2 ^ 64 }
-    requires filled { takes op.now ≤ length open.old.stack }
+    requires records { IsRecordsAt at.now records.old }
+    requires within { at.now.pc + 1 < 2 ^ 64 }
+    requires filled { takes op.now ≤ length opened.old.stack }
     requires placed { HasOnePlace op.now }
     ensures covered { W.covered world.new }
-    ensures records { IsRecordsOf served.now.request.now (page_run_of (seat_of seat.now)).params records.new }
-    ensures acted { ActedFor W.reached W.replies (ServesSo W.stores served.now) (λ serving s.
-        act serving (seat_of seat.now) place.now pc s (open_of open.old) (instr.Op op.now)) world.old world.new
-        (open_of open.new) result }
-    ensures left { open.new.left ≡ open.old.left }
+    ensures records { IsRecordsAt at.now records.new }
+    ensures acted { ActedFor W.reached W.replies (ServesSo W.stores at.now.served.now) (λ serving s.
+        act serving (seat_at at.now) at.now.cell.now.place at.now.pc s (open_of opened.old) (instr.Op op.now))
+        world.old world.new (open_of opened.new) result }
+    ensures left { opened.new.left ≡ opened.old.left }
 {
-    let held = open.stack.len();
+    let held = opened.stack.len();
     let count = values_taken(op);
     prove!(count <= held);
     let made = operate(
         alloc,
-        served,
-        seat,
+        at.served,
+        at.seat,
         records,
         op,
-        open.stack.top(count),
+        opened.stack.top(count),
         world,
     );
-    open.stack.drop_top(count);
-    land(alloc, pc, place, made, open, world)
+    opened.stack.drop_top(count);
+    land(alloc, at, made, opened, world)
+}
+
+// The property that is set to a value, of what a name finds, and where the value's faults stand.
+#[derive(Drop)]
+struct Setting<'a> {
+    name: &'a Name,
+    property: &'a Text,
+    place: &'a Place,
 }
 
 // Sets a property to the value on top, whose faults stand at a place of their own.
 #[inline(never)]
 fn set_value<W: World>(
     alloc: Global,
-    pc: usize,
-    place: &Place,
-    name: &Name,
-    property: &Text,
-    value_place: &Place,
-    open: &mut Open,
+    at: &At,
+    setting: &Setting,
+    opened: &mut Open,
     world: &mut W,
 ) -> Flow
     requires covered { W.covered world.old }
-    requires within { pc + 1 < 2 ^ 64 }
-    requires filled { 1 ≤ length open.old.stack }
+    requires within { at.now.pc + 1 < 2 ^ 64 }
+    requires filled { 1 ≤ length opened.old.stack }
     ensures covered { W.covered world.new }
-    ensures acted { (serving : Serving) (seat : Seat') →
-        Acted W.reached W.replies (λ s. act serving seat place.now pc s (open_of open.old)
-        (instr.Op (op.SetProperty name.now (mode.Value property.now value_place.now)))) world.old world.new
-        (open_of open.new) result }
-    ensures left { open.new.left ≡ open.old.left }
+    ensures acted { (serving : Serving) → Acted W.reached W.replies (λ s.
+        act serving (seat_at at.now) at.now.cell.now.place at.now.pc s (open_of opened.old)
+        (instr.Op (op.SetProperty setting.now.name.now
+        (mode.Value setting.now.property.now setting.now.place.now)))) world.old world.new
+        (open_of opened.new) result }
+    ensures left { opened.new.left ≡ opened.old.left }
 {
-    let Some(value) = open.stack.pop() else {
+    let Some(value) = opened.stack.pop() else {
         unreachable!()
     };
-    let found = match find_property(name, property, world) {
+    let found = match find_property(setting.name, setting.property, world) {
         Ok(found) => found,
-        Err(failed) => return fail(alloc, failed, place, open, world),
+        Err(failed) => return fail(alloc, failed, &at.cell.place, opened, world),
     };
     let made = match replaced(alloc, &found.old, &value) {
         Ok(made) => made,
-        Err(failed) => return fail(alloc, failed, value_place, open, world),
+        Err(failed) => return fail(alloc, failed, setting.place, opened, world),
     };
-    match write_back(found, property, made, name, world) {
-        Ok(()) => Flow::Go(pc + 1),
-        Err(failed) => fail(alloc, failed, place, open, world),
+    match write_back(found, setting.property, made, setting.name, world) {
+        Ok(()) => Flow::Go(at.pc + 1),
+        Err(failed) => fail(alloc, failed, &at.cell.place, opened, world),
     }
 }

@@ -50,17 +50,17 @@ fn unwind<W: World>(left: usize, loops: &mut Loops, world: &mut W)
 }
 
 // A fault that no catch takes.
-fn fall<W: World>(fault: RunFault, place: &Place, open: &mut Open, world: &mut W) -> Flow
+fn fall<W: World>(fault: RunFault, place: &Place, opened: &mut Open, world: &mut W) -> Flow
     requires covered { W.covered world.old }
     ensures covered { W.covered world.new }
-    ensures acted { Acted W.reached W.replies (λ s. On (uncaught fault place.now s (open_of open.old)))
-        world.old world.new (open_of open.new) result }
-    ensures left { open.new.left ≡ open.old.left }
+    ensures acted { Acted W.reached W.replies (λ s. On (uncaught fault place.now s (open_of opened.old)))
+        world.old world.new (open_of opened.new) result }
+    ensures left { opened.new.left ≡ opened.old.left }
 {
     let Ok(place) = place.copy() else {
         return Flow::Over(End::NoMemory);
     };
-    unwind(0, &mut open.loops, world);
+    unwind(0, &mut opened.loops, world);
     Flow::Over(End::Raised { fault, place })
 }
 
@@ -69,29 +69,29 @@ pub fn throw<W: World>(
     alloc: Global,
     fault: RunFault,
     place: &Place,
-    open: &mut Open,
+    opened: &mut Open,
     world: &mut W,
 ) -> Flow
     requires covered { W.covered world.old }
     ensures covered { W.covered world.new }
-    ensures acted { Acted W.reached W.replies (λ s. On (thrown fault place.now s (open_of open.old)))
-        world.old world.new (open_of open.new) result }
-    ensures left { open.new.left ≡ open.old.left }
+    ensures acted { Acted W.reached W.replies (λ s. On (thrown fault place.now s (open_of opened.old)))
+        world.old world.new (open_of opened.new) result }
+    ensures left { opened.new.left ≡ opened.old.left }
 {
     if fault.number() > 16 {
-        return fall(fault, place, open, world);
+        return fall(fault, place, opened, world);
     }
-    let Some(innermost) = open.catches.pop() else {
-        return fall(fault, place, open, world);
+    let Some(innermost) = opened.catches.pop() else {
+        return fall(fault, place, opened, world);
     };
     let Ok(record) = fault_record(alloc, fault, place) else {
         return Flow::Over(End::NoMemory);
     };
-    open.stack.cut(innermost.values);
-    let Ok(()) = open.stack.push(record) else {
+    opened.stack.cut(innermost.values);
+    let Ok(()) = opened.stack.push(record) else {
         return Flow::Over(End::NoMemory);
     };
-    unwind(innermost.loops, &mut open.loops, world);
+    unwind(innermost.loops, &mut opened.loops, world);
     world.drop_bodies(innermost.bodies);
     Flow::Go(innermost.to)
 }

@@ -16,13 +16,14 @@ ghost use Rattle.run_moves.specs.Rounds.{loop_answer};
 ghost use Rattle.run_values.specs.Rounds.{round_at};
 ghost use Rattle.run_world.specs.Part.{Doing};
 
+use crate::at::At;
 use crate::flow::{End, Flow};
 use crate::landing::fail;
 use crate::loops::Loop;
 use crate::open::Open;
 use crate::raising::remove_named;
 use page_code::{LoopKind, Name};
-use pg_text::{Failure, Place};
+use pg_text::Failure;
 use pg_value::{RunFault, Value};
 use run_values::{Mark, Statuses, measured, rounds_of, table_of};
 use run_world::World;
@@ -33,44 +34,43 @@ use std::alloc::{AllocError, Global};
 #[inline(never)]
 pub(crate) fn loop_start<W: World>(
     alloc: Global,
-    pc: usize,
-    place: &Place,
+    at: &At,
     kind: &LoopKind,
-    open: &mut Open,
+    opened: &mut Open,
     world: &mut W,
 ) -> Flow
     requires covered { W.covered world.old }
-    requires within { pc + 1 < 2 ^ 64 }
-    requires filled { length kind.now.names ≤ length open.old.stack }
+    requires within { at.now.pc + 1 < 2 ^ 64 }
+    requires filled { length kind.now.names ≤ length opened.old.stack }
     ensures covered { W.covered world.new }
-    ensures acted { Acted W.reached W.replies (λ s. popped_all (length kind.now.names) (open_of open.old)
-        (λ ds p. On (loop_opened place.now kind.now (table_of kind.now.names ds) (pc + 1) s p)))
-        world.old world.new (open_of open.new) result }
-    ensures left { open.new.left ≡ open.old.left }
+    ensures acted { Acted W.reached W.replies (λ s. popped_all (length kind.now.names) (open_of opened.old)
+        (λ ds p. On (loop_opened at.now.cell.now.place kind.now (table_of kind.now.names ds) (at.now.pc + 1) s p)))
+        world.old world.new (open_of opened.new) result }
+    ensures left { opened.new.left ≡ opened.old.left }
 {
     let count = kind.names.len();
-    let made = opened(alloc, kind, open);
-    open.stack.drop_top(count);
+    let made = new_loop(alloc, kind, opened);
+    opened.stack.drop_top(count);
     let looping = match made {
         Ok(looping) => looping,
-        Err(failed) => return fail(alloc, failed, place, open, world),
+        Err(failed) => return fail(alloc, failed, &at.cell.place, opened, world),
     };
-    match open.loops.push(looping) {
-        Ok(()) => Flow::Go(pc + 1),
+    match opened.loops.push(looping) {
+        Ok(()) => Flow::Go(at.pc + 1),
         Err(_) => Flow::Over(End::NoMemory),
     }
 }
 
 // The loop that the values on top open.
-fn opened(alloc: Global, kind: &LoopKind, open: &Open) -> Result<Loop, Failure<RunFault>>
-    requires { length kind.now.names ≤ length open.now.stack }
+fn new_loop(alloc: Global, kind: &LoopKind, opened: &Open) -> Result<Loop, Failure<RunFault>>
+    requires { length kind.now.names ≤ length opened.now.stack }
     ensures { AnswersAs loop_of (loop_answer kind.now
-        (table_of kind.now.names (reverse (take (length kind.now.names) (open_of open.now).stack)))) result }
+        (table_of kind.now.names (reverse (take (length kind.now.names) (open_of opened.now).stack)))) result }
 {
     let values = table_of(
         alloc,
         kind.names.as_slice(),
-        open.stack.top(kind.names.len()),
+        opened.stack.top(kind.names.len()),
     )?;
     let rounds = rounds_of(alloc, kind.over, &values)?;
     Ok(Loop {
@@ -94,38 +94,37 @@ fn copied(name: &Option<Name>) -> Result<Option<Name>, AllocError>
 #[inline(never)]
 pub(crate) fn loop_next<W: World>(
     alloc: Global,
-    pc: usize,
-    place: &Place,
+    at: &At,
     size: usize,
-    open: &mut Open,
+    opened: &mut Open,
     world: &mut W,
 ) -> Flow
     requires covered { W.covered world.old }
-    requires within { pc + 1 < 2 ^ 64 }
-    requires back { size ≤ pc }
-    requires opened { 1 ≤ length open.old.loops }
+    requires within { at.now.pc + 1 < 2 ^ 64 }
+    requires back { size ≤ at.now.pc }
+    requires opened { 1 ≤ length opened.old.loops }
     ensures covered { W.covered world.new }
-    ensures acted { Acted W.reached W.replies (λ s. loop_next place.now (open_of open.old).loops (pc - size)
-        (pc + 1) s (open_of open.old)) world.old world.new (open_of open.new) result }
-    ensures left { open.new.left ≡ open.old.left }
+    ensures acted { Acted W.reached W.replies (λ s. loop_next at.now.cell.now.place (open_of opened.old).loops
+        (at.now.pc - size) (at.now.pc + 1) s (open_of opened.old)) world.old world.new (open_of opened.new) result }
+    ensures left { opened.new.left ≡ opened.old.left }
 {
-    let Some(innermost) = open.loops.innermost() else {
+    let Some(innermost) = opened.loops.innermost() else {
         unreachable!()
     };
     let Some(mark) = innermost.rounds.next() else {
-        let Some(ended) = open.loops.pop() else {
+        let Some(ended) = opened.loops.pop() else {
             unreachable!()
         };
         remove_named(&ended.variable, world);
         remove_named(&ended.status, world);
-        return Flow::Go(pc + 1);
+        return Flow::Go(at.pc + 1);
     };
-    match open.loops.begin_round(alloc, &mark, world) {
+    match opened.loops.begin_round(alloc, &mark, world) {
         Ok(()) => {
-            open.loops.advance();
-            Flow::Go(pc - size)
+            opened.loops.advance();
+            Flow::Go(at.pc - size)
         }
-        Err(failed) => fail(alloc, failed, place, open, world),
+        Err(failed) => fail(alloc, failed, &at.cell.place, opened, world),
     }
 }
 

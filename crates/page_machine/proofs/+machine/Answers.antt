@@ -37,6 +37,7 @@ use Rattle.pg_value.specs.Value.{datum_of}
 use Rattle.pg_value.specs.declared.fault.RunFault.TheVariants as fault
 use Rattle.run_moves.proofs.Acts.{acted_as, acted_on, acted_short}
 use Rattle.run_moves.proofs.Behind.{acted_spent}
+use Rattle.run_moves.specs.At.{seat_at}
 use Rattle.run_moves.specs.Landing.{failing}
 use Rattle.run_moves.specs.Opened.{open_of}
 use Rattle.run_moves.specs.declared.flow.End.TheVariants as ends
@@ -59,42 +60,42 @@ no_place = record { file = []; byte = 0; line = 0; column = 0 }
 
 pub turn::run_code-loop-op-init : goal.turn::run_code-loop-op-init
 turn::run_code-loop-op-init g t c = record {
-  left = ap (λ o. o.left) c.fresh-open.ensures;
+  left = ap (λ o. o.left) c.fresh-opened.ensures;
   covered = c.requires.covered;
   known = c.requires.known;
   records = c.requires.records;
   holds = c.requires.holds;
-  standing = standing_start (seat_of c.args.seat.now) c.args.at c.args.left (g.W.World.kept c.args.world.now) (open_of c.fresh-open.result) c.requires.at c.fresh-open.ensures;
+  standing = standing_start (seat_of c.args.start.seat.now) c.args.start.pc c.args.start.left (g.W.World.kept c.args.world.now) (open_of c.fresh-opened.result) c.requires.at c.fresh-opened.ensures;
   so_far = record {
     by = λ serving serves first origin s stands.
-        so_far_start serving (seat_of c.args.seat.now) c.args.at c.args.left s (g.W.World.reached first origin c.args.world.now) (g.W.World.replies c.args.world.now) (open_of c.fresh-open.result) c.fresh-open.ensures stands;
+        so_far_start serving (seat_of c.args.start.seat.now) c.args.start.pc c.args.start.left s (g.W.World.reached first origin c.args.world.now) (g.W.World.replies c.args.world.now) (open_of c.fresh-opened.result) c.fresh-opened.ensures stands;
   };
 }
 
 pub turn::run_code-cell_of-cell-requires : goal.turn::run_code-cell_of-cell-requires
 turn::run_code-cell_of-cell-requires g t c =
-    let seat = seat_of c.args.seat.now in
-    let there = within_code seat c.loop-op.pc (g.W.World.kept c.loop-op.world) (open_of c.loop-op.open) c.loop-op.invariant.standing in
+    let seat = seat_of c.args.start.seat.now in
+    let there = within_code seat c.loop-op.pc (g.W.World.kept c.loop-op.world) (open_of c.loop-op.opened) c.loop-op.invariant.standing in
     record { within = subst (λ (cells : List Cell). c.loop-op.pc < length cells) (sym c.code-code.ensures) there }
 
 pub turn::run_code-turn-requires : goal.turn::run_code-turn-requires
 turn::run_code-turn-requires g t c κs within =
-    let seat = seat_of c.args.seat.now in
+    let seat = seat_of c.args.start.seat.now in
     let inv = c.loop-op.invariant in
-    let left : c.loop-op.open.left ≡ c.args.left = inv.left in
+    let left : c.loop-op.opened.left ≡ c.args.start.left = inv.left in
     let here = cell_at (code_of seat) c.code-code.result.now c.loop-op.pc c.cell_of-cell.result.now c.code-code.ensures c.cell_of-cell.ensures.cell in
     let counted : length (code_of seat) < 2 ^ 64 = subst (λ (cells : List Cell). length cells < 2 ^ 64) c.code-code.ensures c.cell_of-cell.ensures.counted in
     search rules
 
 pub turn::run_code-loop-op-preserved-in-Go : goal.turn::run_code-loop-op-preserved-in-Go
 turn::run_code-loop-op-preserved-in-Go g t c =
-    let seat = seat_of c.args.seat.now in
-    let o = open_of c.loop-op.open in
-    let o2 = open_of c.turn.new.open in
+    let seat = seat_of c.args.start.seat.now in
+    let o = open_of c.loop-op.opened in
+    let o2 = open_of c.turn.new.opened in
     let inv = c.loop-op.invariant in
     let laws = g.met.W.World in
     let kept = behind_turn laws.stores_on laws.again laws.tells c.args.served.now seat c.requires.seat c.loop-op.pc c.in-Go.to o o2 c.loop-op.world c.turn.new.world inv.known c.in-Go.ensures.stepped
-    c.args.at c.args.left c.args.world.now c.requires.known inv.holds inv.standing inv.so_far in
+    c.args.start.pc c.args.start.left c.args.world.now c.requires.known inv.holds inv.standing inv.so_far in
     record {
       left = c.turn.ensures.left ∙ inv.left;
       covered = c.turn.ensures.covered;
@@ -108,21 +109,21 @@ turn::run_code-loop-op-preserved-in-Go g t c =
 pub turn::run_code-loop-op-smaller-in-Go : goal.turn::run_code-loop-op-smaller-in-Go
 turn::run_code-loop-op-smaller-in-Go g t c =
     let laws = g.met.W.World in
-    loop_nearer laws.stores_on laws.again laws.tells c.args.served.now (seat_of c.args.seat.now) c.requires.seat c.loop-op.pc c.in-Go.to (open_of c.loop-op.open) (open_of c.turn.new.open) c.loop-op.world
+    loop_nearer laws.stores_on laws.again laws.tells c.args.served.now (seat_of c.args.start.seat.now) c.requires.seat c.loop-op.pc c.in-Go.to (open_of c.loop-op.opened) (open_of c.turn.new.opened) c.loop-op.world
     c.turn.new.world c.loop-op.invariant.known c.in-Go.ensures.stepped c.loop-op.invariant.standing
 
 pub turn::run_code-returns-in-Over-clause-ran : goal.turn::run_code-returns-in-Over-clause-ran
 turn::run_code-returns-in-Over-clause-ran g t c =
     let laws = g.met.W.World in
-    over_with laws.stores_on laws.again c.args.served.now (seat_of c.args.seat.now) c.args.at c.args.left c.args.world.now c.loop-op.world c.loop-op.pc (open_of c.loop-op.open) c.requires.known
-    c.loop-op.invariant.so_far c.turn.new.world (open_of c.turn.new.open) c.in-Over.end c.in-Over.ensures.stepped
+    over_with laws.stores_on laws.again c.args.served.now (seat_of c.args.start.seat.now) c.args.start.pc c.args.start.left c.args.world.now c.loop-op.world c.loop-op.pc (open_of c.loop-op.opened) c.requires.known
+    c.loop-op.invariant.so_far c.turn.new.world (open_of c.turn.new.opened) c.in-Over.end c.in-Over.ensures.stepped
 
 -- a frequent operation of it
 
 pub turn::run_code-quick-requires : goal.turn::run_code-quick-requires
 turn::run_code-quick-requires g t c =
-    let seat = seat_of c.args.seat.now in
-    let o = open_of c.loop-op.open in
+    let seat = seat_of c.args.start.seat.now in
+    let o = open_of c.loop-op.opened in
     let cell = c.cell_of-cell.result.now in
     let here = cell_at (code_of seat) c.code-code.result.now c.loop-op.pc cell c.code-code.ensures c.cell_of-cell.ensures.cell in
     let inv = c.loop-op.invariant in
@@ -132,16 +133,16 @@ turn::run_code-quick-requires g t c =
 
 pub turn::run_code-loop-op-preserved-in-Ok : goal.turn::run_code-loop-op-preserved-in-Ok
 turn::run_code-loop-op-preserved-in-Ok g t c =
-    let seat = seat_of c.args.seat.now in
-    let o = open_of c.loop-op.open in
-    let o2 = open_of c.quick.new.open in
+    let seat = seat_of c.args.start.seat.now in
+    let o = open_of c.loop-op.opened in
+    let o2 = open_of c.quick.new.opened in
     let cell = c.cell_of-cell.result.now in
     let here = cell_at (code_of seat) c.code-code.result.now c.loop-op.pc cell c.code-code.ensures c.cell_of-cell.ensures.cell in
     let inv = c.loop-op.invariant in
     let laws = g.met.W.World in
     let kept = behind_turn laws.stores_on laws.again laws.tells c.args.served.now seat c.requires.seat c.loop-op.pc (c.loop-op.pc + 1) o o2 c.loop-op.world c.quick.new.world inv.known
     (went_on seat c.loop-op.pc o cell c.in-Some.op.now here c.in-Some.ensures.0 c.loop-op.world c.quick.new.world o2 tt c.in-Ok.ensures.lands)
-    c.args.at c.args.left c.args.world.now c.requires.known inv.holds inv.standing inv.so_far in
+    c.args.start.pc c.args.start.left c.args.world.now c.requires.known inv.holds inv.standing inv.so_far in
     record {
       left = c.quick.ensures.left ∙ inv.left;
       covered = c.quick.ensures.covered;
@@ -154,9 +155,9 @@ turn::run_code-loop-op-preserved-in-Ok g t c =
 
 pub turn::run_code-loop-op-smaller-in-Ok : goal.turn::run_code-loop-op-smaller-in-Ok
 turn::run_code-loop-op-smaller-in-Ok g t c =
-    let seat = seat_of c.args.seat.now in
-    let o = open_of c.loop-op.open in
-    let o2 = open_of c.quick.new.open in
+    let seat = seat_of c.args.start.seat.now in
+    let o = open_of c.loop-op.opened in
+    let o2 = open_of c.quick.new.opened in
     let cell = c.cell_of-cell.result.now in
     let here = cell_at (code_of seat) c.code-code.result.now c.loop-op.pc cell c.code-code.ensures c.cell_of-cell.ensures.cell in
     let inv = c.loop-op.invariant in
@@ -166,10 +167,10 @@ turn::run_code-loop-op-smaller-in-Ok g t c =
 
 pub turn::run_code-loop-op-preserved : goal.turn::run_code-loop-op-preserved
 turn::run_code-loop-op-preserved g t c =
-    let seat = seat_of c.args.seat.now in
-    let o = open_of c.loop-op.open in
-    let mid = open_of c.quick.new.open in
-    let o2 = open_of c.fail.new.open in
+    let seat = seat_of c.args.start.seat.now in
+    let o = open_of c.loop-op.opened in
+    let mid = open_of c.quick.new.opened in
+    let o2 = open_of c.fail.new.opened in
     let to = c.in-Go-fail.to in
     let cell = c.cell_of-cell.result.now in
     let here = cell_at (code_of seat) c.code-code.result.now c.loop-op.pc cell c.code-code.ensures c.cell_of-cell.ensures.cell in
@@ -178,7 +179,7 @@ turn::run_code-loop-op-preserved g t c =
     let kept = behind_turn laws.stores_on laws.again laws.tells c.args.served.now seat c.requires.seat c.loop-op.pc to o o2 c.loop-op.world c.fail.new.world inv.known
     (fell_off seat c.loop-op.pc o cell c.in-Some.op.now here c.in-Some.ensures.0 c.loop-op.world c.quick.new.world mid c.in-Err.failed c.fail.new.world o2 (flows.Go to) c.in-Err.ensures.lands
     c.in-Go-fail.ensures.acted c.in-Go-fail.ensures.short)
-    c.args.at c.args.left c.args.world.now c.requires.known inv.holds inv.standing inv.so_far in
+    c.args.start.pc c.args.start.left c.args.world.now c.requires.known inv.holds inv.standing inv.so_far in
     record {
       left = c.fail.ensures.left ∙ c.quick.ensures.left ∙ inv.left;
       covered = c.fail.ensures.covered;
@@ -191,10 +192,10 @@ turn::run_code-loop-op-preserved g t c =
 
 pub turn::run_code-loop-op-smaller : goal.turn::run_code-loop-op-smaller
 turn::run_code-loop-op-smaller g t c =
-    let seat = seat_of c.args.seat.now in
-    let o = open_of c.loop-op.open in
-    let mid = open_of c.quick.new.open in
-    let o2 = open_of c.fail.new.open in
+    let seat = seat_of c.args.start.seat.now in
+    let o = open_of c.loop-op.opened in
+    let mid = open_of c.quick.new.opened in
+    let o2 = open_of c.fail.new.opened in
     let to = c.in-Go-fail.to in
     let cell = c.cell_of-cell.result.now in
     let here = cell_at (code_of seat) c.code-code.result.now c.loop-op.pc cell c.code-code.ensures c.cell_of-cell.ensures.cell in
@@ -206,15 +207,15 @@ turn::run_code-loop-op-smaller g t c =
 
 pub turn::run_code-returns-in-Over-fail-clause-ran : goal.turn::run_code-returns-in-Over-fail-clause-ran
 turn::run_code-returns-in-Over-fail-clause-ran g t c =
-    let seat = seat_of c.args.seat.now in
-    let o = open_of c.loop-op.open in
-    let mid = open_of c.quick.new.open in
-    let o2 = open_of c.fail.new.open in
+    let seat = seat_of c.args.start.seat.now in
+    let o = open_of c.loop-op.opened in
+    let mid = open_of c.quick.new.opened in
+    let o2 = open_of c.fail.new.opened in
     let end = c.in-Over-fail.end in
     let cell = c.cell_of-cell.result.now in
     let here = cell_at (code_of seat) c.code-code.result.now c.loop-op.pc cell c.code-code.ensures c.cell_of-cell.ensures.cell in
     let laws = g.met.W.World in
-    over_with laws.stores_on laws.again c.args.served.now seat c.args.at c.args.left c.args.world.now c.loop-op.world c.loop-op.pc o c.requires.known c.loop-op.invariant.so_far c.fail.new.world o2 end
+    over_with laws.stores_on laws.again c.args.served.now seat c.args.start.pc c.args.start.left c.args.world.now c.loop-op.world c.loop-op.pc o c.requires.known c.loop-op.invariant.so_far c.fail.new.world o2 end
     (fell_off seat c.loop-op.pc o cell c.in-Some.op.now here c.in-Some.ensures.0 c.loop-op.world c.quick.new.world mid c.in-Err.failed c.fail.new.world o2 (flows.Over end) c.in-Err.ensures.lands
     c.in-Over-fail.ensures.acted c.in-Over-fail.ensures.short)
 
@@ -222,73 +223,73 @@ turn::run_code-returns-in-Over-fail-clause-ran g t c =
 
 pub turn::turn-call_out-requires : goal.turn::turn-call_out-requires
 turn::turn-call_out-requires g t c κs within =
-    let seat = seat_of c.args.seat.now in
-    let o = open_of c.args.open.now in
-    let cell = c.args.cell.now in
-    let begins = begins_at seat c.requires.seat c.args.pc cell c.in-CallOut.what c.requires.cell c.in-CallOut.is in
-    let finds = subst (Finds (length (code_of seat)) c.args.pc (g.W.World.kept c.args.world.now) o) c.in-CallOut.is
-    (finds_at g.met.W.World.tells c.args.served.now seat c.requires.seat c.args.pc o c.args.world.now c.requires.known c.requires.standing cell c.requires.cell) in
+    let seat = seat_at c.args.at.now in
+    let o = open_of c.args.opened.now in
+    let cell = c.args.at.now.cell.now in
+    let begins = begins_at seat c.requires.seat c.args.at.now.pc cell c.in-CallOut.what c.requires.cell c.in-CallOut.is in
+    let finds = subst (Finds (length (code_of seat)) c.args.at.now.pc (g.W.World.kept c.args.world.now) o) c.in-CallOut.is
+    (finds_at g.met.W.World.tells c.args.at.now.served.now seat c.requires.seat c.args.at.now.pc o c.args.world.now c.requires.known c.requires.standing cell c.requires.cell) in
     search rules
 
 pub turn::turn-returns-in-CallOut-clause-stepped : goal.turn::turn-returns-in-CallOut-clause-stepped
 turn::turn-returns-in-CallOut-clause-stepped g t c =
-    let seat = seat_of c.args.seat.now in
-    let o = open_of c.args.open.now in
-    let cell = c.args.cell.now in
-    stepped_as seat (λ serving s. move_of serving seat c.args.pc s o) (λ serving s. called_out serving seat cell.place (c.args.pc + 1) c.in-CallOut.what s o) c.args.world.now c.call_out.new.world
-    (open_of c.call_out.new.open) c.call_out.result (λ serving h s. move_is serving seat c.args.pc s o cell (instr.CallOut c.in-CallOut.what) c.requires.cell c.in-CallOut.is) c.call_out.ensures.stepped
+    let seat = seat_at c.args.at.now in
+    let o = open_of c.args.opened.now in
+    let cell = c.args.at.now.cell.now in
+    stepped_as seat (λ serving s. move_of serving seat c.args.at.now.pc s o) (λ serving s. called_out serving seat cell.place (c.args.at.now.pc + 1) c.in-CallOut.what s o) c.args.world.now c.call_out.new.world
+    (open_of c.call_out.new.opened) c.call_out.result (λ serving h s. move_is serving seat c.args.at.now.pc s o cell (instr.CallOut c.in-CallOut.what) c.requires.cell c.in-CallOut.is) c.call_out.ensures.stepped
 
 pub turn::turn-step-requires : goal.turn::turn-step-requires
 turn::turn-step-requires g t c =
-    let seat = seat_of c.args.seat.now in
-    let o = open_of c.args.open.now in
-    let cell = c.args.cell.now in
-    let finds = finds_at g.met.W.World.tells c.args.served.now seat c.requires.seat c.args.pc o c.args.world.now c.requires.known c.requires.standing cell c.requires.cell in
+    let seat = seat_at c.args.at.now in
+    let o = open_of c.args.opened.now in
+    let cell = c.args.at.now.cell.now in
+    let finds = finds_at g.met.W.World.tells c.args.at.now.served.now seat c.requires.seat c.args.at.now.pc o c.args.world.now c.requires.known c.requires.standing cell c.requires.cell in
     let simple = simple_of cell.instr c.in_default.not-CallOut in
     search rules
 
 pub turn::turn-returns-in_default-clause-stepped : goal.turn::turn-returns-in_default-clause-stepped
 turn::turn-returns-in_default-clause-stepped g t c =
-    let seat = seat_of c.args.seat.now in
-    let o = open_of c.args.open.now in
-    let cell = c.args.cell.now in
-    acted_stepped seat (λ serving s. move_of serving seat c.args.pc s o) c.args.world.now c.step.new.world (open_of c.step.new.open) c.step.result
+    let seat = seat_at c.args.at.now in
+    let o = open_of c.args.opened.now in
+    let cell = c.args.at.now.cell.now in
+    acted_stepped seat (λ serving s. move_of serving seat c.args.at.now.pc s o) c.args.world.now c.step.new.world (open_of c.step.new.opened) c.step.result
     (λ serving h.
-    acted_as (λ s. move_of serving seat c.args.pc s o) (λ s. act serving seat cell.place c.args.pc s o cell.instr) c.args.world.now c.step.new.world (open_of c.step.new.open) c.step.result
-    (λ s. move_is serving seat c.args.pc s o cell cell.instr c.requires.cell refl) (c.step.ensures.acted.for serving h))
+    acted_as (λ s. move_of serving seat c.args.at.now.pc s o) (λ s. act serving seat cell.place c.args.at.now.pc s o cell.instr) c.args.world.now c.step.new.world (open_of c.step.new.opened) c.step.result
+    (λ s. move_is serving seat c.args.at.now.pc s o cell cell.instr c.requires.cell refl) (c.step.ensures.acted.for serving h))
 
 -- a call
 
 pub turn::call_out-returns-in-Tag-clause-stepped : goal.turn::call_out-returns-in-Tag-clause-stepped
 turn::call_out-returns-in-Tag-clause-stepped g t c =
-    call_as (seat_of c.args.seat.now) c.args.place.now (c.args.pc + 1) (open_of c.args.open.now) c.args.what.now (call.Tag c.in-Tag.call) c.args.world.now c.tag_call.new.world (open_of c.tag_call.new.open) c.tag_call.result
+    call_as (seat_at c.args.at.now) c.args.at.now.cell.now.place (c.args.at.now.pc + 1) (open_of c.args.opened.now) c.args.what.now (call.Tag c.in-Tag.call) c.args.world.now c.tag_call.new.world (open_of c.tag_call.new.opened) c.tag_call.result
     c.in-Tag.is c.tag_call.ensures.stepped
 
 pub turn::call_out-returns-in-Body-clause-stepped : goal.turn::call_out-returns-in-Body-clause-stepped
 turn::call_out-returns-in-Body-clause-stepped g t c =
-    call_as (seat_of c.args.seat.now) c.args.place.now (c.args.pc + 1) (open_of c.args.open.now) c.args.what.now call.Body c.args.world.now c.given_call.new.world (open_of c.given_call.new.open) c.given_call.result c.in-Body.is
+    call_as (seat_at c.args.at.now) c.args.at.now.cell.now.place (c.args.at.now.pc + 1) (open_of c.args.opened.now) c.args.what.now call.Body c.args.world.now c.given_call.new.world (open_of c.given_call.new.opened) c.given_call.result c.in-Body.is
     c.given_call.ensures.stepped
 
 pub turn::call_out-returns-in-Fragment-clause-stepped : goal.turn::call_out-returns-in-Fragment-clause-stepped
 turn::call_out-returns-in-Fragment-clause-stepped g t c =
-    call_as (seat_of c.args.seat.now) c.args.place.now (c.args.pc + 1) (open_of c.args.open.now) c.args.what.now (call.Fragment c.in-Fragment.name) c.args.world.now c.given_call-in-Fragment.new.world
-    (open_of c.given_call-in-Fragment.new.open) c.given_call-in-Fragment.result c.in-Fragment.is c.given_call-in-Fragment.ensures.stepped
+    call_as (seat_at c.args.at.now) c.args.at.now.cell.now.place (c.args.at.now.pc + 1) (open_of c.args.opened.now) c.args.what.now (call.Fragment c.in-Fragment.name) c.args.world.now c.given_call-in-Fragment.new.world
+    (open_of c.given_call-in-Fragment.new.opened) c.given_call-in-Fragment.result c.in-Fragment.is c.given_call-in-Fragment.ensures.stepped
 
 pub turn::call_out-returns-in-Include-clause-stepped : goal.turn::call_out-returns-in-Include-clause-stepped
 turn::call_out-returns-in-Include-clause-stepped g t c =
-    call_as (seat_of c.args.seat.now) c.args.place.now (c.args.pc + 1) (open_of c.args.open.now) c.args.what.now (call.Include c.in-Include.flush c.in-Include.params) c.args.world.now c.include_call.new.world
-    (open_of c.include_call.new.open) c.include_call.result c.in-Include.is c.include_call.ensures.stepped
+    call_as (seat_at c.args.at.now) c.args.at.now.cell.now.place (c.args.at.now.pc + 1) (open_of c.args.opened.now) c.args.what.now (call.Include c.in-Include.flush c.in-Include.params) c.args.world.now c.include_call.new.world
+    (open_of c.include_call.new.opened) c.include_call.result c.in-Include.is c.include_call.ensures.stepped
 
 pub turn::call_out-returns-in-Import-clause-stepped : goal.turn::call_out-returns-in-Import-clause-stepped
 turn::call_out-returns-in-Import-clause-stepped g t c =
-    call_as (seat_of c.args.seat.now) c.args.place.now (c.args.pc + 1) (open_of c.args.open.now) c.args.what.now call.Import c.args.world.now c.import_call.new.world (open_of c.import_call.new.open) c.import_call.result
+    call_as (seat_at c.args.at.now) c.args.at.now.cell.now.place (c.args.at.now.pc + 1) (open_of c.args.opened.now) c.args.what.now call.Import c.args.world.now c.import_call.new.world (open_of c.import_call.new.opened) c.import_call.result
     c.in-Import.is c.import_call.ensures.stepped
 
 -- the run of a page
 
 pub pages::page_run-returns-in_default-clause-ran : goal.pages::page_run-returns-in_default-clause-ran
 pages::page_run-returns-in_default-clause-ran g t c =
-    page_failed no_place (program_of c.args.program.now) c.args.params.now c.args.left c.args.world.now c.begin_page.new.world c.in_default.field-0 c.in_default.ensures.does
+    page_failed no_place (program_of c.args.start.program.now) c.args.start.params.now c.args.start.left c.args.world.now c.begin_page.new.world c.in_default.field-0 c.in_default.ensures.does
 
 pub pages::page_run-run_code-requires : goal.pages::page_run-run_code-requires
 pages::page_run-run_code-requires g t c κs within =
@@ -296,31 +297,31 @@ pages::page_run-run_code-requires g t c κs within =
     let tags = subst (λ xs. TagsFit (map tag_of xs)) c.as_slice.ensures c.know_tags.ensures in
     let fits = c.code.ensures.fits in
     let first = fits.0 in
-    let records = c.none-records.ensures c.args.served.now.request.now c.args.params.now in
+    let records = c.none-records.ensures c.args.served.now.request.now c.args.start.params.now in
     search rules
 
 pub pages::page_run-returns-clause-ran : goal.pages::page_run-returns-clause-ran
 pages::page_run-returns-clause-ran g t c =
-    ran_page no_place (program_of c.args.program.now) c.args.params.now c.args.left c.args.world.now c.begin_page.new.world c.run_code.new.world c.run_code.result c.in-Ok.ensures.does
+    ran_page no_place (program_of c.args.start.program.now) c.args.start.params.now c.args.start.left c.args.world.now c.begin_page.new.world c.run_code.new.world c.run_code.result c.in-Ok.ensures.does
     (λ serving h. serves_done g.met.W.World.stores_on g.met.W.World.again c.args.served.now c.args.world.now c.begin_page.new.world (Ok tt) serving c.requires.known c.in-Ok.ensures.does h) c.run_code.ensures.ran
 
 -- an included page
 
 pub pages::included_page-returns-in_default-clause-stepped : goal.pages::included_page-returns-in_default-clause-stepped
 pages::included_page-returns-in_default-clause-stepped g t c =
-    λ seat.
-    let o = open_of c.args.open.now in
-    let program = program_of c.args.program.now in
-    acted_stepped seat (λ serving s. included_run c.args.place.now program c.args.params.now c.args.left (c.args.pc + 1) s o) c.args.world.now c.push_frame.new.self o (flows.Over ends.NoMemory)
+    let seat = seat_at c.args.at.now in
+    let o = open_of c.args.opened.now in
+    let program = program_of c.args.start.program.now in
+    acted_stepped seat (λ serving s. included_run c.args.at.now.cell.now.place program c.args.start.params.now c.args.start.left (c.args.at.now.pc + 1) s o) c.args.world.now c.push_frame.new.self o (flows.Over ends.NoMemory)
     (λ serving h.
-    acted_spent (λ s. included_run c.args.place.now program c.args.params.now c.args.left (c.args.pc + 1) s o) c.args.world.now c.push_frame.new.self o
-    (λ s. included_run_grows c.args.place.now program c.args.params.now c.args.left (c.args.pc + 1) s o) c.in_default.ensures.err c.push_frame.ensures.replies)
+    acted_spent (λ s. included_run c.args.at.now.cell.now.place program c.args.start.params.now c.args.start.left (c.args.at.now.pc + 1) s o) c.args.world.now c.push_frame.new.self o
+    (λ s. included_run_grows c.args.at.now.cell.now.place program c.args.start.params.now c.args.start.left (c.args.at.now.pc + 1) s o) c.in_default.ensures.err c.push_frame.ensures.replies)
 
 pub pages::included_page-page_run-requires : goal.pages::included_page-page_run-requires
 pages::included_page-page_run-requires g t c κs within =
     let laws = g.met.W.World in
     let counted = c.frames-frames.ensures ∙ ap (λ v. length v.frames) c.scopes.ensures in
-    let known = included_known g.W.World.replies laws.stores_on laws.again laws.tells c.args.served.now (program_of c.args.program.now) c.args.params.now c.args.left c.frame-frame.result c.frames-frames.result c.args.world.now c.push_frame.new.self c.args.world.now
+    let known = included_known g.W.World.replies laws.stores_on laws.again laws.tells c.args.at.now.served.now (program_of c.args.start.program.now) c.args.start.params.now c.args.start.left c.frame-frame.result c.frames-frames.result c.args.world.now c.push_frame.new.self c.args.world.now
     c.requires.known c.in-Ok.ensures.ok c.push_frame.ensures.replies c.frame-frame.ensures.current counted in
     search rules
 
@@ -328,7 +329,7 @@ pub pages::included_page-go_back-requires : goal.pages::included_page-go_back-re
 pages::included_page-go_back-requires g t c =
     let laws = g.met.W.World in
     let counted = c.frames-frames.ensures ∙ ap (λ v. length v.frames) c.scopes.ensures in
-    let room = included_room g.W.World.replies laws.stores_on laws.again laws.tells c.args.served.now (program_of c.args.program.now) c.args.params.now c.args.left c.frame-frame.result c.frames-frames.result c.args.world.now c.push_frame.new.self c.page_run.new.world
+    let room = included_room g.W.World.replies laws.stores_on laws.again laws.tells c.args.at.now.served.now (program_of c.args.start.program.now) c.args.start.params.now c.args.start.left c.frame-frame.result c.frames-frames.result c.args.world.now c.push_frame.new.self c.page_run.new.world
     c.requires.known c.in-Ok.ensures.ok c.push_frame.ensures.replies c.frame-frame.ensures.current counted ends.Normal (λ x. Well tt x) normal_is (λ n t h. h) c.in-Normal.ensures.ran in
     let there : c.frame-frame.result < c.frames-frames.result = omega (arith, c.frame-frame.ensures.there, counted) in
     search rules
@@ -337,7 +338,7 @@ pub pages::included_page-go_back-requires-in-Raised : goal.pages::included_page-
 pages::included_page-go_back-requires-in-Raised g t c =
     let laws = g.met.W.World in
     let counted = c.frames-frames.ensures ∙ ap (λ v. length v.frames) c.scopes.ensures in
-    let room = included_room g.W.World.replies laws.stores_on laws.again laws.tells c.args.served.now (program_of c.args.program.now) c.args.params.now c.args.left c.frame-frame.result c.frames-frames.result c.args.world.now c.push_frame.new.self c.page_run.new.world
+    let room = included_room g.W.World.replies laws.stores_on laws.again laws.tells c.args.at.now.served.now (program_of c.args.start.program.now) c.args.start.params.now c.args.start.left c.frame-frame.result c.frames-frames.result c.args.world.now c.push_frame.new.self c.page_run.new.world
     c.requires.known c.in-Ok.ensures.ok c.push_frame.ensures.replies c.frame-frame.ensures.current counted (ends.Raised c.in-Raised.fault c.in-Raised.place) (λ x. Raised c.in-Raised.fault c.in-Raised.place x) (raised_is c.in-Raised.fault c.in-Raised.place) (λ n t h. h) c.in-Raised.ensures.ran in
     let there : c.frame-frame.result < c.frames-frames.result = omega (arith, c.frame-frame.ensures.there, counted) in
     search rules
@@ -346,7 +347,7 @@ pub pages::included_page-go_back-requires-in-Redirect : goal.pages::included_pag
 pages::included_page-go_back-requires-in-Redirect g t c =
     let laws = g.met.W.World in
     let counted = c.frames-frames.ensures ∙ ap (λ v. length v.frames) c.scopes.ensures in
-    let room = included_left g.W.World.replies laws.stores_on laws.again laws.tells c.args.served.now (program_of c.args.program.now) c.args.params.now c.args.left c.frame-frame.result c.frames-frames.result c.args.world.now c.push_frame.new.self c.page_run.new.world
+    let room = included_left g.W.World.replies laws.stores_on laws.again laws.tells c.args.at.now.served.now (program_of c.args.start.program.now) c.args.start.params.now c.args.start.left c.frame-frame.result c.frames-frames.result c.args.world.now c.push_frame.new.self c.page_run.new.world
     c.requires.known c.in-Ok.ensures.ok c.push_frame.ensures.replies c.frame-frame.ensures.current counted c.in-Redirect.field-0 c.bodies-bodies.result c.drop_bodies.new.self c.in-Redirect.ensures.ran c.drop_bodies.ensures.left in
     let there : c.frame-frame.result < c.frames-frames.result = omega (arith, c.frame-frame.ensures.there, counted) in
     search rules
@@ -355,25 +356,28 @@ pub pages::included_page-returns-in-Normal-clause-stepped : goal.pages::included
 pages::included_page-returns-in-Normal-clause-stepped g t c =
     let laws = g.met.W.World in
     let counted = c.frames-frames.ensures ∙ ap (λ v. length v.frames) c.scopes.ensures in
-    λ seat. included_on g.W.World.replies laws.stores_on laws.again laws.tells c.args.served.now (program_of c.args.program.now) c.args.params.now c.args.left c.frame-frame.result c.frames-frames.result c.args.world.now c.push_frame.new.self c.page_run.new.world
-    c.requires.known c.in-Ok.ensures.ok c.push_frame.ensures.replies c.frame-frame.ensures.current counted c.args.place.now (c.args.pc + 1) (open_of c.args.open.now) seat
+    let seat = seat_at c.args.at.now in
+    included_on g.W.World.replies laws.stores_on laws.again laws.tells c.args.at.now.served.now (program_of c.args.start.program.now) c.args.start.params.now c.args.start.left c.frame-frame.result c.frames-frames.result c.args.world.now c.push_frame.new.self c.page_run.new.world
+    c.requires.known c.in-Ok.ensures.ok c.push_frame.ensures.replies c.frame-frame.ensures.current counted c.args.at.now.cell.now.place (c.args.at.now.pc + 1) (open_of c.args.opened.now) seat
     c.go_back.new.self c.in-Normal.ensures.ran c.go_back.ensures.back c.go_back.ensures.replies
 
 pub pages::included_page-returns-in-Raised-clause-stepped : goal.pages::included_page-returns-in-Raised-clause-stepped
 pages::included_page-returns-in-Raised-clause-stepped g t c =
     let laws = g.met.W.World in
     let counted = c.frames-frames.ensures ∙ ap (λ v. length v.frames) c.scopes.ensures in
-    λ seat. included_thrown g.W.World.replies laws.stores_on laws.again laws.tells c.args.served.now (program_of c.args.program.now) c.args.params.now c.args.left c.frame-frame.result c.frames-frames.result c.args.world.now c.push_frame.new.self c.page_run.new.world
-    c.requires.known c.in-Ok.ensures.ok c.push_frame.ensures.replies c.frame-frame.ensures.current counted c.args.place.now (c.args.pc + 1) (open_of c.args.open.now) seat
-    c.in-Raised.fault c.in-Raised.place c.go_back-in-Raised.new.self c.throw.new.world (open_of c.throw.new.open) c.throw.result c.in-Raised.ensures.ran c.go_back-in-Raised.ensures.back c.go_back-in-Raised.ensures.replies
+    let seat = seat_at c.args.at.now in
+    included_thrown g.W.World.replies laws.stores_on laws.again laws.tells c.args.at.now.served.now (program_of c.args.start.program.now) c.args.start.params.now c.args.start.left c.frame-frame.result c.frames-frames.result c.args.world.now c.push_frame.new.self c.page_run.new.world
+    c.requires.known c.in-Ok.ensures.ok c.push_frame.ensures.replies c.frame-frame.ensures.current counted c.args.at.now.cell.now.place (c.args.at.now.pc + 1) (open_of c.args.opened.now) seat
+    c.in-Raised.fault c.in-Raised.place c.go_back-in-Raised.new.self c.throw.new.world (open_of c.throw.new.opened) c.throw.result c.in-Raised.ensures.ran c.go_back-in-Raised.ensures.back c.go_back-in-Raised.ensures.replies
     c.throw.ensures.acted
 
 pub pages::included_page-returns-in-Redirect-clause-stepped : goal.pages::included_page-returns-in-Redirect-clause-stepped
 pages::included_page-returns-in-Redirect-clause-stepped g t c =
     let laws = g.met.W.World in
     let counted = c.frames-frames.ensures ∙ ap (λ v. length v.frames) c.scopes.ensures in
-    λ seat. included_redirected g.W.World.replies laws.stores_on laws.again laws.tells c.args.served.now (program_of c.args.program.now) c.args.params.now c.args.left c.frame-frame.result c.frames-frames.result c.args.world.now c.push_frame.new.self c.page_run.new.world
-    c.requires.known c.in-Ok.ensures.ok c.push_frame.ensures.replies c.frame-frame.ensures.current counted c.args.place.now (c.args.pc + 1) (open_of c.args.open.now) seat
+    let seat = seat_at c.args.at.now in
+    included_redirected g.W.World.replies laws.stores_on laws.again laws.tells c.args.at.now.served.now (program_of c.args.start.program.now) c.args.start.params.now c.args.start.left c.frame-frame.result c.frames-frames.result c.args.world.now c.push_frame.new.self c.page_run.new.world
+    c.requires.known c.in-Ok.ensures.ok c.push_frame.ensures.replies c.frame-frame.ensures.current counted c.args.at.now.cell.now.place (c.args.at.now.pc + 1) (open_of c.args.opened.now) seat
     c.in-Redirect.field-0 c.bodies-bodies.result c.drop_bodies.new.self c.go_back-in-Redirect.new.self c.bodies-bodies.ensures c.in-Redirect.ensures.ran c.drop_bodies.ensures.left c.drop_bodies.ensures.replies
     c.go_back-in-Redirect.ensures.back c.go_back-in-Redirect.ensures.replies
 
@@ -381,127 +385,135 @@ pub pages::included_page-returns-in_default-page_run-clause-stepped : goal.pages
 pages::included_page-returns-in_default-page_run-clause-stepped g t c =
     let laws = g.met.W.World in
     let counted = c.frames-frames.ensures ∙ ap (λ v. length v.frames) c.scopes.ensures in
-    λ seat. included_over g.W.World.replies laws.stores_on laws.again laws.tells c.args.served.now (program_of c.args.program.now) c.args.params.now c.args.left c.frame-frame.result c.frames-frames.result c.args.world.now c.push_frame.new.self c.page_run.new.world
-    c.requires.known c.in-Ok.ensures.ok c.push_frame.ensures.replies c.frame-frame.ensures.current counted c.args.place.now (c.args.pc + 1) (open_of c.args.open.now) seat
+    let seat = seat_at c.args.at.now in
+    included_over g.W.World.replies laws.stores_on laws.again laws.tells c.args.at.now.served.now (program_of c.args.start.program.now) c.args.start.params.now c.args.start.left c.frame-frame.result c.frames-frames.result c.args.world.now c.push_frame.new.self c.page_run.new.world
+    c.requires.known c.in-Ok.ensures.ok c.push_frame.ensures.replies c.frame-frame.ensures.current counted c.args.at.now.cell.now.place (c.args.at.now.pc + 1) (open_of c.args.opened.now) seat
     c.page_run.result (λ l e. c.in_default-page_run.not-Redirect l e) (λ e. c.in_default-page_run.not-Normal e) (λ f p e. c.in_default-page_run.not-Raised f p e) c.page_run.ensures.ran
 
 -- an include of a target
 
 pub pages::include-returns-in-Err-clause-stepped : goal.pages::include-returns-in-Err-clause-stepped
-pages::include-returns-in-Err-clause-stepped g t c = λ seat.
-    let o = open_of c.args.open.now in
-    acted_stepped seat (λ serving s. include_found serving c.args.place.now c.args.found (c.args.pc + 1) s o) c.args.world.now c.fail.new.world (open_of c.fail.new.open) c.fail.result
+pages::include-returns-in-Err-clause-stepped g t c =
+    let seat = seat_at c.args.at.now in
+    let o = open_of c.args.opened.now in
+    acted_stepped seat (λ serving s. include_found serving c.args.at.now.cell.now.place c.args.found (c.args.at.now.pc + 1) s o) c.args.world.now c.fail.new.world (open_of c.fail.new.opened) c.fail.result
     (λ serving h.
-    acted_as (λ s. include_found serving c.args.place.now c.args.found (c.args.pc + 1) s o) (failing c.args.place.now o c.in-Err.failed) c.args.world.now c.fail.new.world (open_of c.fail.new.open) c.fail.result
-    (λ s. ap (λ f. include_found serving c.args.place.now f (c.args.pc + 1) s o) c.in-Err.is ∙ include_failed_is serving c.args.place.now c.in-Err.failed (c.args.pc + 1) s o) c.fail.ensures.acted)
+    acted_as (λ s. include_found serving c.args.at.now.cell.now.place c.args.found (c.args.at.now.pc + 1) s o) (failing c.args.at.now.cell.now.place o c.in-Err.failed) c.args.world.now c.fail.new.world (open_of c.fail.new.opened) c.fail.result
+    (λ s. ap (λ f. include_found serving c.args.at.now.cell.now.place f (c.args.at.now.pc + 1) s o) c.in-Err.is ∙ include_failed_is serving c.args.at.now.cell.now.place c.in-Err.failed (c.args.at.now.pc + 1) s o) c.fail.ensures.acted)
 
 pub pages::include-returns-in_default-clause-stepped : goal.pages::include-returns-in_default-clause-stepped
-pages::include-returns-in_default-clause-stepped g t c = λ seat.
-    let o = open_of c.args.open.now in
-    let none : c.args.open.now.left ≡ 0 = omega (arith, c.in_default.ensures) in
-    acted_stepped seat (λ serving s. include_found serving c.args.place.now c.args.found (c.args.pc + 1) s o) c.args.world.now c.throw.new.world (open_of c.throw.new.open) c.throw.result
+pages::include-returns-in_default-clause-stepped g t c =
+    let seat = seat_at c.args.at.now in
+    let o = open_of c.args.opened.now in
+    let none : c.args.opened.now.left ≡ 0 = omega (arith, c.in_default.ensures) in
+    acted_stepped seat (λ serving s. include_found serving c.args.at.now.cell.now.place c.args.found (c.args.at.now.pc + 1) s o) c.args.world.now c.throw.new.world (open_of c.throw.new.opened) c.throw.result
     (λ serving h.
-    acted_as (λ s. include_found serving c.args.place.now c.args.found (c.args.pc + 1) s o) (λ s. On (thrown fault.TooDeep c.args.place.now s o)) c.args.world.now c.throw.new.world (open_of c.throw.new.open) c.throw.result
-    (λ s. ap (λ f. include_found serving c.args.place.now f (c.args.pc + 1) s o) c.in-Ok.is ∙ deeper_none c.args.place.now s o c.args.open.now.left _ none) c.throw.ensures.acted)
+    acted_as (λ s. include_found serving c.args.at.now.cell.now.place c.args.found (c.args.at.now.pc + 1) s o) (λ s. On (thrown fault.TooDeep c.args.at.now.cell.now.place s o)) c.args.world.now c.throw.new.world (open_of c.throw.new.opened) c.throw.result
+    (λ s. ap (λ f. include_found serving c.args.at.now.cell.now.place f (c.args.at.now.pc + 1) s o) c.in-Ok.is ∙ deeper_none c.args.at.now.cell.now.place s o c.args.opened.now.left _ none) c.throw.ensures.acted)
 
 pub pages::include-returns-in-Err-page-clause-stepped : goal.pages::include-returns-in-Err-page-clause-stepped
-pages::include-returns-in-Err-page-clause-stepped g t c = λ seat.
-    let o = open_of c.args.open.now in
-    let level : c.args.open.now.left ≡ suc c.in-Some.left = omega (arith, c.in-Some.ensures) in
-    stepped_as seat (λ serving s. include_found serving c.args.place.now c.args.found (c.args.pc + 1) s o)
-    (λ serving s. include_path serving c.args.place.now c.in-Ok.target.params c.in-Ok.target.path (c.args.pc + 1) s o) c.args.world.now c.fail-in-Err-page.new.world (open_of c.fail-in-Err-page.new.open)
-    c.fail-in-Err-page.result (λ serving h s. ap (λ f. include_found serving c.args.place.now f (c.args.pc + 1) s o) c.in-Ok.is)
-    (path_failed c.args.place.now (c.args.pc + 1) c.in-Some.left c.in-Ok.target.params c.in-Ok.target.path o level seat c.args.world.now c.page.new.self c.fail-in-Err-page.new.world c.in-Err-page.failed
-    (open_of c.fail-in-Err-page.new.open) c.fail-in-Err-page.result (λ serving h. c.in-Err-page.ensures.does serving h.stored) c.fail-in-Err-page.ensures.acted c.fail-in-Err-page.ensures.short)
+pages::include-returns-in-Err-page-clause-stepped g t c =
+    let seat = seat_at c.args.at.now in
+    let o = open_of c.args.opened.now in
+    let level : c.args.opened.now.left ≡ suc c.in-Some.left = omega (arith, c.in-Some.ensures) in
+    stepped_as seat (λ serving s. include_found serving c.args.at.now.cell.now.place c.args.found (c.args.at.now.pc + 1) s o)
+    (λ serving s. include_path serving c.args.at.now.cell.now.place c.in-Ok.target.params c.in-Ok.target.path (c.args.at.now.pc + 1) s o) c.args.world.now c.fail-in-Err-page.new.world (open_of c.fail-in-Err-page.new.opened)
+    c.fail-in-Err-page.result (λ serving h s. ap (λ f. include_found serving c.args.at.now.cell.now.place f (c.args.at.now.pc + 1) s o) c.in-Ok.is)
+    (path_failed c.args.at.now.cell.now.place (c.args.at.now.pc + 1) c.in-Some.left c.in-Ok.target.params c.in-Ok.target.path o level seat c.args.world.now c.page.new.self c.fail-in-Err-page.new.world c.in-Err-page.failed
+    (open_of c.fail-in-Err-page.new.opened) c.fail-in-Err-page.result (λ serving h. c.in-Err-page.ensures.does serving h.stored) c.fail-in-Err-page.ensures.acted c.fail-in-Err-page.ensures.short)
 
 pub pages::include-included_page-requires : goal.pages::include-included_page-requires
 pages::include-included_page-requires g t c κs within =
     let k = c.requires.known in
-    let known = known_done g.met.W.World.stores_on g.met.W.World.again c.args.served.now c.args.world.now c.page.new.self (Ok c.in-Ok-page.paged) k (c.in-Ok-page.ensures.does k.serving k.serves.stored) in
-    let level : c.args.open.now.left ≡ suc c.in-Some.left = omega (arith, c.in-Some.ensures) in
+    let known = known_done g.met.W.World.stores_on g.met.W.World.again c.args.at.now.served.now c.args.world.now c.page.new.self (Ok c.in-Ok-page.paged) k (c.in-Ok-page.ensures.does k.serving k.serves.stored) in
+    let level : c.args.opened.now.left ≡ suc c.in-Some.left = omega (arith, c.in-Some.ensures) in
     search rules
 
 pub pages::include-returns-in-Page-clause-stepped : goal.pages::include-returns-in-Page-clause-stepped
-pages::include-returns-in-Page-clause-stepped g t c = λ seat.
-    let o = open_of c.args.open.now in
+pages::include-returns-in-Page-clause-stepped g t c =
+    let seat = seat_at c.args.at.now in
+    let o = open_of c.args.opened.now in
     let k = c.requires.known in
-    let level : c.args.open.now.left ≡ suc c.in-Some.left = omega (arith, c.in-Some.ensures) in
-    stepped_as seat (λ serving s. include_found serving c.args.place.now c.args.found (c.args.pc + 1) s o)
-    (λ serving s. include_path serving c.args.place.now c.in-Ok.target.params c.in-Ok.target.path (c.args.pc + 1) s o) c.args.world.now c.included_page.new.world (open_of c.included_page.new.open) c.included_page.result
-    (λ serving h s. ap (λ f. include_found serving c.args.place.now f (c.args.pc + 1) s o) c.in-Ok.is)
-    (path_page c.args.place.now (c.args.pc + 1) c.in-Some.left c.in-Ok.target.params c.in-Ok.target.path o level seat c.in-Ok-page.paged c.args.world.now c.page.new.self
-    (λ serving h. c.in-Ok-page.ensures.does serving h.stored) (program_of c.deref.result.now) c.included_page.new.world (open_of c.included_page.new.open) c.included_page.result
+    let level : c.args.opened.now.left ≡ suc c.in-Some.left = omega (arith, c.in-Some.ensures) in
+    stepped_as seat (λ serving s. include_found serving c.args.at.now.cell.now.place c.args.found (c.args.at.now.pc + 1) s o)
+    (λ serving s. include_path serving c.args.at.now.cell.now.place c.in-Ok.target.params c.in-Ok.target.path (c.args.at.now.pc + 1) s o) c.args.world.now c.included_page.new.world (open_of c.included_page.new.opened) c.included_page.result
+    (λ serving h s. ap (λ f. include_found serving c.args.at.now.cell.now.place f (c.args.at.now.pc + 1) s o) c.in-Ok.is)
+    (path_page c.args.at.now.cell.now.place (c.args.at.now.pc + 1) c.in-Some.left c.in-Ok.target.params c.in-Ok.target.path o level seat c.in-Ok-page.paged c.args.world.now c.page.new.self
+    (λ serving h. c.in-Ok-page.ensures.does serving h.stored) (program_of c.deref.result.now) c.included_page.new.world (open_of c.included_page.new.opened) c.included_page.result
     (λ serving h. sym (c.in-Ok-page.ensures.found serving h.stored) ∙ ap stored_of c.in-Page.is ∙ ap (λ p. good (program_of p)) (sym c.deref.ensures))
-    (λ serving h. serves_done g.met.W.World.stores_on g.met.W.World.again c.args.served.now c.args.world.now c.page.new.self (Ok c.in-Ok-page.paged) serving k (c.in-Ok-page.ensures.does k.serving k.serves.stored) h)
-    (stepped_as seat (λ serving s. included_run c.args.place.now (program_of c.deref.result.now) c.in-Ok.target.params c.in-Some.left (c.args.pc + 1) s o)
-    (λ serving s. included_run c.args.place.now (program_of c.deref.result.now) c.as_slice.result.now c.in-Some.left (c.args.pc + 1) s o) c.page.new.self c.included_page.new.world (open_of c.included_page.new.open)
-    c.included_page.result (λ serving h s. ap (λ ps. included_run c.args.place.now (program_of c.deref.result.now) ps c.in-Some.left (c.args.pc + 1) s o) (sym c.as_slice.ensures))
-    (c.included_page.ensures.stepped seat)))
+    (λ serving h. serves_done g.met.W.World.stores_on g.met.W.World.again c.args.at.now.served.now c.args.world.now c.page.new.self (Ok c.in-Ok-page.paged) serving k (c.in-Ok-page.ensures.does k.serving k.serves.stored) h)
+    (stepped_as seat (λ serving s. included_run c.args.at.now.cell.now.place (program_of c.deref.result.now) c.in-Ok.target.params c.in-Some.left (c.args.at.now.pc + 1) s o)
+    (λ serving s. included_run c.args.at.now.cell.now.place (program_of c.deref.result.now) c.as_slice.result.now c.in-Some.left (c.args.at.now.pc + 1) s o) c.page.new.self c.included_page.new.world (open_of c.included_page.new.opened)
+    c.included_page.result (λ serving h s. ap (λ ps. included_run c.args.at.now.cell.now.place (program_of c.deref.result.now) ps c.in-Some.left (c.args.at.now.pc + 1) s o) (sym c.as_slice.ensures))
+    c.included_page.ensures.stepped))
 
 pub pages::include-returns-in-Plain-clause-stepped : goal.pages::include-returns-in-Plain-clause-stepped
-pages::include-returns-in-Plain-clause-stepped g t c = λ seat.
-    let o = open_of c.args.open.now in
-    let level : c.args.open.now.left ≡ suc c.in-Some.left = omega (arith, c.in-Some.ensures) in
-    stepped_as seat (λ serving s. include_found serving c.args.place.now c.args.found (c.args.pc + 1) s o)
-    (λ serving s. include_path serving c.args.place.now c.in-Ok.target.params c.in-Ok.target.path (c.args.pc + 1) s o) c.args.world.now c.include_text.new.world (open_of c.include_text.new.open) c.include_text.result
-    (λ serving h s. ap (λ f. include_found serving c.args.place.now f (c.args.pc + 1) s o) c.in-Ok.is)
-    (path_on c.args.place.now (c.args.pc + 1) c.in-Some.left c.in-Ok.target.params c.in-Ok.target.path o level seat c.in-Ok-page.paged c.args.world.now c.page.new.self
-    (λ serving h. c.in-Ok-page.ensures.does serving h.stored) (plain c.in-Plain.text) c.include_text.new.world (open_of c.include_text.new.open) c.include_text.result
+pages::include-returns-in-Plain-clause-stepped g t c =
+    let seat = seat_at c.args.at.now in
+    let o = open_of c.args.opened.now in
+    let level : c.args.opened.now.left ≡ suc c.in-Some.left = omega (arith, c.in-Some.ensures) in
+    stepped_as seat (λ serving s. include_found serving c.args.at.now.cell.now.place c.args.found (c.args.at.now.pc + 1) s o)
+    (λ serving s. include_path serving c.args.at.now.cell.now.place c.in-Ok.target.params c.in-Ok.target.path (c.args.at.now.pc + 1) s o) c.args.world.now c.include_text.new.world (open_of c.include_text.new.opened) c.include_text.result
+    (λ serving h s. ap (λ f. include_found serving c.args.at.now.cell.now.place f (c.args.at.now.pc + 1) s o) c.in-Ok.is)
+    (path_on c.args.at.now.cell.now.place (c.args.at.now.pc + 1) c.in-Some.left c.in-Ok.target.params c.in-Ok.target.path o level seat c.in-Ok-page.paged c.args.world.now c.page.new.self
+    (λ serving h. c.in-Ok-page.ensures.does serving h.stored) (plain c.in-Plain.text) c.include_text.new.world (open_of c.include_text.new.opened) c.include_text.result
     (λ serving h. sym (c.in-Ok-page.ensures.found serving h.stored) ∙ ap stored_of c.in-Plain.is) c.include_text.ensures.acted)
 
 pub pages::include-returns-in-Absent-clause-stepped : goal.pages::include-returns-in-Absent-clause-stepped
-pages::include-returns-in-Absent-clause-stepped g t c = λ seat.
-    let o = open_of c.args.open.now in
-    let level : c.args.open.now.left ≡ suc c.in-Some.left = omega (arith, c.in-Some.ensures) in
-    stepped_as seat (λ serving s. include_found serving c.args.place.now c.args.found (c.args.pc + 1) s o)
-    (λ serving s. include_path serving c.args.place.now c.in-Ok.target.params c.in-Ok.target.path (c.args.pc + 1) s o) c.args.world.now c.page.new.self o (flows.Go (c.args.pc + 1))
-    (λ serving h s. ap (λ f. include_found serving c.args.place.now f (c.args.pc + 1) s o) c.in-Ok.is)
-    (path_on c.args.place.now (c.args.pc + 1) c.in-Some.left c.in-Ok.target.params c.in-Ok.target.path o level seat c.in-Ok-page.paged c.args.world.now c.page.new.self
-    (λ serving h. c.in-Ok-page.ensures.does serving h.stored) (absent) c.page.new.self o (flows.Go (c.args.pc + 1))
+pages::include-returns-in-Absent-clause-stepped g t c =
+    let seat = seat_at c.args.at.now in
+    let o = open_of c.args.opened.now in
+    let level : c.args.opened.now.left ≡ suc c.in-Some.left = omega (arith, c.in-Some.ensures) in
+    stepped_as seat (λ serving s. include_found serving c.args.at.now.cell.now.place c.args.found (c.args.at.now.pc + 1) s o)
+    (λ serving s. include_path serving c.args.at.now.cell.now.place c.in-Ok.target.params c.in-Ok.target.path (c.args.at.now.pc + 1) s o) c.args.world.now c.page.new.self o (flows.Go (c.args.at.now.pc + 1))
+    (λ serving h s. ap (λ f. include_found serving c.args.at.now.cell.now.place f (c.args.at.now.pc + 1) s o) c.in-Ok.is)
+    (path_on c.args.at.now.cell.now.place (c.args.at.now.pc + 1) c.in-Some.left c.in-Ok.target.params c.in-Ok.target.path o level seat c.in-Ok-page.paged c.args.world.now c.page.new.self
+    (λ serving h. c.in-Ok-page.ensures.does serving h.stored) (absent) c.page.new.self o (flows.Go (c.args.at.now.pc + 1))
     (λ serving h. sym (c.in-Ok-page.ensures.found serving h.stored) ∙ ap stored_of c.in-Absent.is)
-    (acted_on (λ s. included c.args.place.now c.in-Ok.target.params c.in-Some.left (absent) (c.args.pc + 1) s o) c.page.new.self o (c.args.pc + 1) (λ s. refl)))
+    (acted_on (λ s. included c.args.at.now.cell.now.place c.in-Ok.target.params c.in-Some.left (absent) (c.args.at.now.pc + 1) s o) c.page.new.self o (c.args.at.now.pc + 1) (λ s. refl)))
 
 pub pages::include-returns-clause-stepped : goal.pages::include-returns-clause-stepped
-pages::include-returns-clause-stepped g t c = λ seat.
-    let o = open_of c.args.open.now in
-    let level : c.args.open.now.left ≡ suc c.in-Some.left = omega (arith, c.in-Some.ensures) in
-    stepped_as seat (λ serving s. include_found serving c.args.place.now c.args.found (c.args.pc + 1) s o)
-    (λ serving s. include_path serving c.args.place.now c.in-Ok.target.params c.in-Ok.target.path (c.args.pc + 1) s o) c.args.world.now c.page.new.self o (flows.Go (c.args.pc + 1))
-    (λ serving h s. ap (λ f. include_found serving c.args.place.now f (c.args.pc + 1) s o) c.in-Ok.is)
-    (path_on c.args.place.now (c.args.pc + 1) c.in-Some.left c.in-Ok.target.params c.in-Ok.target.path o level seat c.in-Ok-page.paged c.args.world.now c.page.new.self
-    (λ serving h. c.in-Ok-page.ensures.does serving h.stored) (bad c.in-Bad.field-0) c.page.new.self o (flows.Go (c.args.pc + 1))
+pages::include-returns-clause-stepped g t c =
+    let seat = seat_at c.args.at.now in
+    let o = open_of c.args.opened.now in
+    let level : c.args.opened.now.left ≡ suc c.in-Some.left = omega (arith, c.in-Some.ensures) in
+    stepped_as seat (λ serving s. include_found serving c.args.at.now.cell.now.place c.args.found (c.args.at.now.pc + 1) s o)
+    (λ serving s. include_path serving c.args.at.now.cell.now.place c.in-Ok.target.params c.in-Ok.target.path (c.args.at.now.pc + 1) s o) c.args.world.now c.page.new.self o (flows.Go (c.args.at.now.pc + 1))
+    (λ serving h s. ap (λ f. include_found serving c.args.at.now.cell.now.place f (c.args.at.now.pc + 1) s o) c.in-Ok.is)
+    (path_on c.args.at.now.cell.now.place (c.args.at.now.pc + 1) c.in-Some.left c.in-Ok.target.params c.in-Ok.target.path o level seat c.in-Ok-page.paged c.args.world.now c.page.new.self
+    (λ serving h. c.in-Ok-page.ensures.does serving h.stored) (bad c.in-Bad.field-0) c.page.new.self o (flows.Go (c.args.at.now.pc + 1))
     (λ serving h. sym (c.in-Ok-page.ensures.found serving h.stored) ∙ ap stored_of c.in-Bad.is)
-    (acted_on (λ s. included c.args.place.now c.in-Ok.target.params c.in-Some.left (bad c.in-Bad.field-0) (c.args.pc + 1) s o) c.page.new.self o (c.args.pc + 1) (λ s. refl)))
+    (acted_on (λ s. included c.args.at.now.cell.now.place c.in-Ok.target.params c.in-Some.left (bad c.in-Bad.field-0) (c.args.at.now.pc + 1) s o) c.page.new.self o (c.args.at.now.pc + 1) (λ s. refl)))
 
 -- an include by an address
 
 pub pages::include_call-returns-in_default-clause-stepped : goal.pages::include_call-returns-in_default-clause-stepped
 pages::include_call-returns-in_default-clause-stepped g t c =
-    let o = open_of c.args.open.now in
-    include_unflushed c.args.place.now (c.args.pc + 1) (seat_of c.args.seat.now) o (with_stack (drop (address_with c.args.params) o.stack) o) (reverse (take (address_with c.args.params) o.stack)) c.args.flush c.args.params
+    let o = open_of c.args.opened.now in
+    include_unflushed c.args.at.now.cell.now.place (c.args.at.now.pc + 1) (seat_at c.args.at.now) o (with_stack (drop (address_with c.args.params) o.stack) o) (reverse (take (address_with c.args.params) o.stack)) c.args.flush c.args.params
     c.requires.filled refl refl c.args.world.now c.flush_if.new.world o c.in_default.ensures.err c.flush_if.ensures.replies
 
 pub pages::include_call-include-requires : goal.pages::include_call-include-requires
 pages::include_call-include-requires g t c κs within =
-    let known = known_changed g.met.W.World.stores_on g.met.W.World.again c.args.served.now c.args.world.now c.flush_if.new.world (flush_if c.args.flush) c.requires.known c.in-Ok.ensures.ok in
+    let known = known_changed g.met.W.World.stores_on g.met.W.World.again c.args.at.now.served.now c.args.world.now c.flush_if.new.world (flush_if c.args.flush) c.requires.known c.in-Ok.ensures.ok in
     search rules
 
 pub pages::include_call-returns-clause-stepped : goal.pages::include_call-returns-clause-stepped
 pages::include_call-returns-clause-stepped g t c =
-    let o = open_of c.args.open.now in
-    include_stepped c.args.place.now (c.args.pc + 1) (seat_of c.args.seat.now) o (with_stack c.drop_top.new.self o) (map datum_of c.top.result.now) c.args.flush c.args.params c.requires.filled
-    (ap (λ xs. with_stack xs o) c.drop_top.ensures) c.top.ensures c.args.world.now c.flush_if.new.world c.include.new.world c.find_target-found.result (open_of c.include.new.open) c.include.result c.find_target-found.ensures
+    let o = open_of c.args.opened.now in
+    include_stepped c.args.at.now.cell.now.place (c.args.at.now.pc + 1) (seat_at c.args.at.now) o (with_stack c.drop_top.new.self o) (map datum_of c.top.result.now) c.args.flush c.args.params c.requires.filled
+    (ap (λ xs. with_stack xs o) c.drop_top.ensures) c.top.ensures c.args.world.now c.flush_if.new.world c.include.new.world c.find_target-found.result (open_of c.include.new.opened) c.include.result c.find_target-found.ensures
     c.in-Ok.ensures.ok c.flush_if.ensures.replies
-    (λ serving h. serves_changed g.met.W.World.stores_on g.met.W.World.again c.args.served.now c.args.world.now c.flush_if.new.world (flush_if c.args.flush) serving c.requires.known c.in-Ok.ensures.ok h)
-    (c.include.ensures.stepped (seat_of c.args.seat.now)) c.include.ensures.short
+    (λ serving h. serves_changed g.met.W.World.stores_on g.met.W.World.again c.args.at.now.served.now c.args.world.now c.flush_if.new.world (flush_if c.args.flush) serving c.requires.known c.in-Ok.ensures.ok h)
+    c.include.ensures.stepped c.include.ensures.short
 
 -- an import
 
 pub pages::import_call-returns-clause-stepped : goal.pages::import_call-returns-clause-stepped
 pages::import_call-returns-clause-stepped g t c =
-    let o = open_of c.args.open.now in
-    import_stepped c.args.place.now (c.args.pc + 1) (seat_of c.args.seat.now) o (with_stack c.drop_top.new.self o) (map datum_of c.top.result.now) c.requires.filled (ap (λ xs. with_stack xs o) c.drop_top.ensures) c.top.ensures
-    c.args.world.now c.include.new.world c.import_target-found.result (open_of c.include.new.open) c.include.result c.import_target-found.ensures (c.include.ensures.stepped (seat_of c.args.seat.now)) c.include.ensures.short
+    let o = open_of c.args.opened.now in
+    import_stepped c.args.at.now.cell.now.place (c.args.at.now.pc + 1) (seat_at c.args.at.now) o (with_stack c.drop_top.new.self o) (map datum_of c.top.result.now) c.requires.filled (ap (λ xs. with_stack xs o) c.drop_top.ensures) c.top.ensures
+    c.args.world.now c.include.new.world c.import_target-found.result (open_of c.include.new.opened) c.include.result c.import_target-found.ensures c.include.ensures.stepped c.include.ensures.short
 
 -- a body or a fragment that a call gives
 
@@ -536,16 +548,16 @@ calls::given_call-run_code-requires g t c κs within =
     let counted = c.frames-frames.ensures ∙ ap (λ v. length v.frames) c.scopes.ensures in
     let more : length (g.W.World.variables c.copy_out.new.world).frames ≤ length (g.W.World.variables c.turn_to.new.self).frames = omega (arith, c.turn_to.ensures.frames) in
     let name = option_map (λ n. n.now) c.args.name in
-    let known = given_known laws.stores_on laws.again laws.tells c.args.served.now call caller c.in-Code.at c.in-Some.left c.frame-frame.result c.frames-frames.result c.args.world.now c.copy_out.new.world c.turn_to.new.self c.args.world.now c.requires.known
+    let known = given_known laws.stores_on laws.again laws.tells c.args.at.now.served.now call caller c.in-Code.pc c.in-Some.left c.frame-frame.result c.frames-frames.result c.args.world.now c.copy_out.new.world c.turn_to.new.self c.args.world.now c.requires.known
     c.in_default-copy_out.ensures.does c.turn_to.ensures.turned c.turn_to.ensures.replies c.frame-frame.ensures.current counted more in
     let seated = subst SeatFits (ap seat_of c.in-InTag.is) c.requires.seat in
     let n = length (g.W.World.variables c.args.world.now).frames in
     let m = length (g.W.World.variables c.turn_to.new.self).frames in
     let holds = subst (λ x. SeatHolds x n) (ap seat_of c.in-InTag.is) c.requires.holds in
     let stands = holds_more caller n m (omega (arith, c.copy_out.ensures.frames, c.turn_to.ensures.frames)) holds.2 in
-    let at = begins_given name call caller c.in-Code.at seated.1 (sym (c.in-Code.ensures caller)) in
+    let at = begins_given name call caller c.in-Code.pc seated.1 (sym (c.in-Code.ensures caller)) in
     let fits = seated.2 in
-    let records = subst (λ x. IsRecordsOf c.args.served.now.request.now (page_run_of x).params c.args.records.now) (ap seat_of c.in-InTag.is) c.requires.records in
+    let records = subst (λ x. IsRecordsOf c.args.at.now.served.now.request.now (page_run_of x).params c.args.records.now) (ap seat_of c.in-InTag.is) c.requires.records in
     search rules
 
 pub calls::given_call-go_back-requires : goal.calls::given_call-go_back-requires
@@ -555,7 +567,7 @@ calls::given_call-go_back-requires g t c =
     let caller = seat_of c.in-InTag.caller.now in
     let counted = c.frames-frames.ensures ∙ ap (λ v. length v.frames) c.scopes.ensures in
     let more : length (g.W.World.variables c.copy_out.new.world).frames ≤ length (g.W.World.variables c.turn_to.new.self).frames = omega (arith, c.turn_to.ensures.frames) in
-    let room = given_room laws.stores_on laws.again laws.tells c.args.served.now call caller c.in-Code.at c.in-Some.left c.frame-frame.result c.frames-frames.result c.args.world.now c.copy_out.new.world c.turn_to.new.self c.run_code.new.world c.requires.known
+    let room = given_room laws.stores_on laws.again laws.tells c.args.at.now.served.now call caller c.in-Code.pc c.in-Some.left c.frame-frame.result c.frames-frames.result c.args.world.now c.copy_out.new.world c.turn_to.new.self c.run_code.new.world c.requires.known
     c.in_default-copy_out.ensures.does c.turn_to.ensures.turned c.turn_to.ensures.replies c.frame-frame.ensures.current counted more ends.Normal (λ x. Well tt x) normal_is (λ n t h. h) c.in-Normal.ensures.ran in
     let there : c.frame-frame.result < c.frames-frames.result = omega (arith, c.frame-frame.ensures.there, counted) in
     search rules
@@ -567,59 +579,59 @@ calls::given_call-go_back-requires-in-Raised g t c =
     let caller = seat_of c.in-InTag.caller.now in
     let counted = c.frames-frames.ensures ∙ ap (λ v. length v.frames) c.scopes.ensures in
     let more : length (g.W.World.variables c.copy_out.new.world).frames ≤ length (g.W.World.variables c.turn_to.new.self).frames = omega (arith, c.turn_to.ensures.frames) in
-    let room = given_room laws.stores_on laws.again laws.tells c.args.served.now call caller c.in-Code.at c.in-Some.left c.frame-frame.result c.frames-frames.result c.args.world.now c.copy_out.new.world c.turn_to.new.self c.run_code.new.world c.requires.known
+    let room = given_room laws.stores_on laws.again laws.tells c.args.at.now.served.now call caller c.in-Code.pc c.in-Some.left c.frame-frame.result c.frames-frames.result c.args.world.now c.copy_out.new.world c.turn_to.new.self c.run_code.new.world c.requires.known
     c.in_default-copy_out.ensures.does c.turn_to.ensures.turned c.turn_to.ensures.replies c.frame-frame.ensures.current counted more (ends.Raised c.in-Raised.fault c.in-Raised.place) (λ x. Raised c.in-Raised.fault c.in-Raised.place x) (raised_is c.in-Raised.fault c.in-Raised.place) (λ n t h. h) c.in-Raised.ensures.ran in
     let there : c.frame-frame.result < c.frames-frames.result = omega (arith, c.frame-frame.ensures.there, counted) in
     search rules
 
 pub calls::given_call-returns-in-InPage-clause-stepped : goal.calls::given_call-returns-in-InPage-clause-stepped
 calls::given_call-returns-in-InPage-clause-stepped g t c =
-    let seat = seat_of c.args.seat.now in
-    let o = open_of c.args.open.now in
+    let seat = seat_at c.args.at.now in
+    let o = open_of c.args.opened.now in
     let name = option_map (λ n. n.now) c.args.name in
-    acted_stepped seat (λ serving s. given_called c.args.place.now (given_by name seat) seat (c.args.pc + 1) s o) c.args.world.now c.args.world.now o (flows.Go (c.args.pc + 1))
-    (λ serving h. given_page c.args.place.now (c.args.pc + 1) o name seat c.args.world.now (program_of c.in-InPage.field-0.now) c.in-InPage.field-1.now (ap seat_of c.in-InPage.is))
+    acted_stepped seat (λ serving s. given_called c.args.at.now.cell.now.place (given_by name seat) seat (c.args.at.now.pc + 1) s o) c.args.world.now c.args.world.now o (flows.Go (c.args.at.now.pc + 1))
+    (λ serving h. given_page c.args.at.now.cell.now.place (c.args.at.now.pc + 1) o name seat c.args.world.now (program_of c.in-InPage.field-0.now) c.in-InPage.field-1.now (ap seat_of c.in-InPage.is))
 
 pub calls::given_call-returns-in-Nothing-clause-stepped : goal.calls::given_call-returns-in-Nothing-clause-stepped
 calls::given_call-returns-in-Nothing-clause-stepped g t c =
-    let seat = seat_of c.args.seat.now in
-    let o = open_of c.args.open.now in
+    let seat = seat_at c.args.at.now in
+    let o = open_of c.args.opened.now in
     let name = option_map (λ n. n.now) c.args.name in
-    acted_stepped seat (λ serving s. given_called c.args.place.now (given_by name seat) seat (c.args.pc + 1) s o) c.args.world.now c.args.world.now o (flows.Go (c.args.pc + 1))
-    (λ serving h. given_none c.args.place.now (c.args.pc + 1) o name seat c.args.world.now (ap (given_by name) (ap seat_of c.in-InTag.is) ∙ sym (c.in-Nothing.ensures (seat_of c.in-InTag.caller.now))))
+    acted_stepped seat (λ serving s. given_called c.args.at.now.cell.now.place (given_by name seat) seat (c.args.at.now.pc + 1) s o) c.args.world.now c.args.world.now o (flows.Go (c.args.at.now.pc + 1))
+    (λ serving h. given_none c.args.at.now.cell.now.place (c.args.at.now.pc + 1) o name seat c.args.world.now (ap (given_by name) (ap seat_of c.in-InTag.is) ∙ sym (c.in-Nothing.ensures (seat_of c.in-InTag.caller.now))))
 
 pub calls::given_call-returns-in-Source-clause-stepped : goal.calls::given_call-returns-in-Source-clause-stepped
 calls::given_call-returns-in-Source-clause-stepped g t c =
-    let seat = seat_of c.args.seat.now in
-    let o = open_of c.args.open.now in
+    let seat = seat_at c.args.at.now in
+    let o = open_of c.args.opened.now in
     let name = option_map (λ n. n.now) c.args.name in
-    acted_stepped seat (λ serving s. given_called c.args.place.now (given_by name seat) seat (c.args.pc + 1) s o) c.args.world.now c.write_source.new.world (open_of c.write_source.new.open) c.write_source.result
+    acted_stepped seat (λ serving s. given_called c.args.at.now.cell.now.place (given_by name seat) seat (c.args.at.now.pc + 1) s o) c.args.world.now c.write_source.new.world (open_of c.write_source.new.opened) c.write_source.result
     (λ serving h.
     c.write_source.ensures.acted name seat (seat_of c.in-InTag.caller.now) (ap seat_of c.in-InTag.is)
     (ap (given_by name) (ap seat_of c.in-InTag.is) ∙ sym (c.in-Source.ensures (seat_of c.in-InTag.caller.now))))
 
 pub calls::given_call-returns-in_default-clause-stepped : goal.calls::given_call-returns-in_default-clause-stepped
 calls::given_call-returns-in_default-clause-stepped g t c =
-    let seat = seat_of c.args.seat.now in
-    let o = open_of c.args.open.now in
+    let seat = seat_at c.args.at.now in
+    let o = open_of c.args.opened.now in
     let name = option_map (λ n. n.now) c.args.name in
     let caller = seat_of c.in-InTag.caller.now in
-    let none : c.args.open.now.left ≡ 0 = omega (arith, c.in_default.ensures) in
-    acted_stepped seat (λ serving s. given_called c.args.place.now (given_by name seat) seat (c.args.pc + 1) s o) c.args.world.now c.throw.new.world (open_of c.throw.new.open) c.throw.result
+    let none : c.args.opened.now.left ≡ 0 = omega (arith, c.in_default.ensures) in
+    acted_stepped seat (λ serving s. given_called c.args.at.now.cell.now.place (given_by name seat) seat (c.args.at.now.pc + 1) s o) c.args.world.now c.throw.new.world (open_of c.throw.new.opened) c.throw.result
     (λ serving h.
-    code_deep c.args.place.now (c.args.pc + 1) o name seat (call_of c.in-InTag.call.now) caller (ap seat_of c.in-InTag.is) c.in-Code.at c.args.world.now c.throw.new.world (open_of c.throw.new.open) c.throw.result
+    code_deep c.args.at.now.cell.now.place (c.args.at.now.pc + 1) o name seat (call_of c.in-InTag.call.now) caller (ap seat_of c.in-InTag.is) c.in-Code.pc c.args.world.now c.throw.new.world (open_of c.throw.new.opened) c.throw.result
     (ap (given_by name) (ap seat_of c.in-InTag.is) ∙ sym (c.in-Code.ensures caller)) none c.throw.ensures.acted)
 
 pub calls::given_call-returns-in-Err-clause-stepped : goal.calls::given_call-returns-in-Err-clause-stepped
 calls::given_call-returns-in-Err-clause-stepped g t c =
-    let seat = seat_of c.args.seat.now in
-    let o = open_of c.args.open.now in
+    let seat = seat_at c.args.at.now in
+    let o = open_of c.args.opened.now in
     let name = option_map (λ n. n.now) c.args.name in
     let caller = seat_of c.in-InTag.caller.now in
-    acted_stepped seat (λ serving s. given_called c.args.place.now (given_by name seat) seat (c.args.pc + 1) s o) c.args.world.now c.fail.new.world (open_of c.fail.new.open) c.fail.result
+    acted_stepped seat (λ serving s. given_called c.args.at.now.cell.now.place (given_by name seat) seat (c.args.at.now.pc + 1) s o) c.args.world.now c.fail.new.world (open_of c.fail.new.opened) c.fail.result
     (λ serving h.
-    copy_failed c.args.place.now (c.args.pc + 1) o name seat (call_of c.in-InTag.call.now) caller (ap seat_of c.in-InTag.is) c.args.world.now c.copy_out.new.world c.fail.new.world c.in-Err.failed
-    (open_of c.fail.new.open) c.fail.result c.in-Err.ensures.does c.fail.ensures.acted c.fail.ensures.short)
+    copy_failed c.args.at.now.cell.now.place (c.args.at.now.pc + 1) o name seat (call_of c.in-InTag.call.now) caller (ap seat_of c.in-InTag.is) c.args.world.now c.copy_out.new.world c.fail.new.world c.in-Err.failed
+    (open_of c.fail.new.opened) c.fail.result c.in-Err.ensures.does c.fail.ensures.acted c.fail.ensures.short)
 
 pub calls::given_call-returns-in-Normal-clause-stepped : goal.calls::given_call-returns-in-Normal-clause-stepped
 calls::given_call-returns-in-Normal-clause-stepped g t c =
@@ -631,9 +643,9 @@ calls::given_call-returns-in-Normal-clause-stepped g t c =
     let is = ap seat_of c.in-InTag.is in
     let name = option_map (λ n. n.now) c.args.name in
     let gives = ap (given_by name) is ∙ sym (c.in-Code.ensures caller) in
-    let level : c.args.open.now.left ≡ suc c.in-Some.left = omega (arith, c.in-Some.ensures) in
-    given_on laws.stores_on laws.again laws.tells c.args.served.now call caller c.in-Code.at c.in-Some.left c.frame-frame.result c.frames-frames.result c.args.world.now c.copy_out.new.world c.turn_to.new.self c.run_code.new.world c.requires.known
-    c.in_default-copy_out.ensures.does c.turn_to.ensures.turned c.turn_to.ensures.replies c.frame-frame.ensures.current counted more c.args.place.now (c.args.pc + 1) (open_of c.args.open.now) name (seat_of c.args.seat.now) is gives level
+    let level : c.args.opened.now.left ≡ suc c.in-Some.left = omega (arith, c.in-Some.ensures) in
+    given_on laws.stores_on laws.again laws.tells c.args.at.now.served.now call caller c.in-Code.pc c.in-Some.left c.frame-frame.result c.frames-frames.result c.args.world.now c.copy_out.new.world c.turn_to.new.self c.run_code.new.world c.requires.known
+    c.in_default-copy_out.ensures.does c.turn_to.ensures.turned c.turn_to.ensures.replies c.frame-frame.ensures.current counted more c.args.at.now.cell.now.place (c.args.at.now.pc + 1) (open_of c.args.opened.now) name (seat_at c.args.at.now) is gives level
     c.go_back.new.self c.in-Normal.ensures.ran c.go_back.ensures.back c.go_back.ensures.replies
 
 pub calls::given_call-returns-in-Raised-clause-stepped : goal.calls::given_call-returns-in-Raised-clause-stepped
@@ -646,10 +658,10 @@ calls::given_call-returns-in-Raised-clause-stepped g t c =
     let is = ap seat_of c.in-InTag.is in
     let name = option_map (λ n. n.now) c.args.name in
     let gives = ap (given_by name) is ∙ sym (c.in-Code.ensures caller) in
-    let level : c.args.open.now.left ≡ suc c.in-Some.left = omega (arith, c.in-Some.ensures) in
-    given_thrown laws.stores_on laws.again laws.tells c.args.served.now call caller c.in-Code.at c.in-Some.left c.frame-frame.result c.frames-frames.result c.args.world.now c.copy_out.new.world c.turn_to.new.self c.run_code.new.world c.requires.known
-    c.in_default-copy_out.ensures.does c.turn_to.ensures.turned c.turn_to.ensures.replies c.frame-frame.ensures.current counted more c.args.place.now (c.args.pc + 1) (open_of c.args.open.now) name (seat_of c.args.seat.now) is gives level
-    c.in-Raised.fault c.in-Raised.place c.go_back-in-Raised.new.self c.throw-in-Raised.new.world (open_of c.throw-in-Raised.new.open) c.throw-in-Raised.result c.in-Raised.ensures.ran c.go_back-in-Raised.ensures.back
+    let level : c.args.opened.now.left ≡ suc c.in-Some.left = omega (arith, c.in-Some.ensures) in
+    given_thrown laws.stores_on laws.again laws.tells c.args.at.now.served.now call caller c.in-Code.pc c.in-Some.left c.frame-frame.result c.frames-frames.result c.args.world.now c.copy_out.new.world c.turn_to.new.self c.run_code.new.world c.requires.known
+    c.in_default-copy_out.ensures.does c.turn_to.ensures.turned c.turn_to.ensures.replies c.frame-frame.ensures.current counted more c.args.at.now.cell.now.place (c.args.at.now.pc + 1) (open_of c.args.opened.now) name (seat_at c.args.at.now) is gives level
+    c.in-Raised.fault c.in-Raised.place c.go_back-in-Raised.new.self c.throw-in-Raised.new.world (open_of c.throw-in-Raised.new.opened) c.throw-in-Raised.result c.in-Raised.ensures.ran c.go_back-in-Raised.ensures.back
     c.go_back-in-Raised.ensures.replies c.throw-in-Raised.ensures.acted
 
 pub calls::given_call-returns-in_default-run_code-clause-stepped : goal.calls::given_call-returns-in_default-run_code-clause-stepped
@@ -662,48 +674,48 @@ calls::given_call-returns-in_default-run_code-clause-stepped g t c =
     let is = ap seat_of c.in-InTag.is in
     let name = option_map (λ n. n.now) c.args.name in
     let gives = ap (given_by name) is ∙ sym (c.in-Code.ensures caller) in
-    let level : c.args.open.now.left ≡ suc c.in-Some.left = omega (arith, c.in-Some.ensures) in
-    given_over laws.stores_on laws.again laws.tells c.args.served.now call caller c.in-Code.at c.in-Some.left c.frame-frame.result c.frames-frames.result c.args.world.now c.copy_out.new.world c.turn_to.new.self c.run_code.new.world c.requires.known
-    c.in_default-copy_out.ensures.does c.turn_to.ensures.turned c.turn_to.ensures.replies c.frame-frame.ensures.current counted more c.args.place.now (c.args.pc + 1) (open_of c.args.open.now) name (seat_of c.args.seat.now) is gives level
+    let level : c.args.opened.now.left ≡ suc c.in-Some.left = omega (arith, c.in-Some.ensures) in
+    given_over laws.stores_on laws.again laws.tells c.args.at.now.served.now call caller c.in-Code.pc c.in-Some.left c.frame-frame.result c.frames-frames.result c.args.world.now c.copy_out.new.world c.turn_to.new.self c.run_code.new.world c.requires.known
+    c.in_default-copy_out.ensures.does c.turn_to.ensures.turned c.turn_to.ensures.replies c.frame-frame.ensures.current counted more c.args.at.now.cell.now.place (c.args.at.now.pc + 1) (open_of c.args.opened.now) name (seat_at c.args.at.now) is gives level
     c.run_code.result (λ e. c.in_default-run_code.not-Normal e) (λ f p e. c.in_default-run_code.not-Raised f p e) c.run_code.ensures.ran
 
 pub calls::given_call-returns-in-Normal-clause-records : goal.calls::given_call-returns-in-Normal-clause-records
 calls::given_call-returns-in-Normal-clause-records g t c =
-    subst (λ x. IsRecordsOf c.args.served.now.request.now (page_run_of x).params c.run_code.new.records) (sym (ap seat_of c.in-InTag.is)) c.run_code.ensures.records
+    subst (λ x. IsRecordsOf c.args.at.now.served.now.request.now (page_run_of x).params c.run_code.new.records) (sym (ap seat_of c.in-InTag.is)) c.run_code.ensures.records
 
 pub calls::given_call-returns-in-Raised-clause-records : goal.calls::given_call-returns-in-Raised-clause-records
 calls::given_call-returns-in-Raised-clause-records g t c =
-    subst (λ x. IsRecordsOf c.args.served.now.request.now (page_run_of x).params c.run_code.new.records) (sym (ap seat_of c.in-InTag.is)) c.run_code.ensures.records
+    subst (λ x. IsRecordsOf c.args.at.now.served.now.request.now (page_run_of x).params c.run_code.new.records) (sym (ap seat_of c.in-InTag.is)) c.run_code.ensures.records
 
 pub calls::given_call-returns-in_default-run_code-clause-records : goal.calls::given_call-returns-in_default-run_code-clause-records
 calls::given_call-returns-in_default-run_code-clause-records g t c =
-    subst (λ x. IsRecordsOf c.args.served.now.request.now (page_run_of x).params c.run_code.new.records) (sym (ap seat_of c.in-InTag.is)) c.run_code.ensures.records
+    subst (λ x. IsRecordsOf c.args.at.now.served.now.request.now (page_run_of x).params c.run_code.new.records) (sym (ap seat_of c.in-InTag.is)) c.run_code.ensures.records
 
 -- a call of a tag file
 
 pub calls::tag_call-returns-in_default-clause-stepped : goal.calls::tag_call-returns-in_default-clause-stepped
 calls::tag_call-returns-in_default-clause-stepped g t c =
-    let seat = seat_of c.args.seat.now in
-    let o = open_of c.args.open.now in
+    let seat = seat_at c.args.at.now in
+    let o = open_of c.args.opened.now in
     let this = c.args.call.now in
     let n = length this.names in
-    let next = c.args.pc + 1 in
+    let next = c.args.at.now.pc + 1 in
     let p = with_stack c.drop_top.new.self o in
     let rest = ap (λ xs. with_stack xs o) c.drop_top.ensures ∙ ap (λ k. with_stack (drop k o.stack) o) c.len-count.ensures in
     let found = option_map (λ tag. tag_of tag.now) c.tag_at.result in
     let finds = ap (λ q. tag_at this.path q.tags) (sym c.program.ensures) ∙ sym c.tag_at.ensures in
-    let size : c.args.pc + 1 + c.size_of.result ≡ next + call_size this = ap (λ k. c.args.pc + 1 + k) c.size_of.ensures in
+    let size : c.args.at.now.pc + 1 + c.size_of.result ≡ next + call_size this = ap (λ k. c.args.at.now.pc + 1 + k) c.size_of.ensures in
     let none : found ≡ None = ap (option_map (λ tag. tag_of tag.now)) c.in_default.is in
-    acted_stepped seat (λ serving s. called_out serving seat c.args.place.now next (call.Tag this) s o) c.args.world.now c.args.world.now p (flows.Go (c.args.pc + 1 + c.size_of.result))
-    (λ serving h. tag_gone c.args.place.now this next seat o p (reverse (take n o.stack)) c.requires.filled rest refl found finds serving c.args.world.now (c.args.pc + 1 + c.size_of.result) none size)
+    acted_stepped seat (λ serving s. called_out serving seat c.args.at.now.cell.now.place next (call.Tag this) s o) c.args.world.now c.args.world.now p (flows.Go (c.args.at.now.pc + 1 + c.size_of.result))
+    (λ serving h. tag_gone c.args.at.now.cell.now.place this next seat o p (reverse (take n o.stack)) c.requires.filled rest refl found finds serving c.args.world.now (c.args.at.now.pc + 1 + c.size_of.result) none size)
 
 pub calls::tag_call-enter_call-requires : goal.calls::tag_call-enter_call-requires
 calls::tag_call-enter_call-requires g t c κs within =
-    let seat = seat_of c.args.seat.now in
-    let o = open_of c.args.open.now in
+    let seat = seat_at c.args.at.now in
+    let o = open_of c.args.opened.now in
     let this = c.args.call.now in
     let n = length this.names in
-    let next = c.args.pc + 1 in
+    let next = c.args.at.now.pc + 1 in
     let p = with_stack c.drop_top-2.new.self o in
     let rest = ap (λ xs. with_stack xs o) c.drop_top-2.ensures ∙ ap (λ k. with_stack (drop k o.stack) o) c.len-count.ensures in
     let found = option_map (λ tag. tag_of tag.now) c.tag_at.result in
@@ -717,11 +729,11 @@ calls::tag_call-enter_call-requires g t c κs within =
 
 pub calls::tag_call-returns-in-Ok-clause-stepped : goal.calls::tag_call-returns-in-Ok-clause-stepped
 calls::tag_call-returns-in-Ok-clause-stepped g t c =
-    let seat = seat_of c.args.seat.now in
-    let o = open_of c.args.open.now in
+    let seat = seat_at c.args.at.now in
+    let o = open_of c.args.opened.now in
     let this = c.args.call.now in
     let n = length this.names in
-    let next = c.args.pc + 1 in
+    let next = c.args.at.now.pc + 1 in
     let p = with_stack c.drop_top-2.new.self o in
     let rest = ap (λ xs. with_stack xs o) c.drop_top-2.ensures ∙ ap (λ k. with_stack (drop k o.stack) o) c.len-count.ensures in
     let found = option_map (λ tag. tag_of tag.now) c.tag_at.result in
@@ -732,16 +744,16 @@ calls::tag_call-returns-in-Ok-clause-stepped g t c =
     let is : found ≡ Some tag = ap (option_map (λ tag. tag_of tag.now)) c.in-Some.is in
     let entries = c.in-Ok.entries in
     let made = ap (λ ns. first_frame tag.decl (table_of ns values)) (sym c.as_slice.ensures) ∙ c.in-Ok.ensures in
-    stepped_as seat (λ serving s. called_out serving seat c.args.place.now next (call.Tag this) s o) (λ serving s. entered_move c.args.place.now this next seat p tag entries s) c.args.world.now c.enter_call.new.world (open_of c.enter_call.new.open) c.enter_call.result
-    (λ serving h s. tag_made c.args.place.now this next seat o p values c.requires.filled rest taken found finds serving tag is entries made s) c.enter_call.ensures.stepped
+    stepped_as seat (λ serving s. called_out serving seat c.args.at.now.cell.now.place next (call.Tag this) s o) (λ serving s. entered_move c.args.at.now.cell.now.place this next seat p tag entries s) c.args.world.now c.enter_call.new.world (open_of c.enter_call.new.opened) c.enter_call.result
+    (λ serving h s. tag_made c.args.at.now.cell.now.place this next seat o p values c.requires.filled rest taken found finds serving tag is entries made s) c.enter_call.ensures.stepped
 
 pub calls::tag_call-returns-in-Err-clause-stepped : goal.calls::tag_call-returns-in-Err-clause-stepped
 calls::tag_call-returns-in-Err-clause-stepped g t c =
-    let seat = seat_of c.args.seat.now in
-    let o = open_of c.args.open.now in
+    let seat = seat_at c.args.at.now in
+    let o = open_of c.args.opened.now in
     let this = c.args.call.now in
     let n = length this.names in
-    let next = c.args.pc + 1 in
+    let next = c.args.at.now.pc + 1 in
     let p = with_stack c.drop_top-2.new.self o in
     let rest = ap (λ xs. with_stack xs o) c.drop_top-2.ensures ∙ ap (λ k. with_stack (drop k o.stack) o) c.len-count.ensures in
     let found = option_map (λ tag. tag_of tag.now) c.tag_at.result in
@@ -750,72 +762,72 @@ calls::tag_call-returns-in-Err-clause-stepped g t c =
     let taken = c.top.ensures ∙ ap (λ k. reverse (take k o.stack)) c.len-count.ensures in
     let tag = tag_of c.in-Some.tag.now in
     let is : found ≡ Some tag = ap (option_map (λ tag. tag_of tag.now)) c.in-Some.is in
-    acted_stepped seat (λ serving s. called_out serving seat c.args.place.now next (call.Tag this) s o) c.args.world.now c.fail.new.world (open_of c.fail.new.open) c.fail.result
+    acted_stepped seat (λ serving s. called_out serving seat c.args.at.now.cell.now.place next (call.Tag this) s o) c.args.world.now c.fail.new.world (open_of c.fail.new.opened) c.fail.result
     (λ serving h.
-    tag_failed c.args.place.now this next seat o p values c.requires.filled rest taken found finds serving tag is c.args.world.now c.fail.new.world c.in-Err.failed (open_of c.fail.new.open) c.fail.result
+    tag_failed c.args.at.now.cell.now.place this next seat o p values c.requires.filled rest taken found finds serving tag is c.args.world.now c.fail.new.world c.in-Err.failed (open_of c.fail.new.opened) c.fail.result
     (subst (λ ns. Answers (first_frame tag.decl (table_of ns values)) (Err c.in-Err.failed)) c.as_slice.ensures c.in-Err.ensures) c.fail.ensures.acted c.fail.ensures.short)
 
 pub calls::enter_call-returns-in_default-clause-stepped : goal.calls::enter_call-returns-in_default-clause-stepped
 calls::enter_call-returns-in_default-clause-stepped g t c =
-    let seat = seat_of c.args.seat.now in
-    let o = open_of c.args.open.now in
-    let this = c.args.call.now in
-    let next = c.args.pc + 1 in
-    let tag = tag_of c.args.tag.now in
-    let entries = c.args.entries in
-    let none : c.args.open.now.left ≡ 0 = omega (arith, c.in_default.ensures) in
-    acted_stepped seat (λ serving s. entered_move c.args.place.now this next seat o tag entries s) c.args.world.now c.throw.new.world (open_of c.throw.new.open) c.throw.result
-    (λ serving h. tag_deep c.args.place.now this next seat o tag entries c.args.world.now c.throw.new.world (open_of c.throw.new.open) c.throw.result none c.throw.ensures.acted)
+    let seat = seat_at c.args.at.now in
+    let o = open_of c.args.opened.now in
+    let this = c.args.start.call.now in
+    let next = c.args.at.now.pc + 1 in
+    let tag = tag_of c.args.start.tag.now in
+    let entries = c.args.start.entries in
+    let none : c.args.opened.now.left ≡ 0 = omega (arith, c.in_default.ensures) in
+    acted_stepped seat (λ serving s. entered_move c.args.at.now.cell.now.place this next seat o tag entries s) c.args.world.now c.throw.new.world (open_of c.throw.new.opened) c.throw.result
+    (λ serving h. tag_deep c.args.at.now.cell.now.place this next seat o tag entries c.args.world.now c.throw.new.world (open_of c.throw.new.opened) c.throw.result none c.throw.ensures.acted)
 
 pub calls::enter_call-returns-in_default-exports_of-clause-stepped : goal.calls::enter_call-returns-in_default-exports_of-clause-stepped
 calls::enter_call-returns-in_default-exports_of-clause-stepped g t c =
-    let seat = seat_of c.args.seat.now in
-    let o = open_of c.args.open.now in
-    let this = c.args.call.now in
-    let next = c.args.pc + 1 in
-    let tag = tag_of c.args.tag.now in
-    let entries = c.args.entries in
-    acted_stepped seat (λ serving s. entered_move c.args.place.now this next seat o tag entries s) c.args.world.now c.args.world.now o (flows.Over ends.NoMemory)
-    (λ serving h. acted_short (λ s. entered_move c.args.place.now this next seat o tag entries s) c.args.world.now o (λ s. entered_grows c.args.place.now this next seat o tag entries s))
+    let seat = seat_at c.args.at.now in
+    let o = open_of c.args.opened.now in
+    let this = c.args.start.call.now in
+    let next = c.args.at.now.pc + 1 in
+    let tag = tag_of c.args.start.tag.now in
+    let entries = c.args.start.entries in
+    acted_stepped seat (λ serving s. entered_move c.args.at.now.cell.now.place this next seat o tag entries s) c.args.world.now c.args.world.now o (flows.Over ends.NoMemory)
+    (λ serving h. acted_short (λ s. entered_move c.args.at.now.cell.now.place this next seat o tag entries s) c.args.world.now o (λ s. entered_grows c.args.at.now.cell.now.place this next seat o tag entries s))
 
 pub calls::enter_call-returns-in_default-nested_changes-clause-stepped : goal.calls::enter_call-returns-in_default-nested_changes-clause-stepped
 calls::enter_call-returns-in_default-nested_changes-clause-stepped g t c =
-    let seat = seat_of c.args.seat.now in
-    let o = open_of c.args.open.now in
-    let this = c.args.call.now in
-    let next = c.args.pc + 1 in
-    let tag = tag_of c.args.tag.now in
-    let entries = c.args.entries in
-    acted_stepped seat (λ serving s. entered_move c.args.place.now this next seat o tag entries s) c.args.world.now c.args.world.now o (flows.Over ends.NoMemory)
-    (λ serving h. acted_short (λ s. entered_move c.args.place.now this next seat o tag entries s) c.args.world.now o (λ s. entered_grows c.args.place.now this next seat o tag entries s))
+    let seat = seat_at c.args.at.now in
+    let o = open_of c.args.opened.now in
+    let this = c.args.start.call.now in
+    let next = c.args.at.now.pc + 1 in
+    let tag = tag_of c.args.start.tag.now in
+    let entries = c.args.start.entries in
+    acted_stepped seat (λ serving s. entered_move c.args.at.now.cell.now.place this next seat o tag entries s) c.args.world.now c.args.world.now o (flows.Over ends.NoMemory)
+    (λ serving h. acted_short (λ s. entered_move c.args.at.now.cell.now.place this next seat o tag entries s) c.args.world.now o (λ s. entered_grows c.args.at.now.cell.now.place this next seat o tag entries s))
 
 pub calls::enter_call-returns-in_default-push_frame_of-clause-stepped : goal.calls::enter_call-returns-in_default-push_frame_of-clause-stepped
 calls::enter_call-returns-in_default-push_frame_of-clause-stepped g t c =
-    let seat = seat_of c.args.seat.now in
-    let o = open_of c.args.open.now in
-    let this = c.args.call.now in
-    let next = c.args.pc + 1 in
-    let tag = tag_of c.args.tag.now in
-    let entries = c.args.entries in
-    acted_stepped seat (λ serving s. entered_move c.args.place.now this next seat o tag entries s) c.args.world.now c.push_frame_of.new.self o (flows.Over ends.NoMemory)
-    (λ serving h. tag_short c.args.place.now this next seat o tag entries c.args.world.now c.push_frame_of.new.self o c.in_default-push_frame_of.ensures.err c.push_frame_of.ensures.replies)
+    let seat = seat_at c.args.at.now in
+    let o = open_of c.args.opened.now in
+    let this = c.args.start.call.now in
+    let next = c.args.at.now.pc + 1 in
+    let tag = tag_of c.args.start.tag.now in
+    let entries = c.args.start.entries in
+    acted_stepped seat (λ serving s. entered_move c.args.at.now.cell.now.place this next seat o tag entries s) c.args.world.now c.push_frame_of.new.self o (flows.Over ends.NoMemory)
+    (λ serving h. tag_short c.args.at.now.cell.now.place this next seat o tag entries c.args.world.now c.push_frame_of.new.self o c.in_default-push_frame_of.ensures.err c.push_frame_of.ensures.replies)
 
 pub calls::enter_call-run_code-requires : goal.calls::enter_call-run_code-requires
 calls::enter_call-run_code-requires g t c κs within =
-    let seat = seat_of c.args.seat.now in
-    let o = open_of c.args.open.now in
-    let this = c.args.call.now in
-    let next = c.args.pc + 1 in
-    let tag = tag_of c.args.tag.now in
-    let entries = c.args.entries in
+    let seat = seat_at c.args.at.now in
+    let o = open_of c.args.opened.now in
+    let this = c.args.start.call.now in
+    let next = c.args.at.now.pc + 1 in
+    let tag = tag_of c.args.start.tag.now in
+    let entries = c.args.start.entries in
     let laws = g.met.W.World in
     let exports = map export_of c.as_slice-exports.result.now in
     let fragments = c.as_slice-2.result.now in
     let counted = c.frames-frames.ensures ∙ ap (λ v. length v.frames) c.scopes.ensures in
     let inner = call_with tag this.body fragments next exports c.frame-frame.result in
-    let known = entered_known g.W.World.replies laws.stores_on laws.again laws.tells c.args.served.now c.args.place.now this next seat o tag entries exports fragments c.frame-frame.result c.frames-frames.result c.in-Some.left c.args.world.now c.push_frame_of.new.self c.args.world.now c.requires.known c.in-Ok-push_frame_of.ensures.ok c.push_frame_of.ensures.replies
+    let known = entered_known g.W.World.replies laws.stores_on laws.again laws.tells c.args.at.now.served.now c.args.at.now.cell.now.place this next seat o tag entries exports fragments c.frame-frame.result c.frames-frames.result c.in-Some.left c.args.world.now c.push_frame_of.new.self c.args.world.now c.requires.known c.in-Ok-push_frame_of.ensures.ok c.push_frame_of.ensures.replies
     c.frame-frame.ensures.current c.frame-frame.ensures.there counted in
-    let more = entered_more g.W.World.replies laws.stores_on laws.again laws.tells c.args.served.now c.args.place.now this next seat o tag entries exports fragments c.frame-frame.result c.frames-frames.result c.in-Some.left c.args.world.now c.push_frame_of.new.self c.args.world.now c.requires.known c.in-Ok-push_frame_of.ensures.ok c.push_frame_of.ensures.replies
+    let more = entered_more g.W.World.replies laws.stores_on laws.again laws.tells c.args.at.now.served.now c.args.at.now.cell.now.place this next seat o tag entries exports fragments c.frame-frame.result c.frames-frames.result c.in-Some.left c.args.world.now c.push_frame_of.new.self c.args.world.now c.requires.known c.in-Ok-push_frame_of.ensures.ok c.push_frame_of.ensures.replies
     c.frame-frame.ensures.current c.frame-frame.ensures.there counted in
     let n = length (g.W.World.variables c.push_frame_of.new.self).frames in
     let seated : SeatFits (in_tag inner seat) =
@@ -828,17 +840,17 @@ calls::enter_call-run_code-requires g t c κs within =
 
 pub calls::enter_call-give_back-requires : goal.calls::enter_call-give_back-requires
 calls::enter_call-give_back-requires g t c =
-    let seat = seat_of c.args.seat.now in
-    let o = open_of c.args.open.now in
-    let this = c.args.call.now in
-    let next = c.args.pc + 1 in
-    let tag = tag_of c.args.tag.now in
-    let entries = c.args.entries in
+    let seat = seat_at c.args.at.now in
+    let o = open_of c.args.opened.now in
+    let this = c.args.start.call.now in
+    let next = c.args.at.now.pc + 1 in
+    let tag = tag_of c.args.start.tag.now in
+    let entries = c.args.start.entries in
     let laws = g.met.W.World in
     let exports = map export_of c.as_slice-exports.result.now in
     let fragments = c.as_slice-2.result.now in
     let counted = c.frames-frames.ensures ∙ ap (λ v. length v.frames) c.scopes.ensures in
-    let room = entered_room g.W.World.replies laws.stores_on laws.again laws.tells c.args.served.now c.args.place.now this next seat o tag entries exports fragments c.frame-frame.result c.frames-frames.result c.in-Some.left c.args.world.now c.push_frame_of.new.self c.run_code.new.world c.requires.known c.in-Ok-push_frame_of.ensures.ok c.push_frame_of.ensures.replies
+    let room = entered_room g.W.World.replies laws.stores_on laws.again laws.tells c.args.at.now.served.now c.args.at.now.cell.now.place this next seat o tag entries exports fragments c.frame-frame.result c.frames-frames.result c.in-Some.left c.args.world.now c.push_frame_of.new.self c.run_code.new.world c.requires.known c.in-Ok-push_frame_of.ensures.ok c.push_frame_of.ensures.replies
     c.frame-frame.ensures.current c.frame-frame.ensures.there counted ends.Normal (λ x. Well tt x) normal_is (λ n t h. h) c.in-Normal.ensures.ran in
     let there : c.frame-frame.result < c.frames-frames.result = omega (arith, c.frame-frame.ensures.there, counted) in
     let stands : c.frame-frame.result < length (g.W.World.variables c.run_code.new.world).frames = omega (arith, there, room) in
@@ -846,17 +858,17 @@ calls::enter_call-give_back-requires g t c =
 
 pub calls::enter_call-go_back-requires : goal.calls::enter_call-go_back-requires
 calls::enter_call-go_back-requires g t c =
-    let seat = seat_of c.args.seat.now in
-    let o = open_of c.args.open.now in
-    let this = c.args.call.now in
-    let next = c.args.pc + 1 in
-    let tag = tag_of c.args.tag.now in
-    let entries = c.args.entries in
+    let seat = seat_at c.args.at.now in
+    let o = open_of c.args.opened.now in
+    let this = c.args.start.call.now in
+    let next = c.args.at.now.pc + 1 in
+    let tag = tag_of c.args.start.tag.now in
+    let entries = c.args.start.entries in
     let laws = g.met.W.World in
     let exports = map export_of c.as_slice-exports.result.now in
     let fragments = c.as_slice-2.result.now in
     let counted = c.frames-frames.ensures ∙ ap (λ v. length v.frames) c.scopes.ensures in
-    let room = entered_room g.W.World.replies laws.stores_on laws.again laws.tells c.args.served.now c.args.place.now this next seat o tag entries exports fragments c.frame-frame.result c.frames-frames.result c.in-Some.left c.args.world.now c.push_frame_of.new.self c.run_code.new.world c.requires.known c.in-Ok-push_frame_of.ensures.ok c.push_frame_of.ensures.replies
+    let room = entered_room g.W.World.replies laws.stores_on laws.again laws.tells c.args.at.now.served.now c.args.at.now.cell.now.place this next seat o tag entries exports fragments c.frame-frame.result c.frames-frames.result c.in-Some.left c.args.world.now c.push_frame_of.new.self c.run_code.new.world c.requires.known c.in-Ok-push_frame_of.ensures.ok c.push_frame_of.ensures.replies
     c.frame-frame.ensures.current c.frame-frame.ensures.there counted ends.Normal (λ x. Well tt x) normal_is (λ n t h. h) c.in-Normal.ensures.ran in
     let there : c.frame-frame.result < c.frames-frames.result = omega (arith, c.frame-frame.ensures.there, counted) in
     let all : c.frames-frames.result ≤ length (g.W.World.variables c.give_back.new.world).frames = omega (arith, room, c.give_back.ensures.frames) in
@@ -864,96 +876,96 @@ calls::enter_call-go_back-requires g t c =
 
 pub calls::enter_call-go_back-requires-in-Raised : goal.calls::enter_call-go_back-requires-in-Raised
 calls::enter_call-go_back-requires-in-Raised g t c =
-    let seat = seat_of c.args.seat.now in
-    let o = open_of c.args.open.now in
-    let this = c.args.call.now in
-    let next = c.args.pc + 1 in
-    let tag = tag_of c.args.tag.now in
-    let entries = c.args.entries in
+    let seat = seat_at c.args.at.now in
+    let o = open_of c.args.opened.now in
+    let this = c.args.start.call.now in
+    let next = c.args.at.now.pc + 1 in
+    let tag = tag_of c.args.start.tag.now in
+    let entries = c.args.start.entries in
     let laws = g.met.W.World in
     let exports = map export_of c.as_slice-exports.result.now in
     let fragments = c.as_slice-2.result.now in
     let counted = c.frames-frames.ensures ∙ ap (λ v. length v.frames) c.scopes.ensures in
-    let room = entered_room g.W.World.replies laws.stores_on laws.again laws.tells c.args.served.now c.args.place.now this next seat o tag entries exports fragments c.frame-frame.result c.frames-frames.result c.in-Some.left c.args.world.now c.push_frame_of.new.self c.run_code.new.world c.requires.known c.in-Ok-push_frame_of.ensures.ok c.push_frame_of.ensures.replies
+    let room = entered_room g.W.World.replies laws.stores_on laws.again laws.tells c.args.at.now.served.now c.args.at.now.cell.now.place this next seat o tag entries exports fragments c.frame-frame.result c.frames-frames.result c.in-Some.left c.args.world.now c.push_frame_of.new.self c.run_code.new.world c.requires.known c.in-Ok-push_frame_of.ensures.ok c.push_frame_of.ensures.replies
     c.frame-frame.ensures.current c.frame-frame.ensures.there counted (ends.Raised c.in-Raised.fault c.in-Raised.place) (λ x. Raised c.in-Raised.fault c.in-Raised.place x) (raised_is c.in-Raised.fault c.in-Raised.place) (λ n t h. h) c.in-Raised.ensures.ran in
     let there : c.frame-frame.result < c.frames-frames.result = omega (arith, c.frame-frame.ensures.there, counted) in
     search rules
 
 pub calls::enter_call-returns-in-Ok-give_back-clause-stepped : goal.calls::enter_call-returns-in-Ok-give_back-clause-stepped
 calls::enter_call-returns-in-Ok-give_back-clause-stepped g t c =
-    let seat = seat_of c.args.seat.now in
-    let o = open_of c.args.open.now in
-    let this = c.args.call.now in
-    let next = c.args.pc + 1 in
-    let tag = tag_of c.args.tag.now in
-    let entries = c.args.entries in
+    let seat = seat_at c.args.at.now in
+    let o = open_of c.args.opened.now in
+    let this = c.args.start.call.now in
+    let next = c.args.at.now.pc + 1 in
+    let tag = tag_of c.args.start.tag.now in
+    let entries = c.args.start.entries in
     let laws = g.met.W.World in
     let exports = map export_of c.as_slice-exports.result.now in
     let fragments = c.as_slice-2.result.now in
     let counted = c.frames-frames.ensures ∙ ap (λ v. length v.frames) c.scopes.ensures in
-    let level : c.args.open.now.left ≡ suc c.in-Some.left = omega (arith, c.in-Some.ensures) in
+    let level : c.args.opened.now.left ≡ suc c.in-Some.left = omega (arith, c.in-Some.ensures) in
     let made = ap (map export_of) c.as_slice-exports.ensures.value ∙ c.in-Ok.ensures ∙ ap (exports_of entries) c.as_slice.ensures in
-    entered_on g.W.World.replies laws.stores_on laws.again laws.tells c.args.served.now c.args.place.now this next seat o tag entries exports fragments c.frame-frame.result c.frames-frames.result c.in-Some.left c.args.world.now c.push_frame_of.new.self c.run_code.new.world c.requires.known c.in-Ok-push_frame_of.ensures.ok c.push_frame_of.ensures.replies
+    entered_on g.W.World.replies laws.stores_on laws.again laws.tells c.args.at.now.served.now c.args.at.now.cell.now.place this next seat o tag entries exports fragments c.frame-frame.result c.frames-frames.result c.in-Some.left c.args.world.now c.push_frame_of.new.self c.run_code.new.world c.requires.known c.in-Ok-push_frame_of.ensures.ok c.push_frame_of.ensures.replies
     c.frame-frame.ensures.current c.frame-frame.ensures.there counted
-    (c.args.pc + 1 + c.size_of.result) (ap (λ k. c.args.pc + 1 + k) c.size_of.ensures) level made c.as_slice-2.ensures c.give_back.new.world c.go_back.new.self c.in-Normal.ensures.ran
+    (c.args.at.now.pc + 1 + c.size_of.result) (ap (λ k. c.args.at.now.pc + 1 + k) c.size_of.ensures) level made c.as_slice-2.ensures c.give_back.new.world c.go_back.new.self c.in-Normal.ensures.ran
     (λ s e. c.in-Ok-give_back.ensures.does s.scopes (ap (map change_of) c.as_slice-in-Normal.ensures.value ∙ c.in-Ok-nested_changes.ensures ∙ ap (λ v. nested_changes exports (entries_of_frame v v.current)) (c.scopes-2.ensures ∙ e)
     ∙ ap (λ k. nested_changes exports (entries_of_frame s.scopes k)) (sym (c.frame-frame.ensures.current ∙ ap (λ v. v.current) e))))
     c.go_back.ensures.back c.go_back.ensures.replies
 
 pub calls::enter_call-returns-in-Normal-clause-stepped : goal.calls::enter_call-returns-in-Normal-clause-stepped
 calls::enter_call-returns-in-Normal-clause-stepped g t c =
-    let seat = seat_of c.args.seat.now in
-    let o = open_of c.args.open.now in
-    let this = c.args.call.now in
-    let next = c.args.pc + 1 in
-    let tag = tag_of c.args.tag.now in
-    let entries = c.args.entries in
+    let seat = seat_at c.args.at.now in
+    let o = open_of c.args.opened.now in
+    let this = c.args.start.call.now in
+    let next = c.args.at.now.pc + 1 in
+    let tag = tag_of c.args.start.tag.now in
+    let entries = c.args.start.entries in
     let laws = g.met.W.World in
     let exports = map export_of c.as_slice-exports.result.now in
     let fragments = c.as_slice-2.result.now in
     let counted = c.frames-frames.ensures ∙ ap (λ v. length v.frames) c.scopes.ensures in
-    let level : c.args.open.now.left ≡ suc c.in-Some.left = omega (arith, c.in-Some.ensures) in
+    let level : c.args.opened.now.left ≡ suc c.in-Some.left = omega (arith, c.in-Some.ensures) in
     let made = ap (map export_of) c.as_slice-exports.ensures.value ∙ c.in-Ok.ensures ∙ ap (exports_of entries) c.as_slice.ensures in
-    entered_failed g.W.World.replies laws.stores_on laws.again laws.tells c.args.served.now c.args.place.now this next seat o tag entries exports fragments c.frame-frame.result c.frames-frames.result c.in-Some.left c.args.world.now c.push_frame_of.new.self c.run_code.new.world c.requires.known c.in-Ok-push_frame_of.ensures.ok c.push_frame_of.ensures.replies
+    entered_failed g.W.World.replies laws.stores_on laws.again laws.tells c.args.at.now.served.now c.args.at.now.cell.now.place this next seat o tag entries exports fragments c.frame-frame.result c.frames-frames.result c.in-Some.left c.args.world.now c.push_frame_of.new.self c.run_code.new.world c.requires.known c.in-Ok-push_frame_of.ensures.ok c.push_frame_of.ensures.replies
     c.frame-frame.ensures.current c.frame-frame.ensures.there counted
-    (next + call_size this) refl level made c.as_slice-2.ensures c.give_back.new.world c.fail.new.world c.in-Err.failed (open_of c.fail.new.open) c.fail.result c.in-Normal.ensures.ran
+    (next + call_size this) refl level made c.as_slice-2.ensures c.give_back.new.world c.fail.new.world c.in-Err.failed (open_of c.fail.new.opened) c.fail.result c.in-Normal.ensures.ran
     (λ s e. c.in-Err.ensures.does s.scopes (ap (map change_of) c.as_slice-in-Normal.ensures.value ∙ c.in-Ok-nested_changes.ensures ∙ ap (λ v. nested_changes exports (entries_of_frame v v.current)) (c.scopes-2.ensures ∙ e)
     ∙ ap (λ k. nested_changes exports (entries_of_frame s.scopes k)) (sym (c.frame-frame.ensures.current ∙ ap (λ v. v.current) e))))
     c.fail.ensures.acted c.fail.ensures.short
 
 pub calls::enter_call-returns-in-Raised-clause-stepped : goal.calls::enter_call-returns-in-Raised-clause-stepped
 calls::enter_call-returns-in-Raised-clause-stepped g t c =
-    let seat = seat_of c.args.seat.now in
-    let o = open_of c.args.open.now in
-    let this = c.args.call.now in
-    let next = c.args.pc + 1 in
-    let tag = tag_of c.args.tag.now in
-    let entries = c.args.entries in
+    let seat = seat_at c.args.at.now in
+    let o = open_of c.args.opened.now in
+    let this = c.args.start.call.now in
+    let next = c.args.at.now.pc + 1 in
+    let tag = tag_of c.args.start.tag.now in
+    let entries = c.args.start.entries in
     let laws = g.met.W.World in
     let exports = map export_of c.as_slice-exports.result.now in
     let fragments = c.as_slice-2.result.now in
     let counted = c.frames-frames.ensures ∙ ap (λ v. length v.frames) c.scopes.ensures in
-    let level : c.args.open.now.left ≡ suc c.in-Some.left = omega (arith, c.in-Some.ensures) in
+    let level : c.args.opened.now.left ≡ suc c.in-Some.left = omega (arith, c.in-Some.ensures) in
     let made = ap (map export_of) c.as_slice-exports.ensures.value ∙ c.in-Ok.ensures ∙ ap (exports_of entries) c.as_slice.ensures in
-    entered_thrown g.W.World.replies laws.stores_on laws.again laws.tells c.args.served.now c.args.place.now this next seat o tag entries exports fragments c.frame-frame.result c.frames-frames.result c.in-Some.left c.args.world.now c.push_frame_of.new.self c.run_code.new.world c.requires.known c.in-Ok-push_frame_of.ensures.ok c.push_frame_of.ensures.replies
+    entered_thrown g.W.World.replies laws.stores_on laws.again laws.tells c.args.at.now.served.now c.args.at.now.cell.now.place this next seat o tag entries exports fragments c.frame-frame.result c.frames-frames.result c.in-Some.left c.args.world.now c.push_frame_of.new.self c.run_code.new.world c.requires.known c.in-Ok-push_frame_of.ensures.ok c.push_frame_of.ensures.replies
     c.frame-frame.ensures.current c.frame-frame.ensures.there counted
-    (next + call_size this) refl level made c.as_slice-2.ensures c.in-Raised.fault c.in-Raised.place c.go_back-in-Raised.new.self c.throw-in-Raised.new.world (open_of c.throw-in-Raised.new.open) c.throw-in-Raised.result c.in-Raised.ensures.ran
+    (next + call_size this) refl level made c.as_slice-2.ensures c.in-Raised.fault c.in-Raised.place c.go_back-in-Raised.new.self c.throw-in-Raised.new.world (open_of c.throw-in-Raised.new.opened) c.throw-in-Raised.result c.in-Raised.ensures.ran
     c.go_back-in-Raised.ensures.back c.go_back-in-Raised.ensures.replies c.throw-in-Raised.ensures.acted
 
 pub calls::enter_call-returns-clause-stepped : goal.calls::enter_call-returns-clause-stepped
 calls::enter_call-returns-clause-stepped g t c =
-    let seat = seat_of c.args.seat.now in
-    let o = open_of c.args.open.now in
-    let this = c.args.call.now in
-    let next = c.args.pc + 1 in
-    let tag = tag_of c.args.tag.now in
-    let entries = c.args.entries in
+    let seat = seat_at c.args.at.now in
+    let o = open_of c.args.opened.now in
+    let this = c.args.start.call.now in
+    let next = c.args.at.now.pc + 1 in
+    let tag = tag_of c.args.start.tag.now in
+    let entries = c.args.start.entries in
     let laws = g.met.W.World in
     let exports = map export_of c.as_slice-exports.result.now in
     let fragments = c.as_slice-2.result.now in
     let counted = c.frames-frames.ensures ∙ ap (λ v. length v.frames) c.scopes.ensures in
-    let level : c.args.open.now.left ≡ suc c.in-Some.left = omega (arith, c.in-Some.ensures) in
+    let level : c.args.opened.now.left ≡ suc c.in-Some.left = omega (arith, c.in-Some.ensures) in
     let made = ap (map export_of) c.as_slice-exports.ensures.value ∙ c.in-Ok.ensures ∙ ap (exports_of entries) c.as_slice.ensures in
-    entered_over g.W.World.replies laws.stores_on laws.again laws.tells c.args.served.now c.args.place.now this next seat o tag entries exports fragments c.frame-frame.result c.frames-frames.result c.in-Some.left c.args.world.now c.push_frame_of.new.self c.run_code.new.world c.requires.known c.in-Ok-push_frame_of.ensures.ok c.push_frame_of.ensures.replies
+    entered_over g.W.World.replies laws.stores_on laws.again laws.tells c.args.at.now.served.now c.args.at.now.cell.now.place this next seat o tag entries exports fragments c.frame-frame.result c.frames-frames.result c.in-Some.left c.args.world.now c.push_frame_of.new.self c.run_code.new.world c.requires.known c.in-Ok-push_frame_of.ensures.ok c.push_frame_of.ensures.replies
     c.frame-frame.ensures.current c.frame-frame.ensures.there counted
     (next + call_size this) refl level made c.as_slice-2.ensures c.run_code.result (λ e. c.in_default-run_code.not-Normal e) (λ f q e. c.in_default-run_code.not-Raised f q e) c.run_code.ensures.ran

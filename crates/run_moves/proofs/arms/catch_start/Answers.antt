@@ -12,7 +12,7 @@ use Rattle.page_table.specs.Open.{OpenCatch}
 
 pub returns-in-Ok-clause-acted : goal.returns-in-Ok-clause-acted
 returns-in-Ok-clause-acted g c =
-    let o = open_of c.args.open.now in
+    let o = open_of c.args.opened.now in
     catch_exit (c.args.pc + 1 + c.args.size) (c.args.pc + 1) c.bodies.result c.args.world.now o (map catch_of c.push.new.self)
     (λ first origin s h. c.bodies.ensures ∙ (g.met.W.World.tells first c.args.world.now origin s h).1)
     (ap (map catch_of) c.in-Ok.ensures.ok
@@ -21,5 +21,5 @@ returns-in-Ok-clause-acted g c =
 
 pub returns-in-Err-clause-acted : goal.returns-in-Err-clause-acted
 returns-in-Err-clause-acted g c =
-    let o = open_of c.args.open.now in
+    let o = open_of c.args.opened.now in
     acted_short (λ s. On (Running (c.args.pc + 1) s (with_catch (c.args.pc + 1 + c.args.size) s o))) c.args.world.now (record o { catches = map catch_of c.push.new.self }) (λ s. same s)

@@ -11,6 +11,6 @@ use Rattle.run_world.specs.Part.{Doing}
 
 pub returns-clause-lands : goal.returns-clause-lands
 returns-clause-lands g c = λ serving seat.
-    done_lands serving seat (open_of c.args.open.now) op.PutEscaped op.PutEscaped 1 (datum_of c.in-Some.value.now ∷ []) c.drop_top.new.self c.requires.filled refl
+    done_lands serving seat (open_of c.args.opened.now) op.PutEscaped op.PutEscaped 1 (datum_of c.in-Some.value.now ∷ []) c.drop_top.new.self c.requires.filled refl
     (sym (ap (λ xs. reverse (take 1 xs)) c.in-Some.ensures.1)) c.drop_top.ensures refl c.args.world.now c.put_escaped-done.new.world c.put_escaped-done.result (λ place s. refl)
     (subst (λ (t : List ℕ). Doing g.W.World.reached g.W.World.replies (λ (u : Unit {0}). u) (λ place. put_text place (escaped t)) c.args.world.now c.put_escaped-done.new.world c.put_escaped-done.result) c.text_of.ensures c.put_escaped-done.ensures.does)

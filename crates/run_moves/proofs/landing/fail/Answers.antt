@@ -5,8 +5,8 @@ use Rattle.pg_text.specs.declared.failure.Failure.TheVariants as failure
 
 pub returns-in-Fault-clause-acted : goal.returns-in-Fault-clause-acted
 returns-in-Fault-clause-acted g c =
-    failing_as c.args.place.now (open_of c.args.open.now) c.args.failed (failure.Fault c.in-Fault.fault) c.args.world.now c.throw.new.world (open_of c.throw.new.open) c.throw.result c.in-Fault.is
+    failing_as c.args.place.now (open_of c.args.opened.now) c.args.failed (failure.Fault c.in-Fault.fault) c.args.world.now c.throw.new.world (open_of c.throw.new.opened) c.throw.result c.in-Fault.is
     c.throw.ensures.acted
 
 pub returns-in-NoMemory-clause-acted : goal.returns-in-NoMemory-clause-acted
-returns-in-NoMemory-clause-acted g c = failing_short c.args.place.now (open_of c.args.open.now) c.args.failed c.args.world.now (open_of c.args.open.now) c.in-NoMemory.is
+returns-in-NoMemory-clause-acted g c = failing_short c.args.place.now (open_of c.args.opened.now) c.args.failed c.args.world.now (open_of c.args.opened.now) c.in-NoMemory.is

@@ -1,6 +1,6 @@
 use Rattle.std.proofs.Common.{◌∙◌, Err, Ok, ap, arith, sym}
 use Rattle.std.specs.Prelude.{map}
-use Rattle.run_world.specs.Seats.{seat_of}
+use Rattle.run_moves.specs.At.{seat_at}
 use Rattle.run_moves.proofs.AskLemmas.{first_text, rest_seen}
 use Rattle.run_moves.proofs.Forwards.{forward_adds, forward_committed, forward_deep, forward_read, forward_unasked, forward_unnamed, forward_well}
 use Rattle.run_world.proofs.Exits.{err_as}
@@ -15,12 +15,12 @@ use Rattle.pg_value.specs.declared.fault.RunFault.TheVariants as fault
 
 pub returns-then-has_committed-clause-does : goal.returns-then-has_committed-clause-does
 returns-then-has_committed-clause-does g c = λ serving h.
-    forward_committed serving c.args.left (page_run_of (seat_of c.args.seat.now)) (text_at 0 (map datum_of c.args.values.now)) (params_in (behind_first (map datum_of c.args.values.now))) g.W.World.committed
+    forward_committed serving c.args.left (page_run_of (seat_at c.args.at.now)) (text_at 0 (map datum_of c.args.values.now)) (params_in (behind_first (map datum_of c.args.values.now))) g.W.World.committed
     (λ first w origin s h. (g.met.W.World.tells first w origin s h).3) c.args.world.now (sym c.has_committed.ensures ∙ c.if-has_committed.true)
 
 pub returns-in_err-path-clause-does : goal.returns-in_err-path-clause-does
 returns-in_err-path-clause-does g c = λ serving h.
-    let run = page_run_of (seat_of c.args.seat.now) in
+    let run = page_run_of (seat_at c.args.at.now) in
     let more = params_in (behind_first (map datum_of c.args.values.now)) in
     let url = c.text_of-target.ensures ∙ first_text c.args.values.now c.index-values-0.result c.requires.some c.index-values-0.is in
     err_as c.from_residual.result c.in_err-path.field-0.0 c.from_residual.ensures.1
@@ -30,7 +30,7 @@ returns-in_err-path-clause-does g c = λ serving h.
 
 pub returns-in_default-clause-does : goal.returns-in_default-clause-does
 returns-in_default-clause-does g c = λ serving h.
-    let run = page_run_of (seat_of c.args.seat.now) in
+    let run = page_run_of (seat_at c.args.at.now) in
     let more = params_in (behind_first (map datum_of c.args.values.now)) in
     let url = c.text_of-target.ensures ∙ first_text c.args.values.now c.index-values-0.result c.requires.some c.index-values-0.is in
     forward_read serving c.args.left run more c.text_of-target.result.now (text_at 0 (map datum_of c.args.values.now)) c.args.world.now c.args.world.now (Err (failure.Fault fault.TooDeep)) url
@@ -40,11 +40,11 @@ returns-in_default-clause-does g c = λ serving h.
 pub returns-in_err-params-clause-does : goal.returns-in_err-params-clause-does
 returns-in_err-params-clause-does g c = λ serving h.
     short_at c.args.world.now c.from_residual-in_err-params.result c.from_residual-in_err-params.ensures.1
-    (λ place. forward_adds serving c.args.left (page_run_of (seat_of c.args.seat.now)) (text_at 0 (map datum_of c.args.values.now)) (params_in (behind_first (map datum_of c.args.values.now))) place)
+    (λ place. forward_adds serving c.args.left (page_run_of (seat_at c.args.at.now)) (text_at 0 (map datum_of c.args.values.now)) (params_in (behind_first (map datum_of c.args.values.now))) place)
 
 pub returns-in_err-page-clause-does : goal.returns-in_err-page-clause-does
 returns-in_err-page-clause-does g c = λ serving h.
-    let run = page_run_of (seat_of c.args.seat.now) in
+    let run = page_run_of (seat_at c.args.at.now) in
     let more = params_in (behind_first (map datum_of c.args.values.now)) in
     let url = c.text_of-target.ensures ∙ first_text c.args.values.now c.index-values-0.result c.requires.some c.index-values-0.is in
     err_as c.from_residual-in_err-page.result c.in_err-page.field-0.0 c.from_residual-in_err-page.ensures.1
@@ -54,7 +54,7 @@ returns-in_err-page-clause-does g c = λ serving h.
 
 pub returns-clause-does : goal.returns-clause-does
 returns-clause-does g c = λ serving h.
-    let run = page_run_of (seat_of c.args.seat.now) in
+    let run = page_run_of (seat_at c.args.at.now) in
     let more = params_in (behind_first (map datum_of c.args.values.now)) in
     let url = c.text_of-target.ensures ∙ first_text c.args.values.now c.index-values-0.result c.requires.some c.index-values-0.is in
     forward_read serving c.args.left run more c.text_of-target.result.now (text_at 0 (map datum_of c.args.values.now)) c.args.world.now c.page.new.self (Ok _) url

@@ -10,34 +10,34 @@ use Rattle.page_table.specs.Move.{On}
 
 pub returns-then-number-gt16-clause-acted : goal.returns-then-number-gt16-clause-acted
 returns-then-number-gt16-clause-acted g c =
-    let o = open_of c.args.open.now in
+    let o = open_of c.args.opened.now in
     let high = subst (λ n. 16 < n) c.number.ensures c.if-number-gt16.true in
-    acted_as (λ s. On (thrown c.args.fault c.args.place.now s o)) (λ s. On (uncaught c.args.fault c.args.place.now s o)) c.args.world.now c.fall.new.world (open_of c.fall.new.open) c.fall.result
+    acted_as (λ s. On (thrown c.args.fault c.args.place.now s o)) (λ s. On (uncaught c.args.fault c.args.place.now s o)) c.args.world.now c.fall.new.world (open_of c.fall.new.opened) c.fall.result
     (λ s. ap On (thrown_high c.args.fault c.args.place.now s o high)) c.fall.ensures.acted
 
 pub returns-in_default-clause-acted : goal.returns-in_default-clause-acted
 returns-in_default-clause-acted g c =
-    let o = open_of c.args.open.now in
-    let p = open_of (record c.args.open.now { catches = c.pop.new.self }) in
-    acted_as (λ s. On (thrown c.args.fault c.args.place.now s o)) (λ s. On (uncaught c.args.fault c.args.place.now s p)) c.args.world.now c.fall-in_default.new.world (open_of c.fall-in_default.new.open)
+    let o = open_of c.args.opened.now in
+    let p = open_of (record c.args.opened.now { catches = c.pop.new.self }) in
+    acted_as (λ s. On (thrown c.args.fault c.args.place.now s o)) (λ s. On (uncaught c.args.fault c.args.place.now s p)) c.args.world.now c.fall-in_default.new.world (open_of c.fall-in_default.new.opened)
     c.fall-in_default.result (λ s. ap On (thrown_free c.args.fault c.args.place.now s o (ap (map catch_of) c.in_default.ensures.0))) c.fall-in_default.ensures.acted
 
 pub returns-in_default-fault_record-clause-acted : goal.returns-in_default-fault_record-clause-acted
 returns-in_default-fault_record-clause-acted g c =
-    let o = open_of c.args.open.now in
-    acted_short (λ s. On (thrown c.args.fault c.args.place.now s o)) c.args.world.now (open_of (record c.args.open.now { catches = c.pop.new.self }))
+    let o = open_of c.args.opened.now in
+    acted_short (λ s. On (thrown c.args.fault c.args.place.now s o)) c.args.world.now (open_of (record c.args.opened.now { catches = c.pop.new.self }))
     (λ s. thrown_grows c.args.fault c.args.place.now s o)
 
 pub returns-in_default-push-clause-acted : goal.returns-in_default-push-clause-acted
 returns-in_default-push-clause-acted g c =
-    let o = open_of c.args.open.now in
-    acted_short (λ s. On (thrown c.args.fault c.args.place.now s o)) c.args.world.now (open_of (record c.args.open.now { stack = c.push.new.self; catches = c.pop.new.self }))
+    let o = open_of c.args.opened.now in
+    acted_short (λ s. On (thrown c.args.fault c.args.place.now s o)) c.args.world.now (open_of (record c.args.opened.now { stack = c.push.new.self; catches = c.pop.new.self }))
     (λ s. thrown_grows c.args.fault c.args.place.now s o)
 
 pub returns-clause-acted : goal.returns-clause-acted
 returns-clause-acted g c =
-    let o = open_of c.args.open.now in
-    let o2 = open_of (record c.args.open.now { stack = c.push.new.self; loops = c.unwind.new.loops; catches = c.pop.new.self }) in
+    let o = open_of c.args.opened.now in
+    let o2 = open_of (record c.args.opened.now { stack = c.push.new.self; loops = c.unwind.new.loops; catches = c.pop.new.self }) in
     let innermost = catch_of c.in-Some.innermost in
     let outer = map catch_of c.pop.new.self in
     let low = subst (λ n. n ≤ 16) c.number.ensures c.if-number-gt16.false in
