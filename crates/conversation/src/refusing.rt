@@ -8,7 +8,7 @@ ghost use Rattle.conversation.specs.Refusal.{IsShown, Refuses, refusal, status_a
 use crate::ended::Ended;
 use edges::Sink;
 use http_in::HttpFault;
-use http_out::{Status, write_plain};
+use http_out::{Status, tell_plain};
 use std::alloc::{AllocError, Global};
 
 /// Answers a fault of reading where it has an answer, and ends.
@@ -39,11 +39,10 @@ fn tell<K: Sink>(alloc: Global, fault: HttpFault, sink: &mut K) -> Result<bool, 
     ensures later { K.faults sink.old ≤ K.faults sink.new }
     ensures rose { IfOk result (λ failed. failed ≡ true → Rose (K.faults sink.old) (K.faults sink.new)) }
 {
-    let mut failed = false;
-    if let Some((status, line)) = status_and_line(fault) {
-        write_plain(alloc, sink, &mut failed, status, true, line, true)?;
+    match status_and_line(fault) {
+        Some((status, line)) => tell_plain(alloc, sink, status, true, line, true),
+        None => Ok(false),
     }
-    Ok(failed)
 }
 
 // The status and the line of a fault that has an answer.

@@ -7,7 +7,7 @@ ghost use Rattle.jstl_tags.specs.Content.{body_of, is_empty};
 ghost use Rattle.jstl_tags.specs.Elements.{opened_of};
 ghost use Rattle.jstl_tags.specs.Given.{names_made};
 ghost use Rattle.jstl_tags.specs.Hosts.{host_made};
-ghost use Rattle.jstl_tags.specs.ReadCheck.{action_by, body_in, holds_by, own_by, own_of, row_by, split_by, split_in, stands_as_body};
+ghost use Rattle.jstl_tags.specs.ReadCheck.{action_by, body_in, holds_by, own_by, own_of, split_by, split_in, stands_as_body};
 ghost use Rattle.jstl_tags.specs.Rows.{row_made};
 ghost use Rattle.jstl_tags.specs.Standing.{IsBody, standing_made};
 
@@ -92,24 +92,6 @@ fn body_faults(
     Faults::one_if(is_bad, TranslationFault::BadBody)
 }
 
-// The faults of an action by its row.
-fn row_faults_by(
-    library: &Prefixes,
-    row: &Row,
-    closing: Closing,
-    split: bool,
-    standing: &Standings,
-    body: &[Standing],
-    given: Given,
-) -> Faults
-    ensures { result ≡ in_order (row_by (λ prefix. contains_text prefix library.now) (row_made row.now)
-        closing split (map standing_made standing.now) (map standing_made body.now) (names_made given.entry)) }
-{
-    given_faults(row, closing, given).and(split_faults_by(split, standing).and(body_faults(
-        library, row.holds, closing, split, standing, body,
-    )))
-}
-
 // Whether exactly one of `var` and `target` is given, and `property` with `target` alone.
 fn are_set_well(given: Given) -> bool
     ensures { result ≡ are_set_well (contains_text (codes "var") (names_made given.entry))
@@ -185,15 +167,15 @@ fn action_faults(library: &Prefixes, row: &Row, element: &Element, body: Body) -
     let split = is_split(element, body.standing);
     let given = given_to(element, body.standing);
     let within = body_in(element, body);
-    row_faults_by(
+    let closing = element.closing;
+    given_faults(row, closing, given).and(split_faults_by(split, body.standing).and(body_faults(
         library,
-        row,
-        element.closing,
+        row.holds,
+        closing,
         split,
         body.standing,
         within,
-        given,
-    )
+    )))
 }
 
 // The faults of a core tag that its row doesn't say, by what stands in its body.
@@ -221,7 +203,8 @@ pub fn split_faults(element: &Element, body: Body) -> Faults
     split_faults_by(is_split(element, body.standing), body.standing)
 }
 
-/// The faults of an action with this body by its row. `library` are the prefixes of the core library.
+/// The faults of an action with this body by its row. `library` are the prefixes of the core
+/// library.
 pub fn row_faults(library: &Prefixes, row: &Row, element: &Element, body: Body) -> Faults
     ensures { (tree : Tree) → IsBody body.entry tree →
         result ≡ in_order (row_faults (λ prefix. contains_text prefix library.now) (row_made row.now)
@@ -230,7 +213,8 @@ pub fn row_faults(library: &Prefixes, row: &Row, element: &Element, body: Body) 
     action_faults(library, row, element, body)
 }
 
-/// The faults of a core tag with this body at its beginning. `library` are the prefixes of the core library.
+/// The faults of a core tag with this body at its beginning. `library` are the prefixes of the core
+/// library.
 pub fn core_faults(
     library: &Prefixes,
     found: (CoreName, Row),

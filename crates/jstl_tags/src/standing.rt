@@ -1,7 +1,8 @@
 use crate::standings::Standings;
 use page_pieces::Attributes;
 
-/// One thing that stands in the body of an element with static includes in place. Comments and directives are nothing there.
+/// One thing that stands in the body of an element with static includes in place. Comments and
+/// directives are nothing there.
 #[derive(Clone, Copy)]
 pub enum Standing<'a> {
     /// White space alone.
