@@ -6,7 +6,8 @@ ghost use Rattle.std.specs.Str.{bytes_eq};
 ghost use Rattle.act_reader.specs.Parts.{parts_view};
 ghost use Rattle.page_acts.specs.Views.{act_of};
 ghost use Rattle.page_meaning.specs.Page as page;
-ghost use Rattle.unit_meaning.specs.Named.{property_in, scope_named, some_variable, text_of_attribute};
+ghost use Rattle.unit_meaning.specs.Named.{property_in, scope_named, some_variable};
+ghost use Rattle.unit_meaning.specs.Named.{text_of_attribute};
 ghost use Rattle.unit_meaning.specs.Shape.{jsp_node};
 ghost use Rattle.unit_nodes.specs.Views.{given_of};
 

@@ -1,8 +1,11 @@
 // The children of an action, and what stands in it.
 ghost use Rattle.std.specs.Prelude.{◌≡◌, true, OnOk};
-ghost use Rattle.act_reader.specs.Contents.{Adds, before, content_before, content_view, with_branch, with_given, with_held, with_param};
-ghost use Rattle.page_acts.specs.Views.{act_of, attribute_before, attributes_of, branch_before, param_before};
-ghost use Rattle.unit_meaning.specs.Shape.{Children as Standing, Content as Inside, has_attributes, no_content, with_node};
+ghost use Rattle.act_reader.specs.Contents.{Adds, before, content_before, content_view};
+ghost use Rattle.act_reader.specs.Contents.{with_branch, with_given, with_held, with_param};
+ghost use Rattle.page_acts.specs.Views.{act_of, attribute_before, attributes_of, branch_before};
+ghost use Rattle.page_acts.specs.Views.{param_before};
+ghost use Rattle.unit_meaning.specs.Shape.{Children as Standing, Content as Inside, has_attributes};
+ghost use Rattle.unit_meaning.specs.Shape.{no_content, with_node};
 
 use page_acts::{Act, ActAttribute, ActBranch, ActParam};
 use pg_text::Text;

@@ -6,7 +6,9 @@ ghost use Rattle.std.specs.Option.{option_map, unwrap_or};
 ghost use Rattle.std.specs.Str.{bytes_eq};
 ghost use Rattle.el_reader.specs.El.{tree_of};
 ghost use Rattle.page_acts.specs.Views.{property_of, variable_of};
-ghost use Rattle.unit_meaning.specs.Named.{name_in, plain_text, property_in, scope_named, some_variable, static_text, target_in, target_of, text_of_attribute, variable_in};
+ghost use Rattle.unit_meaning.specs.Named.{name_in, plain_text, property_in, scope_named};
+ghost use Rattle.unit_meaning.specs.Named.{some_variable, static_text, target_in, target_of};
+ghost use Rattle.unit_meaning.specs.Named.{text_of_attribute, variable_in};
 ghost use Rattle.unit_nodes.specs.Views.{given_of, part_of};
 
 use el_reader::El;

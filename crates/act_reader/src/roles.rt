@@ -1,6 +1,7 @@
 // What becomes of an action.
 ghost use Rattle.std.specs.Prelude.{◌≡◌, map, OnOk, IfOk, true, false};
-ghost use Rattle.act_reader.specs.Contents.{Adds, children_view, with_branch, with_given, with_held, with_param};
+ghost use Rattle.act_reader.specs.Contents.{Adds, children_view, with_branch, with_given};
+ghost use Rattle.act_reader.specs.Contents.{with_held, with_param};
 ghost use Rattle.act_reader.specs.Parts.{parts_view};
 ghost use Rattle.act_reader.specs.Roles.{role_of, with_nothing};
 ghost use Rattle.page_acts.specs.Views.{act_of, acts_of, attribute_before};

@@ -55,7 +55,8 @@ impl<'a, T> Iterator for Items<'a, T> {
     }
 }
 
-// The first of these blocks that has items, and the full ones behind it; no items where there are none.
+// The first of these blocks that has items, and the full ones behind it; no items where there are
+// none.
 fn next_block<'a, T>(block: &'a [T], full: &'a [Vec<T>]) -> (&'a [T], &'a [Vec<T>])
     ensures items { result.0.now ++ joined result.1.now ≡ block.now ++ joined full.now }
     ensures none { result.0.now ≡ [] → result.1.now ≡ [] }

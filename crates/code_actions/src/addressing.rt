@@ -1,6 +1,8 @@
 // Actions on an address with params.
 ghost use Rattle.std.specs.Prelude.{◌≡◌, IfOk, option_map};
-ghost use Rattle.code_actions.specs.Addressing.{addressing_code, address_code, address_done, addressing_evaluations, page_address_code, url_code};
+ghost use Rattle.code_actions.specs.Addressing.{addressing_code, address_code, address_done};
+ghost use Rattle.code_actions.specs.Addressing.{addressing_evaluations, page_address_code};
+ghost use Rattle.code_actions.specs.Addressing.{url_code};
 ghost use Rattle.page_acts.specs.Views.{variable_of};
 ghost use Rattle.page_code.specs.Ops.{address_with};
 ghost use Rattle.page_code.specs.Shapes.{up};

@@ -1,6 +1,7 @@
 // Actions around a body.
 ghost use Rattle.std.specs.Prelude.{◌≡◌, IfOk};
-ghost use Rattle.code_actions.specs.Enclosing.{enclosing_code, enclosing_evaluations, enclosing_ground};
+ghost use Rattle.code_actions.specs.Enclosing.{enclosing_code, enclosing_evaluations};
+ghost use Rattle.code_actions.specs.Enclosing.{enclosing_ground};
 
 use crate::bodies::{set, set_entry};
 use crate::choices::tested_once;

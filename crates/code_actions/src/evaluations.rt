@@ -3,7 +3,9 @@ ghost use Rattle.std.specs.Prelude.{◌≡◌, Some};
 ghost use Rattle.code_actions.specs.Evaluations.{coercions};
 ghost use Rattle.code_expressions.specs.Values.{coercion_of};
 ghost use Rattle.page_meaning.specs.Attributes.{coercion_in};
-ghost use Rattle.page_meaning.specs.Coercions.{out_coercions, set_coercions, test_coercions, each_coercions, token_coercions, url_coercions, param_coercions, page_coercions};
+ghost use Rattle.page_meaning.specs.Coercions.{out_coercions, set_coercions, test_coercions};
+ghost use Rattle.page_meaning.specs.Coercions.{each_coercions, token_coercions, url_coercions};
+ghost use Rattle.page_meaning.specs.Coercions.{param_coercions, page_coercions};
 ghost use Rattle.page_meaning.specs.Tags.{tag_coercion, type_coercion};
 ghost use Rattle.tag_decl.specs.Declare.{declared};
 

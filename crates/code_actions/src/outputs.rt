@@ -1,7 +1,8 @@
 // What is written.
 ghost use Rattle.std.specs.Prelude.{◌≡◌, ◌++◌, true, IfOk, codes};
 ghost use Rattle.code_actions.specs.Enclosing.{out_by};
-ghost use Rattle.code_actions.specs.Outputs.{body_code, chosen_put, default_code, out_code, out_ground, value_code};
+ghost use Rattle.code_actions.specs.Outputs.{body_code, chosen_put, default_code, out_code};
+ghost use Rattle.code_actions.specs.Outputs.{out_ground, value_code};
 ghost use Rattle.code_expressions.specs.Values.{kept_code};
 ghost use Rattle.page_code.specs.Shapes.{up};
 ghost use Rattle.page_code.specs.declared.instr.Instr.TheVariants as instr;

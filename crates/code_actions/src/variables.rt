@@ -4,7 +4,8 @@ ghost use Rattle.page_acts.specs.Views.{variable_of};
 ghost use Rattle.page_code.specs.declared.op.Op.TheVariants as op;
 ghost use Rattle.code_forms.specs.Codes.{form_code};
 ghost use Rattle.code_forms.specs.Forms.{does};
-ghost use Rattle.code_lowering.specs.Lowering.{keeps_fault, removes, scoped, sets, sets_given, sets_or_removes};
+ghost use Rattle.code_lowering.specs.Lowering.{keeps_fault, removes, scoped, sets, sets_given};
+ghost use Rattle.code_lowering.specs.Lowering.{sets_or_removes};
 ghost use Rattle.pg_value.specs.Datum.{truth};
 ghost use Rattle.pg_value.specs.declared.scope.Scope.TheVariants as scope;
 

@@ -1,12 +1,14 @@
 ghost use Rattle.std.specs.Prelude.{◌≡◌, ◌+◌};
 ghost use Rattle.page_code.specs.Calls.{body_size};
-ghost use Rattle.code_check.specs.ReadChecks.{begins_body, ends_call, fits_address, fits_call, fits_leave, fits_tag};
+ghost use Rattle.code_check.specs.ReadChecks.{begins_body, ends_call, fits_address, fits_call};
+ghost use Rattle.code_check.specs.ReadChecks.{fits_leave, fits_tag};
 
 use crate::cells::{carries_nothing, carries_same};
 use crate::open::{Open, can_take_values, without};
 use page_code::{CallBody, CallOut, Cell, Fragment, Leave, TagCall, values_of_address};
 
-/// A call finds the values that it takes, what it hands down begins with nothing open, and it goes on where what is left stands open.
+/// A call finds the values that it takes, what it hands down begins with nothing open, and it goes
+/// on where what is left stands open.
 pub(crate) fn call_fits(code: &[Cell], next: usize, open: Open<'_>, call: &CallOut) -> bool
     ensures { result ≡ fits_call code.now next open.entry.values open.entry.bodies open.entry.loops
         open.entry.catches.now call.now }
@@ -41,7 +43,8 @@ fn address_call_fits(code: &[Cell], next: usize, open: Open<'_>, params: usize) 
     can_take_values(open, count) && carries_same(code, next, without(open, count))
 }
 
-// The call of a tag file finds its attributes, and its body, its fragments and what follows stand behind it.
+// The call of a tag file finds its attributes, and its body, its fragments and what follows stand
+// behind it.
 fn tag_call_fits(code: &[Cell], next: usize, open: Open<'_>, call: &TagCall) -> bool
     ensures { result ≡ fits_tag code.now next open.entry.values open.entry.bodies open.entry.loops
         open.entry.catches.now call.now }
@@ -89,7 +92,8 @@ fn ends_behind(
     }
 }
 
-// Fragments that stand one after the other each begin with nothing open, and the place behind them carries what stands open.
+// Fragments that stand one after the other each begin with nothing open, and the place behind them
+// carries what stands open.
 fn call_ends(code: &[Cell], first: usize, fragments: &[Fragment], open: Open<'_>) -> bool
     ensures { result ≡ ends_call code.now first fragments.now open.entry.values open.entry.bodies
         open.entry.loops open.entry.catches.now }

@@ -1,5 +1,6 @@
 ghost use Rattle.std.specs.Prelude.{◌≡◌, ◌+◌, [], slice_get, nat_eq};
-ghost use Rattle.code_check.specs.ReadChecks.{same_level, same_levels, level, carries, cell_tries, trying_is, ends_catch};
+ghost use Rattle.code_check.specs.ReadChecks.{same_level, same_levels, level, carries, cell_tries};
+ghost use Rattle.code_check.specs.ReadChecks.{trying_is, ends_catch};
 
 use crate::open::Open;
 use page_code::{Cell, Level};
@@ -77,7 +78,8 @@ pub(crate) fn carries_catch(code: &[Cell], at: usize, open: Open<'_>) -> bool
         && opens_catch(cell.shape.catches.as_slice(), open)
 }
 
-/// The innermost catch began where as much stood open as now, and the place is in the code and has the others open.
+/// The innermost catch began where as much stood open as now, and the place is in the code and has
+/// the others open.
 pub(crate) fn closes_catch(code: &[Cell], at: usize, open: Open<'_>) -> bool
     ensures { result ≡ ends_catch code.now at open.entry.values open.entry.bodies open.entry.loops
         open.entry.catches.now }

@@ -1,5 +1,6 @@
 ghost use Rattle.std.specs.Prelude.{◌≡◌, ◌<◌, ◌+◌, ◌^◌};
-ghost use Rattle.code_check.specs.ReadChecks.{fits, fits_branch, fits_loop, fits_null_branch, fits_op, fits_round};
+ghost use Rattle.code_check.specs.ReadChecks.{fits, fits_branch, fits_loop, fits_null_branch};
+ghost use Rattle.code_check.specs.ReadChecks.{fits_op, fits_round};
 
 use crate::calls::{call_fits, leave_fits};
 use crate::cells::{carries_ahead, carries_catch, carries_more, carries_same, closes_catch};
@@ -89,7 +90,8 @@ fn loop_fits(code: &[Cell], next: usize, open: Open<'_>, kind: &LoopKind) -> boo
     can_take_values(open, count) && carries_more(code, next, without(open, count), 0, 0, 1)
 }
 
-// A loop is open, its rounds begin in the code where as much stands open, and the next cell has one loop less.
+// A loop is open, its rounds begin in the code where as much stands open, and the next cell has one
+// loop less.
 fn round_fits(code: &[Cell], pc: usize, size: usize, open: Open<'_>) -> bool
     requires { pc + 1 < 2 ^ 64 }
     ensures { result ≡ fits_round code.now pc size open.entry.values open.entry.bodies open.entry.loops

@@ -1,5 +1,6 @@
-// Codes in writing: cells between semicolons, each with what stands open before it, and its instruction. What stands open is
-// a digit for values, and k, l, t for a body that is kept, a loop and a catch, in the order in which they were opened; z drops all values.
+// Codes in writing: cells between semicolons, each with what stands open before it, and its
+// instruction. What stands open is a digit for values, and k, l, t for a body that is kept, a loop
+// and a catch, in the order in which they were opened; z drops all values.
 use crate::operations::operation;
 use code_check::CheckedCode;
 use page_code::{

@@ -5,7 +5,8 @@ ghost use Rattle.el_reader.specs.El.{pair_of, tree_of};
 ghost use Rattle.el_reader.specs.Tree.{pairs_of, trees_of};
 ghost use Rattle.code_expressions.specs.Chain.{link_form};
 ghost use Rattle.code_forms.specs.Codes.{form_code};
-ghost use Rattle.code_lowering.specs.Expressions.{first_visits, pairs_form, tree_form, trees_form, value_form};
+ghost use Rattle.code_lowering.specs.Expressions.{first_visits, pairs_form, tree_form, trees_form};
+ghost use Rattle.code_lowering.specs.Expressions.{value_form};
 
 use crate::calls::call;
 use crate::names::{entry, name};

@@ -1,5 +1,6 @@
 // The order of values on the stack.
-ghost use Rattle.std.specs.Prelude.{◌≡◌, ◌+◌, [], ◌∷◌, ◌++◌, length, get_or, map, IfOk, IfSome, OnOk, ◌<◌};
+ghost use Rattle.std.specs.Prelude.{◌≡◌, ◌+◌, [], ◌∷◌, ◌++◌, length, get_or, map, IfOk, IfSome};
+ghost use Rattle.std.specs.Prelude.{OnOk, ◌<◌};
 ghost use Rattle.page_code.specs.Shapes.{cell, up};
 ghost use Rattle.page_code.specs.declared.instr.Instr.TheVariants as instr;
 ghost use Rattle.code_forms.specs.Codes.{arranged_code, brought_code, dropped_code};
@@ -18,8 +19,9 @@ pub fn swapped(alloc: Global, ground: &Shape, place: &Place) -> Result<Code, All
     one_cell(alloc, &ground.up(2)?, place, Instr::Take(1))
 }
 
-/// The code that leaves, of the values with these names, pushed in this order, those that are wanted, in the order in which they are wanted: of
-/// one name the last value, and null where there is none.
+/// The code that leaves, of the values with these names, pushed in this order, those that are
+/// wanted, in the order in which they are wanted: of one name the last value, and null where there
+/// is none.
 pub fn arranged(
     alloc: Global,
     ground: &Shape,

@@ -11,7 +11,8 @@ use page_code::{CallBody, CallOut, Code, Fragment, Instr, Leave, Shape, TagCall}
 use pg_text::{Listed, Path, Place, Text};
 use std::alloc::{AllocError, Global};
 
-/// What a call hands down: a body or none, fragments by their names, and the cells of all of them, which stand behind the call.
+/// What a call hands down: a body or none, fragments by their names, and the cells of all of them,
+/// which stand behind the call.
 #[derive(Drop)]
 pub struct Handed {
     pub body: CallBody,
@@ -77,7 +78,8 @@ pub fn ended(alloc: Global, place: &Place, part: Code) -> Result<Code, AllocErro
     Ok(code)
 }
 
-/// The code of the call of a tag file with the values of these names, where so much stands open before these are taken.
+/// The code of the call of a tag file with the values of these names, where so much stands open
+/// before these are taken.
 pub fn tag_call(
     alloc: Global,
     before: &Shape,

@@ -8,8 +8,8 @@ use page_code::{Code, Instr, Shape};
 use pg_text::Place;
 use std::alloc::{AllocError, Global};
 
-/// The code of the first part where the truth value on top is true, and of the second where it is false. So much stands open before this
-/// value is taken, and behind both parts.
+/// The code of the first part where the truth value on top is true, and of the second where it is
+/// false. So much stands open before this value is taken, and behind both parts.
 pub fn chosen(
     alloc: Global,
     before: &Shape,
@@ -26,7 +26,8 @@ pub fn chosen(
     tested(alloc, before, place, test, front, second)
 }
 
-/// The code of one part where null is on top, which is taken, and of another where something else is.
+/// The code of one part where null is on top, which is taken, and of another where something else
+/// is.
 pub fn where_null(
     alloc: Global,
     before: &Shape,

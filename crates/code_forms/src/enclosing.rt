@@ -53,7 +53,8 @@ pub fn ensured(
     Ok(code)
 }
 
-/// The code of a loop over a part, whose own code has one loop more below it. So much stands open before the loop takes its values.
+/// The code of a loop over a part, whose own code has one loop more below it. So much stands open
+/// before the loop takes its values.
 pub fn looped(
     alloc: Global,
     before: &Shape,
@@ -75,8 +76,8 @@ pub fn looped(
     Ok(code)
 }
 
-/// The code of a part that is tried, whose own code has one catch more below it, and of what takes the record of its fault, or null where
-/// it went well.
+/// The code of a part that is tried, whose own code has one catch more below it, and of what takes
+/// the record of its fault, or null where it went well.
 pub fn caught(
     alloc: Global,
     ground: &Shape,

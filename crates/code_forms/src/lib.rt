@@ -1,7 +1,9 @@
-//! The forms of which the code of every kind of node is made: of each form its code, from the codes of its parts.
+//! The forms of which the code of every kind of node is made: of each form its code, from the codes
+//! of its parts.
 //!
-//! A form takes values from the stack and leaves others in their place. Its code is told with what stands open below these, its ground, and has
-//! no place of its own: codes are joined one behind the other.
+//! A form takes values from the stack and leaves others in their place. Its code is told with what
+//! stands open below these, its ground, and has no place of its own: codes are joined one behind
+//! the other.
 #![tactic(auto)]
 
 mod arranging;

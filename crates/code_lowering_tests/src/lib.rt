@@ -2,7 +2,8 @@
 #![tactic(auto)]
 
 ghost use Rattle.code_lowering_tests.specs.Codes.{LoopWithTest};
-ghost use Rattle.code_lowering_tests.specs.Ends.{Called, Caught, EachNumber, FaultInFragment, FaultIncluded, Included, NoLevel};
+ghost use Rattle.code_lowering_tests.specs.Ends.{Called, Caught, EachNumber, FaultInFragment};
+ghost use Rattle.code_lowering_tests.specs.Ends.{FaultIncluded, Included, NoLevel};
 
 /// The cells of a program.
 pub fn codes()

@@ -8,7 +8,8 @@ ghost use Rattle.code_lowering.specs.Expressions.{visits};
 ghost use Rattle.code_lowering.specs.Lowering.{attributes_form};
 ghost use Rattle.unit_meaning.specs.Shape.{page_of};
 ghost use Rattle.unit_nodes.specs.Views.{page_view};
-ghost use Rattle.code_nodes.specs.Values.{attribute_place, behind_value, coerced_code, is_fragment, value_form};
+ghost use Rattle.code_nodes.specs.Values.{attribute_place, behind_value, coerced_code, is_fragment};
+ghost use Rattle.code_nodes.specs.Values.{value_form};
 
 use crate::names::name_of;
 use crate::tree::nodes;

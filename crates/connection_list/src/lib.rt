@@ -1,5 +1,5 @@
-//! Lists of connections, as the command `record` reads them: each is a line with the number of its bytes, 1 to 8 decimal digits and a line
-//! feed, and then these bytes.
+//! Lists of connections, as the command `record` reads them: each is a line with the number of its
+//! bytes, 1 to 8 decimal digits and a line feed, and then these bytes.
 #![tactic(auto)]
 
 mod list;

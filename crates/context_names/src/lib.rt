@@ -1,4 +1,5 @@
-//! The names of contexts, the context to which a target belongs, and a list of ports in the order of the names.
+//! The names of contexts, the context to which a target belongs, and a list of ports in the order
+//! of the names.
 #![tactic(auto)]
 
 mod limits;

@@ -11,8 +11,8 @@ use pg_text::Text;
 use std::alloc::{AllocError, Global};
 use std::marker::Model;
 
-/// The names of contexts: 1 to 16 different ones, each of 1 to 32 lower-case letters and digits. Contracts see them in
-/// their order.
+/// The names of contexts: 1 to 16 different ones, each of 1 to 32 lower-case letters and digits.
+/// Contracts see them in their order.
 #[derive(Drop)]
 pub struct ContextNames {
     names: Vec<Text>,
@@ -50,7 +50,8 @@ impl ContextNames {
         self.names.len()
     }
 
-    /// The context whose name stands between the first slash of a target and the second, and where the second stands.
+    /// The context whose name stands between the first slash of a target and the second, and where
+    /// the second stands.
     pub fn context_of(&self, target: &[u8]) -> Option<(usize, usize)>
         ensures context { result ≡ context_of self.now target.now }
         ensures within { IfSome result (λ found. found.0 < length self.now) }

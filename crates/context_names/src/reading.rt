@@ -3,7 +3,8 @@ ghost use Rattle.std.specs.Prelude.{◌≡◌, ◌<◌, ◌∷◌, length, map, 
 ghost use Rattle.std.specs.List.{list_all, list_any, slice_split};
 ghost use Rattle.std.specs.Option.{option_map};
 ghost use Rattle.std.specs.Str.{bytes_eq};
-ghost use Rattle.context_names.specs.Names.{are_distinct, are_names, is_comma, is_name, is_sign, words_in};
+ghost use Rattle.context_names.specs.Names.{are_distinct, are_names, is_comma, is_name, is_sign};
+ghost use Rattle.context_names.specs.Names.{words_in};
 
 use crate::limits::{MAX_CONTEXT_NAME_BYTES, MAX_CONTEXTS};
 use pg_text::Text;

@@ -3,7 +3,8 @@ use context_names::read_names;
 use std::alloc::{AllocError, Global};
 use std::test::Fail;
 
-/// Words of names, targets, and for each the place of its context with where the target goes on inside it.
+/// Words of names, targets, and for each the place of its context with where the target goes on
+/// inside it.
 const TARGETS: [(&str, &str, &str); 16] = [
     ("a,b", "/a/x.jsp", "0 2"),
     ("a,b", "/b/_editor/publish?base=1", "1 2"),

@@ -1,4 +1,5 @@
-ghost use Rattle.std.specs.Prelude.{◌≡◌, ◌≤◌, ◌<◌, ◌+◌, [], All, IfOk, None, OnOk, length, map, vec_capacity};
+ghost use Rattle.std.specs.Prelude.{◌≡◌, ◌≤◌, ◌<◌, ◌+◌, [], All, IfOk, None, OnOk, length, map};
+ghost use Rattle.std.specs.Prelude.{vec_capacity};
 ghost use Rattle.context_workers.specs.Seats.{AreSeated, HaveFewer};
 ghost use Rattle.pass_course.specs.Course.{IsIdle};
 ghost use Rattle.site_rounds.specs.Ready.{IsReady};

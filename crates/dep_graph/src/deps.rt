@@ -1,8 +1,10 @@
 ghost use Rattle.std.specs.Prelude.{◌≡◌, ◌<◌, [], filter, not, option_map, IfOk, OnOk, OnErr};
 ghost use Rattle.std.specs.Vec.{vec_len, vec_capacity};
 ghost use Rattle.pg_text.specs.Names.{has_name};
-ghost use Rattle.pg_text.specs.Order.{AreRising, IsPlace, item_at, path_cmp, with_item, without_item};
-ghost use Rattle.dep_graph.specs.Deps.{dirty_of, names_at, path_of, some_paths, users_of, with_names, without_paths};
+ghost use Rattle.pg_text.specs.Order.{AreRising, IsPlace, item_at, path_cmp, with_item};
+ghost use Rattle.pg_text.specs.Order.{without_item};
+ghost use Rattle.dep_graph.specs.Deps.{dirty_of, names_at, path_of, some_paths, users_of};
+ghost use Rattle.dep_graph.specs.Deps.{with_names, without_paths};
 
 use crate::entries::{Dependent, Named};
 use crate::index;
@@ -14,8 +16,8 @@ use std::marker::Model;
 // One in so many paths is many: then all are gone over.
 const MANY: usize = 2;
 
-/// Paths with the names that each needs, in byte order of the paths, and an index of them by name. Contracts see the list of
-/// each path with its names.
+/// Paths with the names that each needs, in byte order of the paths, and an index of them by name.
+/// Contracts see the list of each path with its names.
 #[derive(Drop)]
 pub struct Deps {
     dependents: Vec<Dependent>,
@@ -79,7 +81,8 @@ impl Deps {
         }
     }
 
-    /// The path needs these names, and no longer those that it needed before. Where memory ends they are as before.
+    /// The path needs these names, and no longer those that it needed before. Where memory ends
+    /// they are as before.
     pub fn add(&mut self, path: &Path, names: &Names) -> Result<(), AllocError>
         ensures ok { OnOk result (self.new ≡ with_item path_of (record { path = path.now; names = names.now })
             self.old) }
@@ -110,7 +113,8 @@ impl Deps {
         }
     }
 
-    /// None of the paths needs anything. It takes no memory. Few paths are looked up one by one; for many all are gone over once.
+    /// None of the paths needs anything. It takes no memory. Few paths are looked up one by one;
+    /// for many all are gone over once.
     pub fn remove_all(&mut self, paths: &Names)
         ensures { self.new ≡ without_paths paths.now self.old }
     {

@@ -2,7 +2,8 @@
 ghost use Rattle.std.specs.Prelude.{◌≡◌, ◌≤◌, ℕ, List, length, map, take, IfErr, OnOk, OnErr};
 ghost use Rattle.pg_text.specs.Names.{AreInOrder, with_name, without_name};
 ghost use Rattle.pg_text.specs.Order.{AreRising, IsPlace, path_cmp, item_at};
-ghost use Rattle.dep_graph.specs.Deps.{IsNew, Tells, all_indexed, all_unlisted, indexed, is_used, itself, let_go, name_of, unindexed, unlisted};
+ghost use Rattle.dep_graph.specs.Deps.{IsNew, Tells, all_indexed, all_unlisted, indexed, is_used};
+ghost use Rattle.dep_graph.specs.Deps.{itself, let_go, name_of, unindexed, unlisted};
 
 use crate::entries::Named;
 use pg_text::{Names, Path};
@@ -24,7 +25,8 @@ fn compare(named: &Named, name: &Path) -> Ordering
     named.name.as_bytes().cmp(name.as_bytes())
 }
 
-// The path needs all these names, too. Where memory ends, those that it needs already are taken back.
+// The path needs all these names, too. Where memory ends, those that it needs already are taken
+// back.
 pub(crate) fn add_all(index: &mut Vec<Named>, names: &[Path], path: &Path) -> Result<(), AllocError>
     requires { AreRising name_of index.old.items }
     ensures ok { OnOk result (index.new.items ≡ all_indexed path.now names.now index.old.items) }
@@ -143,7 +145,8 @@ fn order(user: &Path, path: &Path) -> Ordering
     user.as_bytes().cmp(path.as_bytes())
 }
 
-// None of the paths needs anything: all names are gone over. Those that nothing else needs are dropped.
+// None of the paths needs anything: all names are gone over. Those that nothing else needs are
+// dropped.
 pub(crate) fn remove_users(index: &mut Vec<Named>, paths: &Names)
     ensures { index.new.items ≡ unindexed paths.now index.old.items }
 {

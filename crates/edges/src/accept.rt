@@ -2,15 +2,16 @@ ghost use Rattle.edges.specs.Faults.{HasCause};
 
 use crate::{Failed, Sink, Source};
 
-/// What a listener gives: where a connection's bytes come from and go to, or the mark that its round is over.
+/// What a listener gives: where a connection's bytes come from and go to, or the mark that its
+/// round is over.
 #[derive(Clone, Copy, Debug, Drop)]
 pub enum Accepted<A, B, E> {
     Pair(A, B),
     Closed(E),
 }
 
-/// A listener, from which any number of threads take connections. It takes them in rounds, each of as many as it was
-/// told, or one without an end.
+/// A listener, from which any number of threads take connections. It takes them in rounds, each of
+/// as many as it was told, or one without an end.
 pub trait Accept {
     type From: Source + Send + Drop;
 
@@ -19,8 +20,8 @@ pub trait Accept {
     /// The mark that a round is over. Nothing else gives one.
     type Closing: Send + Drop;
 
-    /// Gives the next connection of this round, or the mark where the round is over. It counts each failure, and fails
-    /// only where it counted one. The count may stop at `u64::MAX`.
+    /// Gives the next connection of this round, or the mark where the round is over. It counts each
+    /// failure, and fails only where it counted one. The count may stop at `u64::MAX`.
     fn accept(
         &self,
         faults: &mut u64,

@@ -1,4 +1,5 @@
-/// What each operation on a shared site passes before it draws its turn. A test holds an operation there.
+/// What each operation on a shared site passes before it draws its turn. A test holds an operation
+/// there.
 pub trait Gate {
     /// Returns when the operation may go on. The point is the number of the pass that acts.
     fn pass(&self, point: u64);

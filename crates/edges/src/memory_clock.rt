@@ -3,7 +3,8 @@ ghost use Rattle.std.specs.Prelude.{◌≡◌, ◌<◌, length, vec_len};
 use crate::{Clock, Clocks};
 use std::marker::Model;
 
-/// A clock that answers these moments one by one, for tests and for runs without an outside. Contracts see those ahead.
+/// A clock that answers these moments one by one, for tests and for runs without an outside.
+/// Contracts see those ahead.
 #[derive(Drop)]
 pub struct MemClock {
     moments: Vec<u64>,

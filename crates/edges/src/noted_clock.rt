@@ -6,8 +6,8 @@ use crate::Clock;
 use std::alloc::Global;
 use std::marker::Model;
 
-/// A clock over another that notes each moment as it is answered. Where it finds no memory for one it lets its notes go, and
-/// tells none from there on: what it tells is always whole.
+/// A clock over another that notes each moment as it is answered. Where it finds no memory for one
+/// it lets its notes go, and tells none from there on: what it tells is always whole.
 #[derive(Drop)]
 pub struct NotedClock<C: Clock> {
     inner: C,

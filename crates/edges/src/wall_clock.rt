@@ -2,7 +2,8 @@ use crate::{Clock, Clocks};
 use std::time;
 use std::time::{SystemTime, UNIX_EPOCH};
 
-/// The clock of the system, in seconds since 1970. Where it can't be read, the moment is the one before; at first that is 0.
+/// The clock of the system, in seconds since 1970. Where it can't be read, the moment is the one
+/// before; at first that is 0.
 #[derive(Drop)]
 pub struct WallClock<'a, R: time::Clock> {
     rt: &'a R,

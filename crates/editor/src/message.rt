@@ -1,7 +1,8 @@
 ghost use Rattle.std.specs.Prelude.{◌≡◌, ◌&&◌, true, Ok, Err, if◌then◌else◌};
 ghost use Rattle.std.specs.Str.{bytes_eq, is_utf8};
 ghost use Rattle.pg_text.specs.Failure.{Answers};
-ghost use Rattle.editor.specs.Message.{delete_of, is_based, is_file_target, is_publish, message, named_path, posted, publish_for, put_of};
+ghost use Rattle.editor.specs.Message.{delete_of, is_based, is_file_target, is_publish, message};
+ghost use Rattle.editor.specs.Message.{named_path, posted, publish_for, put_of};
 
 use crate::EditorFault;
 use crate::naming::{file_path, is_file_target};

@@ -1,8 +1,10 @@
-ghost use Rattle.std.specs.Prelude.{◌≡◌, ◌<◌, ◌+◌, ◌^◌, ◌++◌, ℤ, FitsSigned, length, map, string_bytes, IfOk, OnOk};
+ghost use Rattle.std.specs.Prelude.{◌≡◌, ◌<◌, ◌+◌, ◌^◌, ◌++◌, ℤ, FitsSigned, length, map};
+ghost use Rattle.std.specs.Prelude.{string_bytes, IfOk, OnOk};
 ghost use Rattle.std.specs.Int.{w64};
 ghost use Rattle.el_coercion.specs.Number.{number_of_text};
 ghost use Rattle.el_coercion.specs.Text as spec;
-ghost use Rattle.el_coercion.specs.Text.{inner_text, items_text, entries_text, entries_from, separator_before, text_of};
+ghost use Rattle.el_coercion.specs.Text.{inner_text, items_text, entries_text, entries_from};
+ghost use Rattle.el_coercion.specs.Text.{separator_before, text_of};
 ghost use Rattle.pg_value.specs.Datum.{items_of, entries_of, truth};
 ghost use Rattle.pg_text.specs.Failure.{Answers};
 ghost use Rattle.pg_value.specs.Value.{datum_of, entry_of};

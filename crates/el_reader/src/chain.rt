@@ -17,7 +17,8 @@ pub enum Link<'a> {
     Key(&'a El),
 }
 
-/// An expression along its left side: `a + b[c] - d` is `a`, `+ b[c]` and `- d`, and `a[b].c` is `a`, `[b]` and `["c"]`.
+/// An expression along its left side: `a + b[c] - d` is `a`, `+ b[c]` and `- d`, and `a[b].c` is
+/// `a`, `[b]` and `["c"]`.
 #[derive(Drop)]
 pub struct Chain<'a> {
     pub first: &'a El,
@@ -25,9 +26,9 @@ pub struct Chain<'a> {
 }
 
 impl<'a> Chain<'a> {
-    /// The chain that an expression is. It is found in a loop, and so may be gone along in one: a sum of 20,000 terms isn't
-    /// nested at all, and is a tree 20,000 deep. The parts of a chain are less deep than the whole, so a recursion on them
-    /// ends.
+    /// The chain that an expression is. It is found in a loop, and so may be gone along in one: a
+    /// sum of 20,000 terms isn't nested at all, and is a tree 20,000 deep. The parts of a chain are
+    /// less deep than the whole, so a recursion on them ends.
     pub fn of(alloc: Global, el: &'a El) -> Result<Self, AllocError>
         ensures whole { IfOk result (λ chain. chained (tree_of chain.first.now) chain.links.items ≡ tree_of el.now) }
         ensures first { IfOk result (λ chain. leans (tree_of chain.first.now) ≡ false) }

@@ -119,7 +119,8 @@ fn what_the_language_leaves_out_is_refused(rt: HostRuntime) {
     }
 }
 
-// So many copies of a text, a text between, as many copies of another, and the fault of all together.
+// So many copies of a text, a text between, as many copies of another, and the fault of all
+// together.
 const NESTED: [(usize, &str, &str, &str, Option<ElFault>); 23] = [
     (64, "(", "a", ")", None),
     (65, "(", "a", ")", Some(ElFault::TooLarge)),

@@ -1,7 +1,8 @@
 use el_reader::{El, Els, Value};
 use std::alloc::AllocError;
 
-// The tree of an expression: an operator stands before its parts in parentheses, and a text in quotes.
+// The tree of an expression: an operator stands before its parts in parentheses, and a text in
+// quotes.
 #[cycle(show)]
 pub(crate) fn show(out: &mut String, el: &El) -> Result<(), AllocError> {
     match el {

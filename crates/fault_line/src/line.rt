@@ -4,7 +4,8 @@ ghost use Rattle.fault_line.specs.FaultLine.{page_fault_line, place_text};
 use pg_text::{PageFault, Place};
 use std::alloc::{AllocError, Global};
 
-/// A fault as `E8 NoFile /p.jsp:1:1`: its number and name, and the file, line and column of its place, all without a line end.
+/// A fault as `E8 NoFile /p.jsp:1:1`: its number and name, and the file, line and column of its
+/// place, all without a line end.
 pub fn page_fault_line(alloc: Global, fault: &PageFault) -> Result<Vec<u8>, AllocError>
     ensures { IfOk result (λ line. line.items ≡ page_fault_line fault.now) }
 {

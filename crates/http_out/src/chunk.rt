@@ -1,4 +1,5 @@
-ghost use Rattle.std.specs.Prelude.{◌≡◌, ◌<◌, ◌≤◌, ◌++◌, ℕ, List, true, [], codes, drop, length, false};
+ghost use Rattle.std.specs.Prelude.{◌≡◌, ◌<◌, ◌≤◌, ◌++◌, ℕ, List, true, [], codes, drop, length};
+ghost use Rattle.std.specs.Prelude.{false};
 ghost use Rattle.std.specs.declared.option.Option.{Option};
 ghost use Rattle.std.specs.Fmt.{digit_glyph, digits};
 ghost use Rattle.edges.specs.Faults.{Rose};

@@ -1,5 +1,6 @@
 ghost use Rattle.std.specs.Prelude.{◌≡◌, ◌<◌, IfErr, IfOk};
-ghost use Rattle.journal_reader.specs.Frames.{IsFilledBy, IsListStep, IsNext, IsRecordBehind, IsValueOf, ReadsOn};
+ghost use Rattle.journal_reader.specs.Frames.{IsFilledBy, IsListStep, IsNext, IsRecordBehind};
+ghost use Rattle.journal_reader.specs.Frames.{IsValueOf, ReadsOn};
 ghost use Rattle.journal_reader.specs.Reads.{Reads};
 ghost use Rattle.journal_reader.specs.Values.{IsValue};
 ghost use Rattle.pg_text.specs.declared.failure.Failure.TheVariants.{NoMemory};

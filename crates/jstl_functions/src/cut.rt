@@ -1,6 +1,7 @@
 ghost use Rattle.std.specs.Prelude.{◌≡◌, ◌≤◌, length, string_bytes, IfOk};
 ghost use Rattle.std.specs.List.{prefix_len, suffix_len};
-ghost use Rattle.jstl_functions.specs.Texts.{after_part, before_part, begin_of, end_of, is_low, substring_of, trimmed_end, trimmed_front};
+ghost use Rattle.jstl_functions.specs.Texts.{after_part, before_part, begin_of, end_of, is_low};
+ghost use Rattle.jstl_functions.specs.Texts.{substring_of, trimmed_end, trimmed_front};
 
 use crate::scalars::scalar_count;
 use crate::search::place_of_part;
@@ -8,7 +9,8 @@ use std::alloc::{AllocError, Global};
 
 // What is cut from a text.
 
-// The characters from one on to another. A begin below 0 is 0, and an end below 0 or beyond the text is its end.
+// The characters from one on to another. A begin below 0 is 0, and an end below 0 or beyond the
+// text is its end.
 pub(crate) fn substring(
     alloc: Global,
     text: &str,

@@ -18,8 +18,9 @@ use pg_text::escape_xml;
 use pg_value::{Failure, Function, RunFault, Value};
 use std::alloc::Global;
 
-/// The answer of a function, of as many arguments as it has. X1 and X4 are arguments that have no number where one is wanted, and
-/// X20 is the text of an argument, or an answer, that is over the limits of a value.
+/// The answer of a function, of as many arguments as it has. X1 and X4 are arguments that have no
+/// number where one is wanted, and X20 is the text of an argument, or an answer, that is over the
+/// limits of a value.
 pub fn call(alloc: Global, function: Function, args: &[Value]) -> Result<Value, Failure<RunFault>>
     requires { length args.now ≡ arity_of function }
     ensures { AnswersAs datum_of (called function (map datum_of args.now)) result }

@@ -8,8 +8,8 @@ use el_coercion::made_text;
 use pg_value::{Failure, RunFault, Text};
 use std::alloc::Global;
 
-// The text with each part that is `old`, from left to right, replaced. An empty `old` changes nothing. X20 is a text that is
-// over the limits of a value.
+// The text with each part that is `old`, from left to right, replaced. An empty `old` changes
+// nothing. X20 is a text that is over the limits of a value.
 pub(crate) fn replace(
     alloc: Global,
     text: &str,

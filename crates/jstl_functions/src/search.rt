@@ -1,7 +1,8 @@
 ghost use Rattle.std.specs.Prelude.{◌≡◌, ◌+◌, length, nat_eq, IfOk, IfSome};
 ghost use Rattle.std.specs.List.{ends_with, starts_with};
 ghost use Rattle.std.specs.Str.{IsCharBoundary};
-ghost use Rattle.jstl_functions.specs.Texts.{contains_ignoring_case, contains_part, index_of_part, place_of_part};
+ghost use Rattle.jstl_functions.specs.Texts.{contains_ignoring_case, contains_part, index_of_part};
+ghost use Rattle.jstl_functions.specs.Texts.{place_of_part};
 
 use crate::letters::lower_case;
 use crate::scalars::scalar_count;
@@ -9,7 +10,8 @@ use std::alloc::{AllocError, Global};
 
 // What is found in a text.
 
-// The byte at which a part first stands in a text, at which the text may be cut, and behind the part too.
+// The byte at which a part first stands in a text, at which the text may be cut, and behind the
+// part too.
 pub(crate) fn place_of_part(text: &str, part: &str) -> Option<usize>
     ensures value { result ≡ place_of_part part.now text.now }
     ensures before { IfSome result (λ place. IsCharBoundary text.now place) }

@@ -7,7 +7,8 @@ use crate::marks::{is_mark, marks_of};
 use pg_value::{Text, Value, Values};
 use std::alloc::{AllocError, Global};
 
-/// The parts of a text between the delimiters, each of which is one character, without the empty parts.
+/// The parts of a text between the delimiters, each of which is one character, without the empty
+/// parts.
 pub fn tokens(alloc: Global, text: &str, delimiters: &str) -> Result<Vec<Text>, AllocError>
     ensures { IfOk result (λ found. found.items ≡ tokens delimiters.now text.now) }
 {
@@ -37,7 +38,8 @@ fn end_token(found: &mut Vec<Text>, token: &mut String) -> Result<(), AllocError
     Ok(())
 }
 
-// The tokens of a text. The empty text is its one token, and so is a text where there are no delimiters.
+// The tokens of a text. The empty text is its one token, and so is a text where there are no
+// delimiters.
 fn split_texts(alloc: Global, text: &str, delimiters: &str) -> Result<Vec<Text>, AllocError>
     ensures { IfOk result (λ found. found.items ≡ split_at delimiters.now text.now) }
 {

@@ -2,12 +2,14 @@ ghost use Rattle.std.specs.Prelude.{◌≡◌, codes, map};
 ghost use Rattle.page_pieces.specs.Settings.{contains_text};
 ghost use Rattle.page_reader.specs.Trees.{Tree};
 ghost use Rattle.page_directives.specs.Faults.{in_order};
-ghost use Rattle.jstl_tags.specs.Check.{are_set_well, core_faults, given_faults, is_whole, row_faults, split_faults};
+ghost use Rattle.jstl_tags.specs.Check.{are_set_well, core_faults, given_faults, is_whole};
+ghost use Rattle.jstl_tags.specs.Check.{row_faults, split_faults};
 ghost use Rattle.jstl_tags.specs.Content.{body_of, is_empty};
 ghost use Rattle.jstl_tags.specs.Elements.{opened_of};
 ghost use Rattle.jstl_tags.specs.Given.{names_made};
 ghost use Rattle.jstl_tags.specs.Hosts.{host_made};
-ghost use Rattle.jstl_tags.specs.ReadCheck.{action_by, body_in, holds_by, own_by, own_of, split_by, split_in, stands_as_body};
+ghost use Rattle.jstl_tags.specs.ReadCheck.{action_by, body_in, holds_by, own_by, own_of, split_by};
+ghost use Rattle.jstl_tags.specs.ReadCheck.{split_in, stands_as_body};
 ghost use Rattle.jstl_tags.specs.Rows.{row_made};
 ghost use Rattle.jstl_tags.specs.Standing.{IsBody, standing_made};
 

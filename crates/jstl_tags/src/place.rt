@@ -1,7 +1,9 @@
 ghost use Rattle.std.specs.Prelude.{◌≡◌, map};
 ghost use Rattle.std.specs.Option.{option_map};
 ghost use Rattle.page_directives.specs.Faults.{in_order};
-ghost use Rattle.jstl_tags.specs.Check.{branch_faults, child_faults, misplaced_faults, place_faults, takes_core_params, takes_params, takes_part, unless_part};
+ghost use Rattle.jstl_tags.specs.Check.{branch_faults, child_faults, misplaced_faults};
+ghost use Rattle.jstl_tags.specs.Check.{place_faults, takes_core_params, takes_params, takes_part};
+ghost use Rattle.jstl_tags.specs.Check.{unless_part};
 ghost use Rattle.jstl_tags.specs.Hosts.{host_made};
 
 use crate::core_name::CoreName;

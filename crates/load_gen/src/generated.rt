@@ -1,6 +1,7 @@
 ghost use Rattle.std.specs.Prelude.{◌≡◌, ◌≤◌, ◌<◌, ◌++◌, IfOk, OnOk, map};
 ghost use Rattle.std.specs.List.{range_with_len};
-ghost use Rattle.load_gen.specs.Messages.{asked, first_part, generated, message_text, page_put, part_put, round, rounds, sent};
+ghost use Rattle.load_gen.specs.Messages.{asked, first_part, generated, message_text, page_put};
+ghost use Rattle.load_gen.specs.Messages.{part_put, round, rounds, sent};
 
 use crate::Message;
 use crate::message::add_message;

@@ -1,5 +1,5 @@
-//! The messages of a generated site, on which a site's work is measured: pages that share parts are published, and each part
-//! is then changed and its pages asked for.
+//! The messages of a generated site, on which a site's work is measured: pages that share parts are
+//! published, and each part is then changed and its pages asked for.
 #![tactic(auto)]
 
 mod generated;

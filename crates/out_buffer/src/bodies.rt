@@ -1,4 +1,5 @@
-ghost use Rattle.std.specs.Prelude.{◌≡◌, ◌==◌, ◌<◌, ◌++◌, ◌∷◌, [], length, string_bytes, OnOk, OnErr};
+ghost use Rattle.std.specs.Prelude.{◌≡◌, ◌==◌, ◌<◌, ◌++◌, ◌∷◌, [], length, string_bytes, OnOk};
+ghost use Rattle.std.specs.Prelude.{OnErr};
 ghost use Rattle.out_buffer.specs.Writer.{around, innermost, last_of};
 
 use std::alloc::{AllocError, Global};

@@ -1,4 +1,5 @@
-ghost use Rattle.std.specs.Prelude.{◌≡◌, ◌<◌, ◌≤◌, [], ◌∷◌, ℕ, List, false, length, OnOk, OnErr, if◌then◌else◌};
+ghost use Rattle.std.specs.Prelude.{◌≡◌, ◌<◌, ◌≤◌, [], ◌∷◌, ℕ, List, false, length, OnOk, OnErr};
+ghost use Rattle.std.specs.Prelude.{if◌then◌else◌};
 ghost use Rattle.std.specs.Option.{ForSome};
 ghost use Rattle.std.specs.declared.option.Option.{Option};
 ghost use Rattle.pg_text.specs.Failure.{Answers};
@@ -6,7 +7,9 @@ ghost use Rattle.out_buffer.specs.Held.{Comes, Finished, Stands, fresh, response
 ghost use Rattle.out_buffer.specs.Laws.{IsWithin};
 ghost use Rattle.out_buffer.specs.ReadBuffer.{writer_at};
 ghost use Rattle.out_buffer.specs.ReadStream.{Streams};
-ghost use Rattle.out_buffer.specs.Writer.{Writer as Written, around, body_answer, cleared, empty_writer, flush, innermost, last_of, placed, put, with_bodies, with_body, without_body};
+ghost use Rattle.out_buffer.specs.Writer.{Writer as Written, around, body_answer, cleared};
+ghost use Rattle.out_buffer.specs.Writer.{empty_writer, flush, innermost, last_of, placed, put};
+ghost use Rattle.out_buffer.specs.Writer.{with_bodies, with_body, without_body};
 
 use crate::bodies::Bodies;
 use crate::buffer::Buffer;

@@ -5,7 +5,8 @@ ghost use Rattle.pg_value.specs.Value.{datum_of};
 use pg_value::{Value, is_too_large};
 use std::marker::Model;
 
-/// What a bean is made of: a value that keeps the limits of a value, so that application scope can take it. Contracts see the value.
+/// What a bean is made of: a value that keeps the limits of a value, so that application scope can
+/// take it. Contracts see the value.
 #[derive(Drop)]
 pub struct Bean {
     value: Value,

@@ -10,16 +10,16 @@ pub enum CallBody {
     Cells(usize),
 }
 
-/// A fragment that a call hands down: its name, and how many cells it has. They stand behind those of the body and of the fragments
-/// before it.
+/// A fragment that a call hands down: its name, and how many cells it has. They stand behind those
+/// of the body and of the fragments before it.
 #[derive(Drop)]
 pub struct Fragment {
     pub name: Text,
     pub size: usize,
 }
 
-/// The call of a tag file: the attributes whose values it takes, in the order in which they were pushed, and the body and the fragments
-/// that it hands down, with the cells that it passes over.
+/// The call of a tag file: the attributes whose values it takes, in the order in which they were
+/// pushed, and the body and the fragments that it hands down, with the cells that it passes over.
 #[derive(Drop)]
 pub struct TagCall {
     pub path: Path,
@@ -36,7 +36,8 @@ pub enum CallOut {
     Body,
     /// The fragment of this name that this code was given.
     Fragment(Text),
-    /// The page at an address, with so many parameters. Each name stands below its value, and the address below them.
+    /// The page at an address, with so many parameters. Each name stands below its value, and the
+    /// address below them.
     Include { flush: bool, params: usize },
     /// The page at the address on top.
     Import,
@@ -45,7 +46,8 @@ pub enum CallOut {
 /// How the run of a code ends.
 #[derive(Clone, Copy, Debug, PartialEq, Eq)]
 pub enum Leave {
-    /// Goes over to the page at an address, with so many parameters. Each name stands below its value, and the address below them.
+    /// Goes over to the page at an address, with so many parameters. Each name stands below its
+    /// value, and the address below them.
     Forward(usize),
     /// Sends the client to the address on top.
     Redirect,

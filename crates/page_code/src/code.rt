@@ -7,7 +7,8 @@ use pg_text::Place;
 use std::alloc::{AllocError, Global};
 use std::marker::Model;
 
-/// An instruction, the place in a file at which its faults stand, and how much stands open before it.
+/// An instruction, the place in a file at which its faults stand, and how much stands open before
+/// it.
 #[derive(Drop)]
 pub struct Cell {
     pub instr: Instr,

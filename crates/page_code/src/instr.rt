@@ -3,7 +3,8 @@ use crate::call::{CallOut, Leave};
 use crate::op::Op;
 use crate::operands::{LoopKind, ScopedName};
 
-/// An instruction. A jump names how many cells it passes over, and `LoopNext` how many it goes back.
+/// An instruction. A jump names how many cells it passes over, and `LoopNext` how many it goes
+/// back.
 #[derive(Drop)]
 pub enum Instr {
     /// Takes values, leaves one or none, and goes on.
@@ -28,7 +29,8 @@ pub enum Instr {
     LoopStart(LoopKind),
     /// Begins the next round so many cells before, or ends the innermost loop.
     LoopNext(usize),
-    /// Opens a catch. A fault that it takes goes on behind so many cells, with its record pushed and the catch closed.
+    /// Opens a catch. A fault that it takes goes on behind so many cells, with its record pushed
+    /// and the catch closed.
     CatchStart(usize),
     CatchEnd,
     CallOut(CallOut),

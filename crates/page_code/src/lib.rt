@@ -1,4 +1,5 @@
-//! The code that pages run as: instructions, each with its place and with what stands open before it.
+//! The code that pages run as: instructions, each with its place and with what stands open before
+//! it.
 #![tactic(auto)]
 
 mod bean;

@@ -5,10 +5,12 @@ use pg_text::Text;
 use std::alloc::AllocError;
 use std::marker::Model;
 
-/// The most bytes of a name, which are those of a file. A step that asks for a variable of application scope weighs its name.
+/// The most bytes of a name, which are those of a file. A step that asks for a variable of
+/// application scope weighs its name.
 pub const MAX_NAME_BYTES: usize = 1_048_576;
 
-/// The name of a variable, of at most `MAX_NAME_BYTES` bytes. Its copies share the text. Contracts see the list of its bytes.
+/// The name of a variable, of at most `MAX_NAME_BYTES` bytes. Its copies share the text. Contracts
+/// see the list of its bytes.
 #[derive(Drop)]
 pub struct Name {
     text: Text,

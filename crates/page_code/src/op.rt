@@ -3,7 +3,8 @@ use crate::operands::{Coercion, HeaderObject, Implicit, PropertyMode, ScopedName
 use pg_text::Text;
 use pg_value::{BinOp, Function, Scope, UnOp, Value};
 
-/// An operation that takes values from the top of the stack, leaves one or none, and goes on with the next cell.
+/// An operation that takes values from the top of the stack, leaves one or none, and goes on with
+/// the next cell.
 #[derive(Drop)]
 pub enum Op {
     /// Writes a text.

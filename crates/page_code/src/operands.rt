@@ -64,8 +64,8 @@ pub enum Over {
     Tokens,
 }
 
-/// A loop: what it goes over, the attributes whose values it takes, in the order in which they were pushed, and its two variables in
-/// page scope.
+/// A loop: what it goes over, the attributes whose values it takes, in the order in which they were
+/// pushed, and its two variables in page scope.
 #[derive(Drop)]
 pub struct LoopKind {
     pub over: Over,

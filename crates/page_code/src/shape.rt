@@ -13,7 +13,8 @@ pub struct Level {
     pub loops: usize,
 }
 
-/// The open catches, the innermost first, shared by their copies. Contracts see the list of their levels.
+/// The open catches, the innermost first, shared by their copies. Contracts see the list of their
+/// levels.
 #[derive(Drop)]
 pub struct Catches {
     levels: Arc<Vec<Level>>,
@@ -28,7 +29,8 @@ impl Model for Catches {
     ghost view = { λ c. c.levels.value.items };
 }
 
-/// How much stands open before an instruction: values, kept bodies, loops and catches, counted from the beginning of the code.
+/// How much stands open before an instruction: values, kept bodies, loops and catches, counted from
+/// the beginning of the code.
 #[derive(Drop)]
 pub struct Shape {
     pub values: usize,

@@ -1,7 +1,8 @@
 ghost use Rattle.std.specs.Prelude.{◌≡◌, ◌++◌, ◌∷◌, [], IfOk, OnErr, OnOk};
 ghost use Rattle.std.specs.Option.{option_map};
 ghost use Rattle.page_directives.specs.Faults.{in_order};
-ghost use Rattle.page_directives.specs.Meet.{giving_faults, include_faults, may_give, met_faults, nothing_before, other_faults};
+ghost use Rattle.page_directives.specs.Meet.{giving_faults, include_faults, may_give, met_faults};
+ghost use Rattle.page_directives.specs.Meet.{nothing_before, other_faults};
 ghost use Rattle.page_directives.specs.Settings.{given, giver};
 ghost use Rattle.page_directives.specs.Taglibs.{prefix_of_tag, prefixes_in_text, target_of};
 ghost use Rattle.page_pieces.specs.Marks.{tag_name};
@@ -32,12 +33,14 @@ pub enum Where {
     TagFilePart,
 }
 
-/// What stood before in a page or a tag file with its includes: the directives, and the prefixes in template text.
+/// What stood before in a page or a tag file with its includes: the directives, and the prefixes in
+/// template text.
 #[derive(Drop)]
 pub struct Before<'a> {
     directives: Vec<Directive<'a>>,
     prefixes: Prefixes,
-    // What the directives said first; after an error it isn't there, and the directives are asked one after the other.
+    // What the directives said first; after an error it isn't there, and the directives are asked
+    // one after the other.
     known: Option<Known<'a>>,
 }
 
@@ -78,7 +81,8 @@ impl<'a> Before<'a> {
         self.prefixes.contains(prefix)
     }
 
-    // The text of the first attribute of that name, of those that directives that give settings gave and of others behind them.
+    // The text of the first attribute of that name, of those that directives that give settings
+    // gave and of others behind them.
     pub(crate) fn value<'b>(
         &'b self,
         in_tag: bool,
@@ -94,7 +98,8 @@ impl<'a> Before<'a> {
         }
     }
 
-    /// The faults of a directive that stands in such a file. `first` is the first reading of the page or tag file.
+    /// The faults of a directive that stands in such a file. `first` is the first reading of the
+    /// page or tag file.
     #[tactic(auto, unfolding(crate::specs::Meet::met_faults))]
     pub fn faults(&self, stands: Where, first: &FirstReading, directive: &Directive<'a>) -> Faults
         ensures { result ≡ in_order (met_faults stands first.now self.now directive.now) }
@@ -138,8 +143,8 @@ impl<'a> Before<'a> {
         Ok(faults)
     }
 
-    /// Meets template text: the prefixes that stand in it before a colon and a name, behind a `<`, stand before from now on.
-    /// After an error some of them do.
+    /// Meets template text: the prefixes that stand in it before a colon and a name, behind a `<`,
+    /// stand before from now on. After an error some of them do.
     pub fn meet_text(&mut self, text: &str) -> Result<(), AllocError>
         ensures { OnOk result (self.new ≡ record self.old {
           prefixes = self.old.prefixes

@@ -2,7 +2,8 @@ ghost use Rattle.std.specs.Prelude.{◌≡◌, ◌+◌, ◌++◌, ◌∷◌, ◌
 ghost use Rattle.std.specs.Str.{str_to_ascii_lowercase};
 ghost use Rattle.std.specs.List.{list_any, prefix_len};
 ghost use Rattle.std.specs.Option.{option_and_then, option_map, unwrap_or};
-ghost use Rattle.page_directives.specs.ContentType.{content_type, is_token_byte, is_utf_8, may_follow, token_at, with_first};
+ghost use Rattle.page_directives.specs.ContentType.{content_type, is_token_byte, is_utf_8};
+ghost use Rattle.page_directives.specs.ContentType.{may_follow, token_at, with_first};
 
 use page_pieces::{after, behind_white};
 use pg_text::Text;

@@ -1,7 +1,8 @@
 ghost use Rattle.std.specs.Prelude.{◌≡◌, codes};
 ghost use Rattle.std.specs.Str.{bytes_eq, str_to_ascii_lowercase};
 ghost use Rattle.std.specs.Option.{option_map};
-ghost use Rattle.page_directives.specs.Checks.{attribute_faults, by_row, true_alone, refused, value_faults};
+ghost use Rattle.page_directives.specs.Checks.{attribute_faults, by_row, true_alone, refused};
+ghost use Rattle.page_directives.specs.Checks.{value_faults};
 ghost use Rattle.page_directives.specs.Directive.{row_of};
 ghost use Rattle.page_directives.specs.Faults.{in_order};
 ghost use Rattle.page_directives.specs.Rows.{check_of, rows_of};

@@ -80,7 +80,8 @@ impl<'a> Directive<'a> {
         other.place.byte == self.place.byte && other.place.file.as_str() == self.place.file.as_str()
     }
 
-    // How many directives of a reading stand before this one: all of them where it doesn't stand there.
+    // How many directives of a reading stand before this one: all of them where it doesn't stand
+    // there.
     pub(crate) fn before_in(&self, reading: &[Directive]) -> usize
         ensures value { result ≡ before_in reading.now self.now }
         ensures within { result ≤ length reading.now }

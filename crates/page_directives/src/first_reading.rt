@@ -9,11 +9,13 @@ use crate::giving::{decided_by_one, is_value};
 use crate::tables::{giver, giver_table};
 use std::marker::Model;
 
-/// The directives of the first reading of a page or a tag file, in order. Contracts see the list of them.
+/// The directives of the first reading of a page or a tag file, in order. Contracts see the list of
+/// them.
 #[derive(Drop)]
 pub struct FirstReading<'a> {
     directives: Vec<Directive<'a>>,
-    // Behind how many of them `page` directives have decided that there is neither a buffer nor flushing, and `tag` directives.
+    // Behind how many of them `page` directives have decided that there is neither a buffer nor
+    // flushing, and `tag` directives.
     page_turn: usize,
     tag_turn: usize,
 }
@@ -52,7 +54,8 @@ impl<'a> FirstReading<'a> {
         }
     }
 
-    // Whether with this directive the first reading has decided that there is neither a buffer nor flushing, and before it hadn't.
+    // Whether with this directive the first reading has decided that there is neither a buffer nor
+    // flushing, and before it hadn't.
     pub(crate) fn unbuffers(&self, in_tag: bool, directive: &Directive) -> bool
         ensures { result ≡ unbuffers in_tag self.now directive.now }
     {
@@ -107,7 +110,8 @@ fn lacks_both(buffer: Option<&str>, auto_flush: Option<&str>) -> bool
     is_value("none", buffer) && is_value("false", auto_flush)
 }
 
-// Behind how many of these directives they have decided that there is neither a buffer nor flushing: behind all where they don't.
+// Behind how many of these directives they have decided that there is neither a buffer nor
+// flushing: behind all where they don't.
 fn turn_of(in_tag: bool, directives: &[Directive]) -> usize
     ensures { IsTurn in_tag directives.now result }
 {

@@ -6,7 +6,9 @@ ghost use Rattle.page_directives.specs.Directive.{is_named};
 ghost use Rattle.page_directives.specs.Checks.{buffer_size, by_row};
 ghost use Rattle.page_directives.specs.Faults.{in_order, is_good};
 ghost use Rattle.page_directives.specs.Rows.{check_of, rows_of};
-ghost use Rattle.page_directives.specs.Settings.{decided, decided_by, differs, given, giver, has_clash, is_value, setting_faults, settings_of, truth_or};
+ghost use Rattle.page_directives.specs.Settings.{decided, decided_by, differs, given, giver};
+ghost use Rattle.page_directives.specs.Settings.{has_clash, is_value, setting_faults, settings_of};
+ghost use Rattle.page_directives.specs.Settings.{truth_or};
 
 use crate::before::Before;
 use crate::buffers::buffer_size;
@@ -23,7 +25,8 @@ use std::alloc::{AllocError, Global};
 
 const DEFAULT_BUFFER: u32 = 8_192;
 
-// The text of the first attribute of that name, of those that directives of this name give and of others behind them.
+// The text of the first attribute of that name, of those that directives of this name give and of
+// others behind them.
 pub(crate) fn value_given<'a>(
     giver: &str,
     before: &[Directive<'a>],
@@ -89,7 +92,8 @@ fn decided_by<'a>(in_tag: bool, directives: &[Directive<'a>], name: &str) -> Opt
     decided(giver_table(in_tag), giver(in_tag), directives, name)
 }
 
-/// The faults of a directive that gives settings, behind those that stand before it. `first` is the first reading of the page or tag file.
+/// The faults of a directive that gives settings, behind those that stand before it. `first` is the
+/// first reading of the page or tag file.
 #[tactic(auto, unfolding(crate::specs::Settings::setting_faults))]
 pub fn setting_faults<'a>(
     in_tag: bool,

@@ -46,7 +46,8 @@ impl<'a> Known<'a> {
         Ok(self)
     }
 
-    /// The text of the first attribute of that name, of those that directives that give settings gave and of others behind them.
+    /// The text of the first attribute of that name, of those that directives that give settings
+    /// gave and of others behind them.
     pub fn value<'b>(&'b self, in_tag: bool, own: &'b Attributes, name: &str) -> Option<&'b str>
         ensures { (before : List Seen) → IsKnown self.now before → option_map (λ text. text.now) result
             ≡ value_of name.now (given (giver in_tag) before ++ own.now) }

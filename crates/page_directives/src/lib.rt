@@ -1,4 +1,5 @@
-//! The directives of pages and tag files: what each may say, its faults by what stands before it, and the settings that they give.
+//! The directives of pages and tag files: what each may say, its faults by what stands before it,
+//! and the settings that they give.
 #![tactic(auto)]
 
 mod before;

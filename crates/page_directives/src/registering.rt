@@ -3,7 +3,8 @@ ghost use Rattle.std.specs.Option.{option_map};
 ghost use Rattle.page_directives.specs.Faults.{in_order};
 ghost use Rattle.page_pieces.specs.Settings.{contains_text};
 ghost use Rattle.page_directives.specs.Tables.{refused_prefixes};
-ghost use Rattle.page_directives.specs.Taglibs.{clashes, is_prefix, registering_faults, taglib_faults, target_of};
+ghost use Rattle.page_directives.specs.Taglibs.{clashes, is_prefix, registering_faults};
+ghost use Rattle.page_directives.specs.Taglibs.{taglib_faults, target_of};
 
 use crate::before::Before;
 use crate::checks::attribute_faults;
@@ -78,7 +79,8 @@ fn registering_faults(before: &Before, prefix: Option<&str>, target: Option<&Tar
     ))
 }
 
-// The faults of a taglib directive behind the directives before it and the prefixes that stood in text.
+// The faults of a taglib directive behind the directives before it and the prefixes that stood in
+// text.
 #[tactic(auto, unfolding(crate::specs::Taglibs::taglib_faults))]
 pub(crate) fn taglib_faults(before: &Before, directive: &Directive) -> Faults
     ensures { result ≡ in_order (taglib_faults before.now.prefixes before.now.directives directive.now) }

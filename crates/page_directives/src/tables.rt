@@ -2,7 +2,8 @@ ghost use Rattle.std.specs.Prelude.{◌≡◌};
 ghost use Rattle.page_pieces.specs.Settings.{contains_text};
 ghost use Rattle.page_directives.specs.Rows.{rows_of};
 ghost use Rattle.page_directives.specs.Settings.{giver, giver_table};
-ghost use Rattle.page_directives.specs.Tables.{include_table, page_table, repeatable, tag_table, taglib_table};
+ghost use Rattle.page_directives.specs.Tables.{include_table, page_table, repeatable, tag_table};
+ghost use Rattle.page_directives.specs.Tables.{taglib_table};
 
 use crate::checks::{Check, Table};
 

@@ -1,6 +1,7 @@
 ghost use Rattle.std.specs.Prelude.{◌≡◌, IfOk};
 ghost use Rattle.std.specs.Option.{option_map};
-ghost use Rattle.page_directives.specs.Taglibs.{is_same_target, is_tag_folder, tagdir_target, target_in, uri_target};
+ghost use Rattle.page_directives.specs.Taglibs.{is_same_target, is_tag_folder, tagdir_target};
+ghost use Rattle.page_directives.specs.Taglibs.{target_in, uri_target};
 
 use crate::words::is_among;
 use page_pieces::{Attribute, begins, has_name, value_of};

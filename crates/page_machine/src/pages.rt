@@ -1,6 +1,7 @@
 // Includes and imports of other pages. In contracts `Changes` says what became of the response's
 // state, and `covered` that the request's promise still covers all that it may ask of the site.
-ghost use Rattle.std.specs.Prelude.{◌≡◌, ◌+◌, ◌<◌, ◌≤◌, ◌^◌, Err, OnErr, OnOk, ◌&&◌, codes, is_none, length, map, not};
+ghost use Rattle.std.specs.Prelude.{◌≡◌, ◌+◌, ◌<◌, ◌≤◌, ◌^◌, Err, OnErr, OnOk, ◌&&◌, codes};
+ghost use Rattle.std.specs.Prelude.{is_none, length, map, not};
 ghost use Rattle.jstl_functions.specs.Texts.{contains_part};
 ghost use Rattle.page_code.specs.Ops.{address_with};
 ghost use Rattle.page_code.specs.declared.call.CallOut.TheVariants as call;

@@ -2,7 +2,8 @@
 ghost use Rattle.std.specs.Prelude.{◌≡◌, ◌+◌, ◌-◌, ◌≤◌, ℕ, List, Option};
 ghost use Rattle.out_buffer.specs.Held.{Stands};
 ghost use Rattle.out_buffer.specs.Writer.{Writer as Written};
-ghost use Rattle.page_machine.specs.Run.{DepthSo, IsInOrder, IsServed, KnownSo, PageRan, SeesSo, Serves, StandsFor, depth_behind, end_of, level_limit};
+ghost use Rattle.page_machine.specs.Run.{DepthSo, IsInOrder, IsServed, KnownSo, PageRan, SeesSo};
+ghost use Rattle.page_machine.specs.Run.{Serves, StandsFor, depth_behind, end_of, level_limit};
 ghost use Rattle.page_machine.specs.Turn.{Ran};
 ghost use Rattle.page_meaning.specs.State.{State};
 ghost use Rattle.page_table.specs.Program.{Serving};

@@ -1,4 +1,6 @@
-ghost use Rattle.page_meaning.specs.Laws.{AnswersAreUnused, ChainsEnd, ForwardsLeaveFewer, HundredLevels, MoreAnswersGoOn, PiecesAreCommitted, RequestsGoOn, StepsAndPiecesGrow};
+ghost use Rattle.page_meaning.specs.Laws.{AnswersAreUnused, ChainsEnd, ForwardsLeaveFewer};
+ghost use Rattle.page_meaning.specs.Laws.{HundredLevels, MoreAnswersGoOn, PiecesAreCommitted};
+ghost use Rattle.page_meaning.specs.Laws.{RequestsGoOn, StepsAndPiecesGrow};
 
 /// Every part of a page only adds steps and pieces, each step behind all that was committed then,
 /// and starts no session behind a commit; and a missing answer has no other effect than that it is

@@ -1,20 +1,44 @@
 //! Worked pages, computed by the meaning: each is a clause of a function without a body of its own.
 #![tactic(auto)]
 
-ghost use Rattle.page_meaning_tests.specs.Addresses.{ImportRemote, Redirect, RedirectControl, UrlParams, UrlVariable};
+ghost use Rattle.page_meaning_tests.specs.Addresses.{ImportRemote, Redirect, RedirectControl};
+ghost use Rattle.page_meaning_tests.specs.Addresses.{UrlParams, UrlVariable};
 ghost use Rattle.page_meaning_tests.specs.Attributes.{GivenAttribute, Parts};
 ghost use Rattle.page_meaning_tests.specs.Beans.{AllProperties, ApplicationBean, Bean, BeanFaults};
-ghost use Rattle.page_meaning_tests.specs.Bodies.{BodyInCallersFrame, CaughtInside, DependentBody, FaultInBody, Fragments, NestedBodies, NoBody};
-ghost use Rattle.page_meaning_tests.specs.Buffers.{Broken, Committed, ExactlyFull, FullByTwo, OneOver, OverByTwo, Overflow, Unbuffered};
-ghost use Rattle.page_meaning_tests.specs.Calls.{AbsentAtBegin, Alias, DynamicAttributes, ForwardInTag, NestedCalls};
-ghost use Rattle.page_meaning_tests.specs.Core.{CatchKeepsOutput, IfAndChoose, LookUpAwaits, NullInApplication, NullRemoves, OutDefault, OutEscapes, RemoveAwaits, RemoveInAll, SetBody, SetEntry};
-ghost use Rattle.page_meaning_tests.specs.Faults.{ActionFaults, AddressFaults, LoopFaults, ObjectFaults, OutFaults, PageFaults, SetFaults, TestFaults};
-ghost use Rattle.page_meaning_tests.specs.Functions.{EachFunction, FunctionFaults, IndexOfAbsent, SplitAndJoin, SplitEmpty, Substring, UpperCase};
-ghost use Rattle.page_meaning_tests.specs.Includes.{Forward, ForwardLoop, Include, IncludeFault, IncludeForward, IncludeRedirect};
-ghost use Rattle.page_meaning_tests.specs.Loops.{EachFaultInside, EachFaults, EachList, EachNumbers, EachRecord, EachToken};
-ghost use Rattle.page_meaning_tests.specs.Objects.{ApplicationAwaits, ApplicationEntries, ApplicationObject, ImplicitObjects, NoSession, NotFound, ScopeObjects, SessionAttributes, SessionAwaits, SessionGoesOn, SessionStarts};
-ghost use Rattle.page_meaning_tests.specs.Operators.{DecimalText, EmptyText, FaultyPage, JoinedTexts, ListText, NoNumber, NumberAndText, OrderAsNumbers, OrderAsTexts, OrderOfNull, RecordText, RemainderSign, RightSideWaits, SumWraps};
-ghost use Rattle.page_meaning_tests.specs.Requests.{AbsentErrorPage, AbsentFile, ErrorPage, ErrorPageForwards, FaultInErrorPage, Hidden, LateSession, LateSessionAwaits, NoSessionCommitted, OneSession, StaticErrorPage, StaticFile};
+ghost use Rattle.page_meaning_tests.specs.Bodies.{BodyInCallersFrame, CaughtInside, DependentBody};
+ghost use Rattle.page_meaning_tests.specs.Bodies.{FaultInBody, Fragments, NestedBodies, NoBody};
+ghost use Rattle.page_meaning_tests.specs.Buffers.{Broken, Committed, ExactlyFull, FullByTwo};
+ghost use Rattle.page_meaning_tests.specs.Buffers.{OneOver, OverByTwo, Overflow, Unbuffered};
+ghost use Rattle.page_meaning_tests.specs.Calls.{AbsentAtBegin, Alias, DynamicAttributes};
+ghost use Rattle.page_meaning_tests.specs.Calls.{ForwardInTag, NestedCalls};
+ghost use Rattle.page_meaning_tests.specs.Core.{CatchKeepsOutput, IfAndChoose, LookUpAwaits};
+ghost use Rattle.page_meaning_tests.specs.Core.{NullInApplication, NullRemoves, OutDefault};
+ghost use Rattle.page_meaning_tests.specs.Core.{OutEscapes, RemoveAwaits, RemoveInAll, SetBody};
+ghost use Rattle.page_meaning_tests.specs.Core.{SetEntry};
+ghost use Rattle.page_meaning_tests.specs.Faults.{ActionFaults, AddressFaults, LoopFaults};
+ghost use Rattle.page_meaning_tests.specs.Faults.{ObjectFaults, OutFaults, PageFaults, SetFaults};
+ghost use Rattle.page_meaning_tests.specs.Faults.{TestFaults};
+ghost use Rattle.page_meaning_tests.specs.Functions.{EachFunction, FunctionFaults, IndexOfAbsent};
+ghost use Rattle.page_meaning_tests.specs.Functions.{SplitAndJoin, SplitEmpty, Substring};
+ghost use Rattle.page_meaning_tests.specs.Functions.{UpperCase};
+ghost use Rattle.page_meaning_tests.specs.Includes.{Forward, ForwardLoop, Include, IncludeFault};
+ghost use Rattle.page_meaning_tests.specs.Includes.{IncludeForward, IncludeRedirect};
+ghost use Rattle.page_meaning_tests.specs.Loops.{EachFaultInside, EachFaults, EachList};
+ghost use Rattle.page_meaning_tests.specs.Loops.{EachNumbers, EachRecord, EachToken};
+ghost use Rattle.page_meaning_tests.specs.Objects.{ApplicationAwaits, ApplicationEntries};
+ghost use Rattle.page_meaning_tests.specs.Objects.{ApplicationObject, ImplicitObjects, NoSession};
+ghost use Rattle.page_meaning_tests.specs.Objects.{NotFound, ScopeObjects, SessionAttributes};
+ghost use Rattle.page_meaning_tests.specs.Objects.{SessionAwaits, SessionGoesOn, SessionStarts};
+ghost use Rattle.page_meaning_tests.specs.Operators.{DecimalText, EmptyText, FaultyPage};
+ghost use Rattle.page_meaning_tests.specs.Operators.{JoinedTexts, ListText, NoNumber};
+ghost use Rattle.page_meaning_tests.specs.Operators.{NumberAndText, OrderAsNumbers, OrderAsTexts};
+ghost use Rattle.page_meaning_tests.specs.Operators.{OrderOfNull, RecordText, RemainderSign};
+ghost use Rattle.page_meaning_tests.specs.Operators.{RightSideWaits, SumWraps};
+ghost use Rattle.page_meaning_tests.specs.Requests.{AbsentErrorPage, AbsentFile, ErrorPage};
+ghost use Rattle.page_meaning_tests.specs.Requests.{ErrorPageForwards, FaultInErrorPage, Hidden};
+ghost use Rattle.page_meaning_tests.specs.Requests.{LateSession, LateSessionAwaits};
+ghost use Rattle.page_meaning_tests.specs.Requests.{NoSessionCommitted, OneSession};
+ghost use Rattle.page_meaning_tests.specs.Requests.{StaticErrorPage, StaticFile};
 
 /// Operators and literals.
 pub fn operators()

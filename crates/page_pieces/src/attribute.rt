@@ -23,8 +23,8 @@ pub enum Part {
 /// The parts of a value in order.
 pub type Parts = Listed<Part>;
 
-/// An attribute of an element or a directive. Its place is the first byte of its value, which is the quote behind it where the
-/// value is empty.
+/// An attribute of an element or a directive. Its place is the first byte of its value, which is
+/// the quote behind it where the value is empty.
 #[derive(Drop)]
 pub struct Attribute {
     pub name: Text,
@@ -75,7 +75,8 @@ impl Attributes {
         self.items.as_slice()
     }
 
-    /// The text of the first attribute of that name, where there is one and its value is nothing but text.
+    /// The text of the first attribute of that name, where there is one and its value is nothing
+    /// but text.
     pub fn plain(&self, name: &str) -> Option<&str>
         ensures { option_map (λ text. text.now) result ≡ value_of name.now self.now }
     {

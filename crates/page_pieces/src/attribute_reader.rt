@@ -3,7 +3,8 @@ ghost use Rattle.page_pieces.specs.ReadSpelled.{seen, written, quoted_as};
 ghost use Rattle.page_pieces.specs.Names.{white_len, white_front, behind_white};
 ghost use Rattle.pg_text.specs.Literals.{is_quote};
 ghost use Rattle.page_pieces.specs.Tags.{attribute_bytes};
-ghost use Rattle.page_pieces.specs.ReadHead.{attribute_name_at, quoted_at, attribute_behind, attribute_at};
+ghost use Rattle.page_pieces.specs.ReadHead.{attribute_name_at, quoted_at, attribute_behind};
+ghost use Rattle.page_pieces.specs.ReadHead.{attribute_at};
 
 use crate::head::Misread;
 use crate::misread::{behind_mark, misread, name_read};

@@ -60,7 +60,8 @@ fn left_behind<'a>(mark: &str, text: &'a str) -> Option<&'a str>
     None
 }
 
-// What is left of a text behind `</`, this prefix, a colon and this name, or behind as much of them as it has.
+// What is left of a text behind `</`, this prefix, a colon and this name, or behind as much of them
+// as it has.
 fn left_behind_name<'a>(prefix: &str, name: &str, text: &'a str) -> Option<&'a str>
     ensures { option_map (λ rest. rest.now) result ≡ left_behind_name prefix.now name.now text.now }
 {
@@ -70,7 +71,8 @@ fn left_behind_name<'a>(prefix: &str, name: &str, text: &'a str) -> Option<&'a s
     left_behind(name, rest)
 }
 
-/// Whether the text could still become the end of the element with this prefix and name, if more bytes followed it.
+/// Whether the text could still become the end of the element with this prefix and name, if more
+/// bytes followed it.
 pub fn could_end(text: &str, prefix: &str, name: &str) -> bool
     ensures yes { result ≡ true → CouldEnd prefix.now name.now text.now }
     ensures no { CouldEnd prefix.now name.now text.now → result ≡ true }

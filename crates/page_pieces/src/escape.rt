@@ -3,7 +3,8 @@ ghost use Rattle.std.specs.Option.{option_map};
 ghost use Rattle.page_pieces.specs.Values.{escape, escape_at};
 ghost use Rattle.page_pieces.specs.ReadSigns.{escape_of, plain_len};
 
-// An escape: how many bytes it takes, what it means, and whether it shields that, so that it is no mark.
+// An escape: how many bytes it takes, what it means, and whether it shields that, so that it is no
+// mark.
 #[derive(Clone, Copy)]
 pub(crate) struct Escape {
     pub len: usize,

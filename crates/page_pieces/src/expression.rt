@@ -1,7 +1,8 @@
 ghost use Rattle.std.specs.Prelude.{◌≡◌, ◌<◌, ◌≤◌, ◌+◌, ◌^◌, Some, length, take, drop, IfSome};
 ghost use Rattle.std.specs.List.{slice_index};
 ghost use Rattle.std.specs.Option.{option_map};
-ghost use Rattle.page_pieces.specs.ReadExpression.{outside_literal, within_literal, scan_byte, nothing_open, around_brace};
+ghost use Rattle.page_pieces.specs.ReadExpression.{outside_literal, within_literal, scan_byte};
+ghost use Rattle.page_pieces.specs.ReadExpression.{nothing_open, around_brace};
 
 // What is open within an expression: a string literal with its quote, and so many braces.
 #[derive(Clone, Copy)]
@@ -11,7 +12,8 @@ pub(crate) struct Scanning {
     pub depth: u64,
 }
 
-// What is open behind a byte that stands outside a literal, or nothing where it ends the expression.
+// What is open behind a byte that stands outside a literal, or nothing where it ends the
+// expression.
 fn outside_literal(state: Scanning, b: u8) -> Option<Scanning>
     requires { state.depth < 2 ^ 63 }
     ensures value { result ≡ outside_literal state b }

@@ -57,7 +57,8 @@ fn insert_new(
     Ok(())
 }
 
-// The text of the first attribute of that name, where there is one and its value is nothing but text.
+// The text of the first attribute of that name, where there is one and its value is nothing but
+// text.
 pub(crate) fn first_value<'a>(
     firsts: &Firsts,
     attributes: &'a [Attribute],

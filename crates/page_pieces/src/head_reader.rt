@@ -94,7 +94,8 @@ fn value_spot(at: Spot, text: &str, a: Spelled<'_>) -> Spot
     at.after_bytes(before_last(text, a.value.len() + 1 + a.rest.len()))
 }
 
-// The attributes of the head at this spot, which follow its name at the other, what closes it, and what follows that.
+// The attributes of the head at this spot, which follow its name at the other, what closes it, and
+// what follows that.
 pub(crate) fn attributes_at<'a>(
     alloc: Global,
     setting: &Setting,

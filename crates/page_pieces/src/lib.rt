@@ -1,5 +1,5 @@
-//! The pieces of a page: the comment, directive, text, expression, start or end of an element that stands at a place of a file, or
-//! why none stands there.
+//! The pieces of a page: the comment, directive, text, expression, start or end of an element that
+//! stands at a place of a file, or why none stands there.
 #![tactic(auto)]
 
 mod attribute;

@@ -1,6 +1,7 @@
 ghost use Rattle.std.specs.Prelude.{◌≡◌, codes};
 ghost use Rattle.page_pieces.specs.Texts.{after};
-ghost use Rattle.page_pieces.specs.Marks.{is_known, is_scripting, start_mark, end_mark, tag_name_after, mark_at};
+ghost use Rattle.page_pieces.specs.Marks.{is_known, is_scripting, start_mark, end_mark};
+ghost use Rattle.page_pieces.specs.Marks.{tag_name_after, mark_at};
 
 use crate::names::tag_name;
 use crate::setting::Setting;

@@ -8,8 +8,8 @@ use std::alloc::{AllocError, Global};
 use std::marker::Model;
 use std::sync::Arc;
 
-// Where a list has so many runs, the last of them are joined before one more comes: a name is looked
-// for in each.
+// Where a list has so many runs, the last of them are joined before one more comes: a name is
+// looked for in each.
 const MANY: usize = 128;
 
 // Names that lists share. Contracts see the list of them.

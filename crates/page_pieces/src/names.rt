@@ -1,6 +1,7 @@
 ghost use Rattle.std.specs.Prelude.{◌≡◌, ◌≤◌, ◌+◌, ◌<◌, length, IfSome};
 ghost use Rattle.std.specs.Option.{option_map};
-ghost use Rattle.page_pieces.specs.Names.{is_white, is_name_start, is_name_byte, white_len, name_len, behind_white};
+ghost use Rattle.page_pieces.specs.Names.{is_white, is_name_start, is_name_byte, white_len};
+ghost use Rattle.page_pieces.specs.Names.{name_len, behind_white};
 ghost use Rattle.page_pieces.specs.Marks.{name_at, tag_name};
 ghost use Rattle.std.specs.List.{prefix_len};
 

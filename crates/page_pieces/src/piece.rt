@@ -39,7 +39,7 @@ pub enum Piece {
 pub enum Break {
     /// A fault and its place.
     Fault(TranslationFault, Spot),
-    /// An end begins here and is not whole and right. Where `could_end` says that the file's end cuts it off, its element is
-    /// unclosed; else it is a wrong end.
+    /// An end begins here and is not whole and right. Where `could_end` says that the file's end
+    /// cuts it off, its element is unclosed; else it is a wrong end.
     BadEnd(Spot),
 }

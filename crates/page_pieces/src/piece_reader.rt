@@ -74,7 +74,8 @@ fn text_piece<'a>(
     Ok((Piece::Leaf(Leaf::Text(means)), rest))
 }
 
-// The piece at the front of a text that is not empty, read by the mark that stands there, and what follows it.
+// The piece at the front of a text that is not empty, read by the mark that stands there, and what
+// follows it.
 #[tactic(auto, unfolding(crate::specs::ReadPiece::piece_at, crate::specs::ReadPiece::piece_by))]
 fn piece_at<'a>(
     alloc: Global,
@@ -111,8 +112,8 @@ fn piece_at<'a>(
     }
 }
 
-/// The piece at the front of a text that is not empty, and what follows it, or why none stands there. The text begins at this
-/// place of the file.
+/// The piece at the front of a text that is not empty, and what follows it, or why none stands
+/// there. The text begins at this place of the file.
 pub fn read_piece<'a>(
     alloc: Global,
     setting: &Setting,

@@ -41,7 +41,8 @@ pub struct Setting {
 }
 
 impl Setting {
-    /// The setting of the first reading: no prefixes but the file's own, expressions are on, and `#{` is text.
+    /// The setting of the first reading: no prefixes but the file's own, expressions are on, and
+    /// `#{` is text.
     pub fn first(alloc: Global) -> Self
         ensures { result ≡ first_setting }
     {

@@ -5,7 +5,8 @@ use crate::texts::before_last;
 use pg_text::{Path, Place};
 use std::alloc::AllocError;
 
-/// A place in the file that is read: its byte, counted from 0, and its line and column, counted from 1.
+/// A place in the file that is read: its byte, counted from 0, and its line and column, counted
+/// from 1.
 #[derive(Clone, Copy)]
 pub struct Spot {
     pub byte: u32,

@@ -1,4 +1,5 @@
-ghost use Rattle.std.specs.Prelude.{◌≡◌, ◌≤◌, ◌<◌, ◌++◌, ◌∷◌, [], length, OnOk, IfOk, is_some, codes};
+ghost use Rattle.std.specs.Prelude.{◌≡◌, ◌≤◌, ◌<◌, ◌++◌, ◌∷◌, [], length, OnOk, IfOk, is_some};
+ghost use Rattle.std.specs.Prelude.{codes};
 ghost use Rattle.pg_text.specs.Failure.{AnswersAs};
 ghost use Rattle.page_pieces.specs.Values.{value_mark_at};
 ghost use Rattle.page_pieces.specs.ReadValue.{parts_of, value_parts};

@@ -1,6 +1,7 @@
 ghost use Rattle.std.specs.Prelude.{◌≡◌, ◌&&◌, ◌-◌, length, take, IfOk};
 ghost use Rattle.std.specs.Str.{bytes_eq};
-ghost use Rattle.page_reader.specs.PageText.{open_in, spot_of, is_named, could_end, could_end_in, closed_own, closed_level};
+ghost use Rattle.page_reader.specs.PageText.{open_in, spot_of, is_named, could_end, could_end_in};
+ghost use Rattle.page_reader.specs.PageText.{closed_own, closed_level};
 ghost use Rattle.page_reader.specs.ReadStack.{own_of, level_of, IsEndOf, EndsIn};
 ghost use Rattle.page_reader.specs.Trees.{trees_of};
 
@@ -10,7 +11,8 @@ use page_pieces::{Spot, Tag, could_end};
 use pg_text::{Path, Text};
 use std::alloc::{AllocError, Global};
 
-// An open element with a body of its own: the nodes before it, its tag and its place, and what follows its start.
+// An open element with a body of its own: the nodes before it, its tag and its place, and what
+// follows its start.
 #[derive(Drop)]
 pub(crate) struct Own<'a> {
     pub before: Vec<Node>,
@@ -65,7 +67,8 @@ impl Level<'_> {
         }
     }
 
-    // The nodes behind the element, where its body has these nodes and ends where this text is left.
+    // The nodes behind the element, where its body has these nodes and ends where this text is
+    // left.
     pub fn close(
         self,
         alloc: Global,

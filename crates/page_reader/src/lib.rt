@@ -1,4 +1,5 @@
-//! The reader of pages: from the text of a file to its tree, each node with its place, and to the fault that breaks the reading off.
+//! The reader of pages: from the text of a file to its tree, each node with its place, and to the
+//! fault that breaks the reading off.
 #![tactic(auto)]
 
 mod level;

@@ -1,6 +1,8 @@
 ghost use Rattle.page_table.specs.Agreement.{RowsAgree};
 ghost use Rattle.page_table.specs.Finds.{EachFinds};
-ghost use Rattle.page_table.specs.Laws.{EachRunEnds, NeverStuck, OneEnd, RunsGrow, RunsLeaveBodies, RunsLeaveFrames, TurnsComeNearer, TurnsLeaveFrames, TurnsStand};
+ghost use Rattle.page_table.specs.Laws.{EachRunEnds, NeverStuck, OneEnd, RunsGrow, RunsLeaveBodies};
+ghost use Rattle.page_table.specs.Laws.{RunsLeaveFrames, TurnsComeNearer, TurnsLeaveFrames};
+ghost use Rattle.page_table.specs.Laws.{TurnsStand};
 
 /// A run has one end, only adds to the steps asked, behind all that was committed, and to the
 /// pieces committed, starts no session behind a commit, and takes no frame back that stood before

@@ -1,7 +1,9 @@
 //! Worked codes, run by the table: each is a clause of a function without a body of its own.
 #![tactic(auto)]
 
-ghost use Rattle.page_table_tests.specs.Codes.{CallWithBody, Caught, CaughtInBody, EachItem, LastVisit, NoLevel, NotCaught, Redirected, SumWritten, TextsJoined};
+ghost use Rattle.page_table_tests.specs.Codes.{CallWithBody, Caught, CaughtInBody, EachItem};
+ghost use Rattle.page_table_tests.specs.Codes.{LastVisit, NoLevel, NotCaught, Redirected};
+ghost use Rattle.page_table_tests.specs.Codes.{SumWritten, TextsJoined};
 ghost use Rattle.page_table_tests.specs.Steps.{StepsRun};
 
 /// What so many turns give is a run.

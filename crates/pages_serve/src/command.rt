@@ -1,4 +1,5 @@
-ghost use Rattle.std.specs.Prelude.{◌≡◌, ◌≢◌, ◌≤◌, ◌+◌, is_some, true, None, OnErr, IfOk, map, string_bytes};
+ghost use Rattle.std.specs.Prelude.{◌≡◌, ◌≢◌, ◌≤◌, ◌+◌, is_some, true, None, OnErr, IfOk, map};
+ghost use Rattle.std.specs.Prelude.{string_bytes};
 ghost use Rattle.context_names.specs.Names.{names_in};
 ghost use Rattle.edges.specs.Faults.{Rose};
 ghost use Rattle.site_words.specs.Invariants.{AllRest};

@@ -1,4 +1,5 @@
-ghost use Rattle.std.specs.Prelude.{◌≡◌, ◌<◌, All, None, length, map, is_some, true, slice_index_or};
+ghost use Rattle.std.specs.Prelude.{◌≡◌, ◌<◌, All, None, length, map, is_some, true};
+ghost use Rattle.std.specs.Prelude.{slice_index_or};
 ghost use Rattle.std.specs.List.{AllZip};
 ghost use Rattle.pages_server.specs.Worked.{Leads};
 
@@ -15,8 +16,8 @@ pub struct Served<T, E> {
     pub closing: Option<E>,
 }
 
-/// Starts a thread for each token, which takes connections and hands each to the handler with its token, until the round of the
-/// listener is over. Then each token has the mark.
+/// Starts a thread for each token, which takes connections and hands each to the handler with its
+/// token, until the round of the listener is over. Then each token has the mark.
 pub fn workers<R: Threads + Wait + Sync, A: Accept + Sync, H: Handler + Sync>(
     rt: &R,
     listener: &A,
@@ -45,7 +46,8 @@ pub fn workers<R: Threads + Wait + Sync, A: Accept + Sync, H: Handler + Sync>(
     thread::for_each_mut(rt, tokens, count, &serve);
 }
 
-// Hands connections to the handler until the round of the listener is over. A listener that failed is asked again.
+// Hands connections to the handler until the round of the listener is over. A listener that failed
+// is asked again.
 fn work<R: Wait, A: Accept, H: Handler>(
     rt: &R,
     listener: &A,

@@ -1,4 +1,5 @@
-//! How the commands of the program are called, as `clap` renders it. The words themselves are read by hand.
+//! How the commands of the program are called, as `clap` renders it. The words themselves are read
+//! by hand.
 #![tactic(auto)]
 
 mod commands;

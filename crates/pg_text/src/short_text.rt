@@ -6,8 +6,8 @@ use std::str;
 // The most bytes of a text that lies in its own value.
 pub(crate) const SHORT_BYTES: usize = 14;
 
-// A text of at most 14 bytes, which lie in the value itself: a copy takes no memory, and meets no other
-// copy. Contracts see the list of its bytes.
+// A text of at most 14 bytes, which lie in the value itself: a copy takes no memory, and meets no
+// other copy. Contracts see the list of its bytes.
 #[derive(Drop)]
 pub(crate) struct ShortText {
     len: u8,

@@ -1,4 +1,5 @@
-/// A fault of a page's text, by which it makes no page. The order is that of their numbers, E1 to E21.
+/// A fault of a page's text, by which it makes no page. The order is that of their numbers, E1 to
+/// E21.
 #[derive(Clone, Copy, Debug, PartialEq, Eq)]
 pub enum TranslationFault {
     NotUtf8 = 1,

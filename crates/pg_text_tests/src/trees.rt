@@ -106,7 +106,8 @@ fn many(alloc: Global, count: usize, text: &str) -> Result<Edits, Failure<BadPat
     Ok(edits)
 }
 
-// How many files the tree of so many files of so many bytes has, and one more of so many; or its fault.
+// How many files the tree of so many files of so many bytes has, and one more of so many; or its
+// fault.
 fn sized(
     alloc: Global,
     count: usize,

@@ -1,9 +1,12 @@
-ghost use Rattle.std.specs.Prelude.{◌≡◌, ◌≢◌, ◌<◌, ◌++◌, ℕ, List, [], Some, None, drop, take, filter, reverse, not, ◌==◌, ◌-◌, ◌^◌, min, length, map, option_map, IfOk, IfSome, Ok, OnOk, OnErr};
+ghost use Rattle.std.specs.Prelude.{◌≡◌, ◌≢◌, ◌<◌, ◌++◌, ℕ, List, [], Some, None, drop, take};
+ghost use Rattle.std.specs.Prelude.{filter, reverse, not, ◌==◌, ◌-◌, ◌^◌, min, length, map};
+ghost use Rattle.std.specs.Prelude.{option_map, IfOk, IfSome, Ok, OnOk, OnErr};
 ghost use Rattle.std.specs.Cmp.Lexicographic.{slice_cmp};
 ghost use Rattle.std.specs.List.Sorted.{IsStableBy};
 ghost use Rattle.std.specs.Ordering.{nat_cmp, is_lt};
 ghost use Rattle.std.specs.Str.{bytes_eq};
-ghost use Rattle.pg_value.specs.Attrs.{AreInOrder, entry_at, with_entry, with_value_at, without_entry, place_of, of_entries, of_first_entries};
+ghost use Rattle.pg_value.specs.Attrs.{AreInOrder, entry_at, with_entry, with_value_at};
+ghost use Rattle.pg_value.specs.Attrs.{without_entry, place_of, of_entries, of_first_entries};
 ghost use Rattle.pg_value.specs.Datum.{rec, entries_of};
 ghost use Rattle.pg_value.specs.Depth.{depth_of};
 ghost use Rattle.pg_value.specs.Value.{datum_of, entry_of};
@@ -16,12 +19,12 @@ use std::alloc::{AllocError, Global};
 use std::cmp::Ordering;
 use std::marker::Model;
 
-/// Among at most so many entries a key is looked for one entry after the other: most keys differ in their lengths, which
-/// tells sooner than their order.
+/// Among at most so many entries a key is looked for one entry after the other: most keys differ in
+/// their lengths, which tells sooner than their order.
 const FEW: usize = 16;
 
-/// The entries of a record: values under distinct keys, in rising byte order of the keys. Contracts see the list of each key's
-/// bytes with what stands under it.
+/// The entries of a record: values under distinct keys, in rising byte order of the keys. Contracts
+/// see the list of each key's bytes with what stands under it.
 #[derive(Drop)]
 pub struct Attrs {
     entries: Vec<(Text, Value)>,
@@ -118,7 +121,8 @@ impl Attrs {
         put(&mut self.entries, key, value)
     }
 
-    /// Puts the value under the key, in the place of what stood there. The key is copied only where nothing did.
+    /// Puts the value under the key, in the place of what stood there. The key is copied only where
+    /// nothing did.
     pub fn set(&mut self, key: &Text, value: Value) -> Result<(), AllocError>
         ensures ok { OnOk result (self.new ≡ with_entry self.old key.now (datum_of value)) }
         ensures err { OnErr result (self.new ≡ self.old) }
@@ -140,7 +144,8 @@ impl Attrs {
         take_out(&mut self.entries, key);
     }
 
-    /// A law: a value that is put again where it stands, or that is taken out and put back, gives the same entries.
+    /// A law: a value that is put again where it stands, or that is taken out and put back, gives
+    /// the same entries.
     #[tactic(auto, using(crate::proofs::PutBack::put_again, crate::proofs::PutBack::put_back))]
     pub fn put_back(entries: &Attrs, key: &str, value: &Value)
         requires { entry_at key.now entries.now ≡ Some (datum_of value.now) }

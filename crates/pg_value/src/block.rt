@@ -1,4 +1,5 @@
-ghost use Rattle.std.specs.Prelude.{◌≡◌, ◌<◌, ◌≤◌, ◌++◌, ◌-◌, ◌^◌, min, length, map, option_map, IfOk};
+ghost use Rattle.std.specs.Prelude.{◌≡◌, ◌<◌, ◌≤◌, ◌++◌, ◌-◌, ◌^◌, min, length, map, option_map};
+ghost use Rattle.std.specs.Prelude.{IfOk};
 ghost use Rattle.pg_value.specs.Attrs.{AreInOrder, entry_at, with_entry, without_entry};
 ghost use Rattle.pg_value.specs.Datum.{rec, entries_of};
 ghost use Rattle.pg_value.specs.Depth.{depth_of};
@@ -13,8 +14,9 @@ use std::alloc::AllocError;
 use std::marker::Model;
 use std::sync::Arc;
 
-// Entries that stand side by side in records of many, which share them, and beside them what a record of these alone weighs
-// and how deep it is. Contracts see the list of the entries, as of an `Attrs`.
+// Entries that stand side by side in records of many, which share them, and beside them what a
+// record of these alone weighs and how deep it is. Contracts see the list of the entries, as of an
+// `Attrs`.
 #[cycle(value)]
 #[derive(Drop)]
 pub(crate) struct Block {

@@ -1,5 +1,7 @@
-ghost use Rattle.std.specs.Prelude.{◌≡◌, ◌<◌, ◌-◌, ◌^◌, ℕ, List, [], get_or, length, map, min, take, drop, option_map, IfOk, IfSome, IsNone, OnOk, OnErr};
-ghost use Rattle.pg_value.specs.Attrs.{AreInOrder, entry_at, with_entry, with_value_at, without_entry};
+ghost use Rattle.std.specs.Prelude.{◌≡◌, ◌<◌, ◌-◌, ◌^◌, ℕ, List, [], get_or, length, map, min};
+ghost use Rattle.std.specs.Prelude.{take, drop, option_map, IfOk, IfSome, IsNone, OnOk, OnErr};
+ghost use Rattle.pg_value.specs.Attrs.{AreInOrder, entry_at, with_entry, with_value_at};
+ghost use Rattle.pg_value.specs.Attrs.{without_entry};
 ghost use Rattle.pg_value.specs.Datum.{Datum, rec, entries_of};
 ghost use Rattle.pg_value.specs.Depth.{depth_of};
 ghost use Rattle.pg_value.specs.ReadEntries.{AreBlocks, joined};
@@ -157,8 +159,8 @@ fn make_room(blocks: &mut Vec<Block>, key: &str) -> Result<(), AllocError>
     Ok(())
 }
 
-// Puts the value under the key, in the place of what stood there: copies one block. More entries than can be counted are
-// refused as for want of memory.
+// Puts the value under the key, in the place of what stood there: copies one block. More entries
+// than can be counted are refused as for want of memory.
 pub fn put(blocks: &mut Vec<Block>, key: Text, value: Value) -> Result<(), AllocError>
     requires { AreBlocks blocks.old.items }
     ensures ok { OnOk result (joined blocks.new.items

@@ -1,4 +1,5 @@
-ghost use Rattle.std.specs.Prelude.{◌≡◌, ◌<◌, ◌-◌, ◌^◌, ℕ, min, length, map, take, drop, option_map, true, IfOk, OnOk, OnErr};
+ghost use Rattle.std.specs.Prelude.{◌≡◌, ◌<◌, ◌-◌, ◌^◌, ℕ, min, length, map, take, drop};
+ghost use Rattle.std.specs.Prelude.{option_map, true, IfOk, OnOk, OnErr};
 ghost use Rattle.pg_value.specs.Attrs.{entry_at, with_entry, with_value_at, without_entry};
 ghost use Rattle.pg_value.specs.Datum.{rec, entries_of};
 ghost use Rattle.pg_value.specs.Depth.{depth_of};
@@ -16,8 +17,8 @@ use std::alloc::{AllocError, Global};
 // A list of so many entries comes into blocks before one more does.
 const MANY: usize = 256;
 
-// The entries of a record: few in one list, of which a change copies all where other records share it, and many in blocks,
-// of which a change copies one.
+// The entries of a record: few in one list, of which a change copies all where other records share
+// it, and many in blocks, of which a change copies one.
 #[cycle(value)]
 #[derive(Drop)]
 pub(crate) enum Entries {
@@ -79,7 +80,8 @@ impl Entries {
         }
     }
 
-    // Whether the record weighs the same and is as deep with this value at this place. Where it tells no, it may be so.
+    // Whether the record weighs the same and is as deep with this value at this place. Where it
+    // tells no, it may be so.
     pub fn keeps_measures(&self, at: usize, value: &Value) -> bool
         requires { at < length (in_entries self.now) }
         ensures { result ≡ true → (w d : ℕ) → IsMeasured (rec (entries_of (in_entries self.now))) w d

@@ -1,5 +1,7 @@
-ghost use Rattle.std.specs.Prelude.{Some, ◌≡◌, ◌==◌, ◌<◌, ◌-◌, ◌^◌, min, length, map, take, drop, option_map, slice_get, IfOk, IfSome, OnOk, OnErr};
-ghost use Rattle.pg_value.specs.Attrs.{AreInOrder, entry_at, with_entry, with_value_at, without_entry};
+ghost use Rattle.std.specs.Prelude.{Some, ◌≡◌, ◌==◌, ◌<◌, ◌-◌, ◌^◌, min, length, map, take, drop};
+ghost use Rattle.std.specs.Prelude.{option_map, slice_get, IfOk, IfSome, OnOk, OnErr};
+ghost use Rattle.pg_value.specs.Attrs.{AreInOrder, entry_at, with_entry, with_value_at};
+ghost use Rattle.pg_value.specs.Attrs.{without_entry};
 ghost use Rattle.pg_value.specs.Datum.{rec, entries_of};
 ghost use Rattle.pg_value.specs.Depth.{depth_of};
 ghost use Rattle.pg_value.specs.ReadEntries.{AreKept, in_entries};
@@ -15,8 +17,8 @@ use std::alloc::AllocError;
 use std::marker::Model;
 use std::sync::Arc;
 
-/// The entries of a record, shared by its copies, and beside them what the record weighs and how deep it is. Contracts see the
-/// list of the entries, as of an `Attrs`.
+/// The entries of a record, shared by its copies, and beside them what the record weighs and how
+/// deep it is. Contracts see the list of the entries, as of an `Attrs`.
 #[cycle(value)]
 #[derive(Drop)]
 pub struct Record {
@@ -97,8 +99,9 @@ impl Record {
         self.entries.find(key)
     }
 
-    /// Puts the value under the key, in the place of what stood there. Where other records share the entries, few are copied,
-    /// and of many those that stand by the key. A record of 2^63 entries, which no memory holds, is refused as for want of it.
+    /// Puts the value under the key, in the place of what stood there. Where other records share
+    /// the entries, few are copied, and of many those that stand by the key. A record of 2^63
+    /// entries, which no memory holds, is refused as for want of it.
     pub fn insert(&mut self, key: Text, value: Value) -> Result<(), AllocError>
         ensures ok { OnOk result (self.new ≡ with_entry self.old key (datum_of value)) }
         ensures err { OnErr result (self.new ≡ self.old) }
@@ -110,7 +113,8 @@ impl Record {
         Ok(())
     }
 
-    /// Takes out what stands under the key. Entries are copied as [`insert`](Self::insert) copies them.
+    /// Takes out what stands under the key. Entries are copied as [`insert`](Self::insert) copies
+    /// them.
     pub fn remove(&mut self, key: &str) -> Result<(), AllocError>
         ensures ok { OnOk result (self.new ≡ without_entry self.old key.now) }
         ensures err { OnErr result (self.new ≡ self.old) }
@@ -122,8 +126,8 @@ impl Record {
         Ok(())
     }
 
-    /// Puts the value in the place of the one at this place, under the key that stands there. Entries are copied as
-    /// [`insert`](Self::insert) copies them.
+    /// Puts the value in the place of the one at this place, under the key that stands there.
+    /// Entries are copied as [`insert`](Self::insert) copies them.
     pub fn set_at(&mut self, at: usize, value: Value) -> Result<(), AllocError>
         requires { at < length self.old }
         ensures ok { OnOk result (self.new ≡ with_value_at self.old at (datum_of value)) }
@@ -139,7 +143,8 @@ impl Record {
         Ok(())
     }
 
-    /// The entries from this place on, as far as they stand in one list: at least the one at the place, where there is one.
+    /// The entries from this place on, as far as they stand in one list: at least the one at the
+    /// place, where there is one.
     pub fn entries_from(&self, place: usize) -> &[(Text, Value)]
         ensures same { map entry_of result.now ≡ take (length result.now) (drop place self.now) }
         ensures some { place < length self.now → 0 < length result.now }
@@ -192,7 +197,8 @@ impl Record {
         Arc::into_inner(self.entries)
     }
 
-    /// The entries in one list, which is a copy where they stand in several, or where other records share them.
+    /// The entries in one list, which is a copy where they stand in several, or where other records
+    /// share them.
     pub fn into_attrs(self) -> Result<Attrs, AllocError>
         ensures { IfOk result (λ entries. entries ≡ self) }
     {
@@ -204,7 +210,8 @@ impl Record {
     }
 }
 
-// Puts the value under the key, in the entries themselves where no other record shares them, and else in a copy.
+// Puts the value under the key, in the entries themselves where no other record shares them, and
+// else in a copy.
 fn put(shared: &mut Arc<Entries>, key: Text, value: Value) -> Result<(), AllocError>
     requires { AreKept shared.old.value }
     ensures ok { OnOk result (in_entries shared.new.value
@@ -221,7 +228,8 @@ fn put(shared: &mut Arc<Entries>, key: Text, value: Value) -> Result<(), AllocEr
     Ok(())
 }
 
-// Puts the value in its place, in the entries themselves where no other record shares them, and else in a copy.
+// Puts the value in its place, in the entries themselves where no other record shares them, and
+// else in a copy.
 fn put_at(shared: &mut Arc<Entries>, at: usize, value: Value) -> Result<(), AllocError>
     requires within { at < length (in_entries shared.old.value) }
     requires kept { AreKept shared.old.value }
@@ -239,7 +247,8 @@ fn put_at(shared: &mut Arc<Entries>, at: usize, value: Value) -> Result<(), Allo
     Ok(())
 }
 
-// Takes out what stands under the key, of the entries themselves where no other record shares them, and else of a copy.
+// Takes out what stands under the key, of the entries themselves where no other record shares them,
+// and else of a copy.
 fn take_out(shared: &mut Arc<Entries>, key: &str) -> Result<(), AllocError>
     requires { AreKept shared.old.value }
     ensures ok { OnOk result (in_entries shared.new.value ≡ without_entry (in_entries shared.old.value) key.now) }

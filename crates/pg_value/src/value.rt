@@ -8,7 +8,8 @@ use crate::{equality, measures};
 use pg_text::Text;
 use std::alloc::AllocError;
 
-/// A value of the page language. Contracts compare two values by `≡`, which is equality of their whole content.
+/// A value of the page language. Contracts compare two values by `≡`, which is equality of their
+/// whole content.
 #[cycle(value)]
 pub enum Value {
     Null,
@@ -21,10 +22,10 @@ pub enum Value {
 }
 
 impl Drop for Value {
-    // Goes on with the heaviest item in a loop, since a value that was read may be of any depth. Each of
-    // the others is at most half as heavy as the whole, so that dropping them goes down the stack at
-    // most once for each bit of a weight. Entries in blocks are dropped as they come, since what is read
-    // has none: it was put together of values within the limit.
+    // Goes on with the heaviest item in a loop, since a value that was read may be of any depth.
+    // Each of the others is at most half as heavy as the whole, so that dropping them goes down the
+    // stack at most once for each bit of a weight. Entries in blocks are dropped as they come,
+    // since what is read has none: it was put together of values within the limit.
     #[cycle(value)]
     fn drop(mut self) {
         loop {

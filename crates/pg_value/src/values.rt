@@ -10,8 +10,8 @@ use std::alloc::{AllocError, Global};
 use std::marker::Model;
 use std::sync::Arc;
 
-/// The items of a list, in order, shared by its copies, and beside them what the list weighs and how deep it is. Contracts see
-/// the list of what the items are.
+/// The items of a list, in order, shared by its copies, and beside them what the list weighs and
+/// how deep it is. Contracts see the list of what the items are.
 #[cycle(value)]
 #[derive(Drop)]
 pub struct Values {

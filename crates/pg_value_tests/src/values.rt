@@ -70,8 +70,8 @@ fn inserted(alloc: Global, keys: &[&str]) -> Result<Attrs, AllocError> {
     Ok(entries)
 }
 
-// How entries are made: put one after the other, and then some taken out of them or of what they were copied from; or all at once, where
-// of equal ones the last stands, or the first.
+// How entries are made: put one after the other, and then some taken out of them or of what they
+// were copied from; or all at once, where of equal ones the last stands, or the first.
 #[derive(Clone, Copy)]
 enum Way {
     Put,
@@ -184,7 +184,8 @@ fn many_names_are_a_record_soon(rt: HostRuntime) -> Result<(), Fail> {
     Ok(())
 }
 
-// Puts an entry into a record and keeps a copy of it without the entry, as a page does, or takes one out.
+// Puts an entry into a record and keeps a copy of it without the entry, as a page does, or takes
+// one out.
 fn set(alloc: Global, record: &mut Record, number: u32) -> Result<(), AllocError> {
     let _before = record.copy()?;
     let key = scattered_key(alloc, number)?;

@@ -39,7 +39,8 @@ impl<P, L> PreviewDesk<P, L> {
 
 impl<P: Port<Made>, L: Ledger> Desk for PreviewDesk<P, L> {
     ghost use Rattle.compiled_pages.specs.Pages.{needs_at};
-    ghost use Rattle.preview_words.specs.Previewed.{IsPreviewed, Leaves, PreviewStand, preview_stand};
+    ghost use Rattle.preview_words.specs.Previewed.{IsPreviewed, Leaves, PreviewStand};
+    ghost use Rattle.preview_words.specs.Previewed.{preview_stand};
     ghost use Rattle.site_words.specs.declared.words.Opening.{Opening};
 
     type Port = P;

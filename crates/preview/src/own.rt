@@ -1,6 +1,7 @@
 // The site of its own on which a preview runs.
 ghost use Rattle.std.specs.Prelude.{◌≡◌, ◌<◌, ◌+◌, ◌^◌, [], true, IfOk};
-ghost use Rattle.preview_words.specs.Own.{own_cookie, own_freshes, own_opening, own_seed, own_sessions};
+ghost use Rattle.preview_words.specs.Own.{own_cookie, own_freshes, own_opening, own_seed};
+ghost use Rattle.preview_words.specs.Own.{own_sessions};
 ghost use Rattle.preview_words.specs.Own.{picture_in};
 ghost use Rattle.site_words.specs.Opening.{is_sound};
 

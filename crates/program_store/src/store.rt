@@ -1,9 +1,12 @@
-ghost use Rattle.std.specs.Prelude.{◌≡◌, ◌<◌, ℕ, List, [], option_map, IfOk, OnOk, OnErr, if◌then◌else◌};
+ghost use Rattle.std.specs.Prelude.{◌≡◌, ◌<◌, ℕ, List, [], option_map, IfOk, OnOk, OnErr};
+ghost use Rattle.std.specs.Prelude.{if◌then◌else◌};
 ghost use Rattle.std.specs.Arc.{arc_value};
 ghost use Rattle.std.specs.Vec.{vec_len, vec_capacity};
 ghost use Rattle.pg_text.specs.Order.{AreRising, IsPlace, path_cmp, with_item, without_item};
 ghost use Rattle.site_words.specs.Trees.{agrees};
-ghost use Rattle.program_store.specs.Store.{clean_in, dirty_in, hit_of, kept_in, kept_of, needing, others, shelf_path, value_for, with_value, without_values};
+ghost use Rattle.program_store.specs.Store.{clean_in, dirty_in, hit_of, kept_in, kept_of, needing};
+ghost use Rattle.program_store.specs.Store.{others, shelf_path, value_for, with_value};
+ghost use Rattle.program_store.specs.Store.{without_values};
 
 use crate::fit::fits;
 use crate::needs::names_of;

@@ -3,7 +3,8 @@ ghost use Rattle.std.specs.Prelude.{◌≡◌, ◌+◌, ◌<◌, ◌^◌, ◌∷
 ghost use Rattle.out_buffer.specs.Writer.{with_body};
 ghost use Rattle.page_meaning.specs.Bodies.{taken};
 ghost use Rattle.page_meaning.specs.State.{in_writer};
-ghost use Rattle.page_table.specs.Act.{bean_made, brought_up, catch_closed, is_same_truth, is_true, jump_null, with_catch};
+ghost use Rattle.page_table.specs.Act.{bean_made, brought_up, catch_closed, is_same_truth, is_true};
+ghost use Rattle.page_table.specs.Act.{jump_null, with_catch};
 ghost use Rattle.page_table.specs.Landing.{Running, land, one_of, then_at};
 ghost use Rattle.page_table.specs.Move.{On, popped};
 ghost use Rattle.pg_value.specs.Datum.{Datum, text};

@@ -1,5 +1,6 @@
 // What stands open in a running code: its values, loops and catches.
-ghost use Rattle.std.specs.Prelude.{◌≡◌, ◌≤◌, ◌<◌, ◌+◌, [], ◌∷◌, ◌++◌, List, length, map, take, drop, reverse, OnOk, OnErr, MatchOption};
+ghost use Rattle.std.specs.Prelude.{◌≡◌, ◌≤◌, ◌<◌, ◌+◌, [], ◌∷◌, ◌++◌, List, length, map, take};
+ghost use Rattle.std.specs.Prelude.{drop, reverse, OnOk, OnErr, MatchOption};
 ghost use Rattle.out_buffer.specs.Writer.{last_of};
 ghost use Rattle.page_table.specs.Open.{fresh_open};
 ghost use Rattle.pg_value.specs.Datum.{Datum};

@@ -1,5 +1,6 @@
 // The beginning of a loop, and its rounds.
-ghost use Rattle.std.specs.Prelude.{◌≡◌, ◌+◌, ◌-◌, ◌<◌, ◌≤◌, ◌^◌, ◌∷◌, length, reverse, take, List, Some, IfOk};
+ghost use Rattle.std.specs.Prelude.{◌≡◌, ◌+◌, ◌-◌, ◌<◌, ◌≤◌, ◌^◌, ◌∷◌, length, reverse, take, List};
+ghost use Rattle.std.specs.Prelude.{Some, IfOk};
 ghost use Rattle.page_meaning.specs.Attributes.{table_of};
 ghost use Rattle.page_meaning.specs.Loops.{round_begun, set_status, with_named};
 ghost use Rattle.page_meaning.specs.Rounds.{Round, status_record};

@@ -1,12 +1,14 @@
 // The variables that a call of a tag file gives its caller.
 ghost use Rattle.std.specs.Prelude.{◌≡◌, ◌<◌, [], ◌∷◌, length, map, option_map, IfOk};
 ghost use Rattle.el_coercion.specs.Text.{text_of};
-ghost use Rattle.page_meaning.specs.Exports.{copied_out, exports_of, given_back, is_at_end, is_at_fragment, is_nested, outer_name};
+ghost use Rattle.page_meaning.specs.Exports.{copied_out, exports_of, given_back, is_at_end};
+ghost use Rattle.page_meaning.specs.Exports.{is_at_fragment, is_nested, outer_name};
 ghost use Rattle.page_meaning.specs.State.{State, in_scopes};
 ghost use Rattle.page_meaning.specs.Variables.{entries_of_frame};
 ghost use Rattle.page_meaning.specs.Went.{Well};
 ghost use Rattle.pg_value.specs.Value.{datum_of};
-ghost use Rattle.run_parts.specs.Exports.{change_of, changed_by, is_copied, nested_changes, own_changes, unwrap_or_empty};
+ghost use Rattle.run_parts.specs.Exports.{change_of, changed_by, is_copied, nested_changes};
+ghost use Rattle.run_parts.specs.Exports.{own_changes, unwrap_or_empty};
 ghost use Rattle.run_world.specs.Part.{Doing};
 ghost use Rattle.run_world.specs.Seats.{export_of};
 ghost use Rattle.scopes.specs.Scopes.{ScopeState, turned_to};

@@ -1,6 +1,7 @@
 ghost use Rattle.std.specs.Prelude.{◌≡◌, ◌≢◌, option_map};
 ghost use Rattle.page_meaning.specs.Expressions.{variable_or_step};
-ghost use Rattle.page_meaning.specs.Variables.{assign, inner_found, look_up, set_application, unassign, unassign_all};
+ghost use Rattle.page_meaning.specs.Variables.{assign, inner_found, look_up, set_application};
+ghost use Rattle.page_meaning.specs.Variables.{unassign, unassign_all};
 ghost use Rattle.pg_text.specs.Failure.{AnswersAs};
 ghost use Rattle.pg_value.specs.Datum.{null};
 ghost use Rattle.pg_value.specs.Value.{datum_of};

@@ -1,7 +1,9 @@
-ghost use Rattle.std.specs.Prelude.{◌≡◌, ◌<◌, ◌∷◌, ◌++◌, length, option_map, option_to_list, IfOk, IfSome, OnOk};
+ghost use Rattle.std.specs.Prelude.{◌≡◌, ◌<◌, ◌∷◌, ◌++◌, length, option_map, option_to_list, IfOk};
+ghost use Rattle.std.specs.Prelude.{IfSome, OnOk};
 ghost use Rattle.std.specs.List.{slice_split};
 ghost use Rattle.run_values.specs.Objects.{cookies_between, pieces_behind};
-ghost use Rattle.page_meaning.specs.Request.{cookie_entry, cookie_in, cookie_records, cookies, is_semicolon};
+ghost use Rattle.page_meaning.specs.Request.{cookie_entry, cookie_in, cookie_records, cookies};
+ghost use Rattle.page_meaning.specs.Request.{is_semicolon};
 ghost use Rattle.pg_value.specs.Value.{entry_of};
 
 use crate::blanks::trim;

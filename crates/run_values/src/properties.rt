@@ -1,7 +1,8 @@
 ghost use Rattle.std.specs.Prelude.{◌≡◌, ◌≢◌, map, option_map, IfOk};
 ghost use Rattle.run_values.specs.Properties.{changed_all, changed_one, found_of, property_found};
 ghost use Rattle.page_meaning.specs.Attributes.{coerced};
-ghost use Rattle.page_meaning.specs.Beans.{all_by_parameters, by_parameter, filled, like, property_of, replaced_value};
+ghost use Rattle.page_meaning.specs.Beans.{all_by_parameters, by_parameter, filled, like};
+ghost use Rattle.page_meaning.specs.Beans.{property_of, replaced_value};
 ghost use Rattle.page_meaning.specs.Core.{property_replaced, with_property};
 ghost use Rattle.pg_text.specs.Failure.{Answers, AnswersAs};
 ghost use Rattle.jstl_functions.specs.Functions.{measured};

@@ -2,7 +2,8 @@ ghost use Rattle.std.specs.Prelude.{◌≡◌, map, option_map, IfOk};
 ghost use Rattle.run_values.specs.Objects.{header_answer, header_entries};
 ghost use Rattle.http_in.specs.Target.{before_query};
 ghost use Rattle.page_meaning.specs.Implicit.{session_datum};
-ghost use Rattle.page_meaning.specs.Request.{all_values, first_values, header_texts, param_entry, request_record};
+ghost use Rattle.page_meaning.specs.Request.{all_values, first_values, header_texts, param_entry};
+ghost use Rattle.page_meaning.specs.Request.{request_record};
 ghost use Rattle.pg_text.specs.Failure.{AnswersAs};
 ghost use Rattle.pg_value.specs.Value.{datum_of, entry_of};
 

@@ -1,6 +1,8 @@
-ghost use Rattle.std.specs.Prelude.{◌≡◌, ◌+◌, ◌≤◌, ◌<◌, ◌^◌, [], ◌∷◌, length, List, Ok, Some, IfOk, codes, map, option_map, slice_get, MatchOption};
+ghost use Rattle.std.specs.Prelude.{◌≡◌, ◌+◌, ◌≤◌, ◌<◌, ◌^◌, [], ◌∷◌, length, List, Ok, Some, IfOk};
+ghost use Rattle.std.specs.Prelude.{codes, map, option_map, slice_get, MatchOption};
 ghost use Rattle.run_values.specs.Rounds.{behind_round, entry_item, items_of};
-ghost use Rattle.page_meaning.specs.Rounds.{Round, entry_items, good_begin, good_step, item_at, item_count, rounds_by, stop_at, token_items};
+ghost use Rattle.page_meaning.specs.Rounds.{Round, entry_items, good_begin, good_step, item_at};
+ghost use Rattle.page_meaning.specs.Rounds.{item_count, rounds_by, stop_at, token_items};
 ghost use Rattle.pg_text.specs.Failure.{AnswersAs};
 ghost use Rattle.pg_value.specs.Datum.{entries_of, entry, no_entries, rec, text};
 ghost use Rattle.pg_value.specs.Value.{datum_of, entry_of};

@@ -1,4 +1,5 @@
-ghost use Rattle.std.specs.Prelude.{◌≡◌, ◌+◌, ◌<◌, ◌≤◌, ℕ, Bool, List, length, take, nat_lt, true, false, is_some, IsNone, option_map, OnOk, OnErr, IfOk};
+ghost use Rattle.std.specs.Prelude.{◌≡◌, ◌+◌, ◌<◌, ◌≤◌, ℕ, Bool, List, length, take, nat_lt, true};
+ghost use Rattle.std.specs.Prelude.{false, is_some, IsNone, option_map, OnOk, OnErr, IfOk};
 ghost use Rattle.out_buffer.specs.Writer.{cleared, flush, has_committed, with_bodies, with_body};
 ghost use Rattle.page_meaning.specs.Bodies.{put_text, taken};
 ghost use Rattle.page_meaning.specs.Includes.{ask_page, session_started};
@@ -11,7 +12,8 @@ ghost use Rattle.run_world.specs.Asking.{IsAskable};
 ghost use Rattle.run_world.specs.Origin.{Origin};
 ghost use Rattle.run_world.specs.Part.{Changes, Doing};
 ghost use Rattle.run_world.specs.Programs.{stored_of};
-ghost use Rattle.scopes.specs.Scopes.{ScopeState, turned_to, with_frame, with_frame_of, without_variable};
+ghost use Rattle.scopes.specs.Scopes.{ScopeState, turned_to, with_frame, with_frame_of};
+ghost use Rattle.scopes.specs.Scopes.{without_variable};
 ghost use Rattle.site_words.specs.Law.{Answer, told};
 ghost use Rattle.site_words.specs.Running.{fits_step_reply};
 

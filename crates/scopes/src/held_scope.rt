@@ -3,7 +3,8 @@ ghost use Rattle.scopes.specs.HeldScope.{held_scope};
 
 use pg_value::Scope;
 
-/// A scope whose variables a page run holds itself: every one but application scope, which belongs to the site.
+/// A scope whose variables a page run holds itself: every one but application scope, which belongs
+/// to the site.
 #[derive(Clone, Copy, Debug, PartialEq, Eq)]
 pub enum HeldScope {
     /// The current frame.

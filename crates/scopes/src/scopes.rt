@@ -1,8 +1,11 @@
-ghost use Rattle.std.specs.Prelude.{◌≡◌, ◌<◌, [], length, option_map, unwrap_or, IsNone, OnOk, OnErr, IfOk};
+ghost use Rattle.std.specs.Prelude.{◌≡◌, ◌<◌, [], length, option_map, unwrap_or, IsNone, OnOk};
+ghost use Rattle.std.specs.Prelude.{OnErr, IfOk};
 ghost use Rattle.pg_text.specs.Failure.{Answers};
 ghost use Rattle.pg_value.specs.Value.{datum_of};
-ghost use Rattle.scopes.specs.Scopes.{starting, entries_in, found_in, found, with_variable, without_variable, set_answer, record_answer, restarted};
-ghost use Rattle.scopes.specs.Scopes.{with_frame, with_frame_of, without_frame, turned_to, with_session};
+ghost use Rattle.scopes.specs.Scopes.{starting, entries_in, found_in, found, with_variable};
+ghost use Rattle.scopes.specs.Scopes.{without_variable, set_answer, record_answer, restarted};
+ghost use Rattle.scopes.specs.Scopes.{with_frame, with_frame_of, without_frame, turned_to};
+ghost use Rattle.scopes.specs.Scopes.{with_session};
 
 use crate::attributes;
 use crate::frame::Frame;
@@ -11,8 +14,8 @@ use pg_value::{Attrs, Failure, Record, RunFault, Text, Value};
 use std::alloc::{AllocError, Global};
 use std::marker::Model;
 
-/// The variables of a page run: the frames of page scope, one of which is current, request scope, and the attributes of the
-/// session where the request has one. Contracts see a record of them.
+/// The variables of a page run: the frames of page scope, one of which is current, request scope,
+/// and the attributes of the session where the request has one. Contracts see a record of them.
 #[derive(Drop)]
 pub struct Scopes {
     frames: Vec<Frame>,
@@ -71,8 +74,9 @@ impl Scopes {
         }
     }
 
-    /// Puts the value under the name, in the place of what stood there. X13 in session scope without a session, and X21
-    /// where the session's attributes would weigh over [`MAX_SESSION_WEIGHT`](pg_value::MAX_SESSION_WEIGHT).
+    /// Puts the value under the name, in the place of what stood there. X13 in session scope
+    /// without a session, and X21 where the session's attributes would weigh over
+    /// [`MAX_SESSION_WEIGHT`](pg_value::MAX_SESSION_WEIGHT).
     pub fn set(
         &mut self,
         scope: HeldScope,
@@ -117,7 +121,8 @@ impl Scopes {
         }
     }
 
-    /// The scope as a record, which is empty for an absent session. X20 where it is too heavy or too deep.
+    /// The scope as a record, which is empty for an absent session. X20 where it is too heavy or
+    /// too deep.
     pub fn as_rec(&self, scope: HeldScope) -> Result<Value, Failure<RunFault>>
         ensures { Answers (record_answer (unwrap_or (entries_in self.now scope) [])) result }
     {
@@ -143,8 +148,8 @@ impl Scopes {
         self.current
     }
 
-    /// Puts an empty frame behind the others, and makes it current. A frame whose number is over the greatest `u32` is
-    /// refused as for want of memory.
+    /// Puts an empty frame behind the others, and makes it current. A frame whose number is over
+    /// the greatest `u32` is refused as for want of memory.
     pub fn push_frame(&mut self) -> Result<(), AllocError>
         ensures ok { OnOk result (self.new ≡ with_frame self.old) }
         ensures err { OnErr result (self.new ≡ self.old) }
@@ -153,7 +158,8 @@ impl Scopes {
         self.push_frame_of(entries)
     }
 
-    /// Puts a frame with these entries behind the others, as [`push_frame`](Self::push_frame) does an empty one.
+    /// Puts a frame with these entries behind the others, as [`push_frame`](Self::push_frame) does
+    /// an empty one.
     pub fn push_frame_of(&mut self, entries: Attrs) -> Result<(), AllocError>
         ensures ok { OnOk result (self.new ≡ with_frame_of entries self.old) }
         ensures err { OnErr result (self.new ≡ self.old) }
@@ -186,7 +192,8 @@ impl Scopes {
         self.current = 0;
     }
 
-    /// Makes the frame of this number current, counted from 0, and answers the number of the one that was.
+    /// Makes the frame of this number current, counted from 0, and answers the number of the one
+    /// that was.
     pub fn turn_to(&mut self, frame: u32) -> u32
         requires { frame < length self.old.frames }
         ensures turned { self.new ≡ turned_to self.old frame }

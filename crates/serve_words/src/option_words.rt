@@ -1,6 +1,10 @@
-ghost use Rattle.std.specs.Prelude.{◌≡◌, ◌≤◌, ◌<◌, ◌+◌, ◌&&◌, is_none, is_some, true, map, string_bytes, IfSome, length, option_map};
+ghost use Rattle.std.specs.Prelude.{◌≡◌, ◌≤◌, ◌<◌, ◌+◌, ◌&&◌, is_none, is_some, true, map};
+ghost use Rattle.std.specs.Prelude.{string_bytes, IfSome, length, option_map};
 ghost use Rattle.context_names.specs.Names.{names_in};
-ghost use Rattle.serve_words.specs.Words.{FewWorkers, all_said, asked_of, count_of, nothing_given, number_up_to, once, read, rounds_of, seed_in, settings_asked, settings_of, split_at_equals, stand_together, with_option, with_word};
+ghost use Rattle.serve_words.specs.Words.{FewWorkers, all_said, asked_of, count_of, nothing_given};
+ghost use Rattle.serve_words.specs.Words.{number_up_to, once, read, rounds_of, seed_in};
+ghost use Rattle.serve_words.specs.Words.{settings_asked, settings_of, split_at_equals};
+ghost use Rattle.serve_words.specs.Words.{stand_together, with_option, with_word};
 
 use crate::given::Given;
 use crate::setting::{Asked, Rounds, Settings};

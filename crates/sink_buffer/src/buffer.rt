@@ -1,4 +1,5 @@
-ghost use Rattle.std.specs.Prelude.{◌≡◌, ◌≤◌, ℕ, List, [], ◌++◌, true, false, Option, OnErr, is_err};
+ghost use Rattle.std.specs.Prelude.{◌≡◌, ◌≤◌, ℕ, List, [], ◌++◌, true, false, Option, OnErr};
+ghost use Rattle.std.specs.Prelude.{is_err};
 ghost use Rattle.edges.specs.Faults.{Rose};
 ghost use Rattle.http_out.specs.Sent.{Sent};
 ghost use Rattle.sink_buffer.specs.Buffer.{SentBut, Writes};

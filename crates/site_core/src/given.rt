@@ -1,4 +1,5 @@
-ghost use Rattle.site_core.specs.ReadGiven.{CanBegin, CanFind, CanName, CanShow, IsBegunBy, IsFoundBy, IsFreshBy, IsSnappedBy};
+ghost use Rattle.site_core.specs.ReadGiven.{CanBegin, CanFind, CanName, CanShow, IsBegunBy};
+ghost use Rattle.site_core.specs.ReadGiven.{IsFoundBy, IsFreshBy, IsSnappedBy};
 
 use site_state::{Gift, Given};
 use site_words::{Begun, Fresh, Reply, Snapped};

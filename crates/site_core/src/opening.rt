@@ -3,7 +3,8 @@ ghost use Rattle.std.specs.List.{list_all, list_any};
 ghost use Rattle.pg_value.specs.Limits.{is_over};
 ghost use Rattle.pg_value.specs.Value.{entry_of};
 ghost use Rattle.site_words.specs.declared.words.KeptSession.{KeptSession as TheSession};
-ghost use Rattle.site_words.specs.Opening.{are_distinct, is_sound, is_sound_session, sound_app, sound_counts, sound_sessions, sound_tree};
+ghost use Rattle.site_words.specs.Opening.{are_distinct, is_sound, is_sound_session, sound_app};
+ghost use Rattle.site_words.specs.Opening.{sound_counts, sound_sessions, sound_tree};
 ghost use Rattle.site_words.specs.Trees.{every};
 
 use pg_text::Text;

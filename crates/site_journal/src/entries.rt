@@ -1,8 +1,10 @@
 ghost use Rattle.std.specs.Prelude.{◌≡◌, ◌<◌, ◌^◌, flat_map, length};
 ghost use Rattle.packed_entries.specs.Refs.{op_in, reply_in};
 ghost use Rattle.site_journal.specs.Codes.{IsList, of_bytes, of_list};
-ghost use Rattle.site_journal.specs.Journal.{kind_of, of_answer, of_edit, of_entry, of_op, of_reply, of_step, rolled};
-ghost use Rattle.site_journal.specs.Reading.{HasParts, IsAnswer, IsEdit, IsOp, IsPath, IsReply, IsStep};
+ghost use Rattle.site_journal.specs.Journal.{kind_of, of_answer, of_edit, of_entry, of_op};
+ghost use Rattle.site_journal.specs.Journal.{of_reply, of_step, rolled};
+ghost use Rattle.site_journal.specs.Reading.{HasParts, IsAnswer, IsEdit, IsOp, IsPath, IsReply};
+ghost use Rattle.site_journal.specs.Reading.{IsStep};
 ghost use Rattle.site_words.specs.Trees.{Each};
 ghost use Rattle.sink_buffer.specs.Buffer.{Writes};
 

@@ -1,5 +1,7 @@
 ghost use Rattle.std.specs.Prelude.{ℕ, ◌<◌, List, [], ◌∷◌, flat_map};
-ghost use Rattle.site_journal.specs.Codes.{AreBytes, IsInt, IsList, IsNumber, IsOption, IsText, of_bytes, of_int, of_list, of_number, of_option, of_truth};
+ghost use Rattle.site_journal.specs.Codes.{AreBytes, IsInt, IsList, IsNumber, IsOption, IsText};
+ghost use Rattle.site_journal.specs.Codes.{of_bytes, of_int, of_list, of_number, of_option};
+ghost use Rattle.site_journal.specs.Codes.{of_truth};
 ghost use Rattle.site_words.specs.Trees.{Each};
 ghost use Rattle.sink_buffer.specs.Buffer.{Writes};
 

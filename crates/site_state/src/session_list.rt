@@ -1,8 +1,10 @@
-ghost use Rattle.std.specs.Prelude.{◌≡◌, ◌<◌, ◌^◌, ◌∷◌, ◌++◌, [], true, false, map, All, IfOk, IfSome, OnOk, OnErr};
+ghost use Rattle.std.specs.Prelude.{◌≡◌, ◌<◌, ◌^◌, ◌∷◌, ◌++◌, [], true, false, map, All, IfOk};
+ghost use Rattle.std.specs.Prelude.{IfSome, OnOk, OnErr};
 ghost use Rattle.site_state.specs.Parts.{under_in};
 ghost use Rattle.site_state.specs.LastUses.{session_with, sessions_in};
 ghost use Rattle.site_state.specs.Sources.{sessions_of};
-ghost use Rattle.site_state.specs.ReadSessions.{first_unheld, has_named, named, others, others_if, roomy, touched};
+ghost use Rattle.site_state.specs.ReadSessions.{first_unheld, has_named, named, others, others_if};
+ghost use Rattle.site_state.specs.ReadSessions.{roomy, touched};
 
 use crate::attributes::attributes;
 use crate::request::Request;

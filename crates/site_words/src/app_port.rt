@@ -3,7 +3,8 @@ ghost use Rattle.pg_text.specs.declared.place.PageFault.{PageFault as Fault};
 ghost use Rattle.source_tree.specs.Edits.{file_at};
 ghost use Rattle.source_tree.specs.declared.file.File.{File};
 ghost use Rattle.site_words.specs.Fits.{fits_step};
-ghost use Rattle.site_words.specs.Running.{Asking, IsGivenSession, IsPaged, IsTold, Looks, page_claim};
+ghost use Rattle.site_words.specs.Running.{Asking, IsGivenSession, IsPaged, IsTold, Looks};
+ghost use Rattle.site_words.specs.Running.{page_claim};
 ghost use Rattle.site_words.specs.Weights.{end_weight, step_weight, value_limit};
 
 use crate::port::Fresh;

@@ -1,5 +1,10 @@
 //! The laws of legal histories, each a clause of a function without a body of its own.
-ghost use Rattle.site_words.specs.Laws.{BeginsLatest, DoneIsLegal, FitsMay, MayFits, MayLasts, NeedsStand, NeverBusyAlone, NeverOlder, NextIsSound, OrderStays, OwnDecides, PromisesAreKept, RequestsHaveTheirTrees, RollsOver, SessionsAreApart, SessionsAreGood, StampsNameFiles, StampsNameTexts, SureLasts, TreeIsSound, UnchangedStands, VersionCounts};
+ghost use Rattle.site_words.specs.Laws.{BeginsLatest, DoneIsLegal, FitsMay, MayFits, MayLasts};
+ghost use Rattle.site_words.specs.Laws.{NeedsStand, NeverBusyAlone, NeverOlder, NextIsSound};
+ghost use Rattle.site_words.specs.Laws.{OrderStays, OwnDecides, PromisesAreKept};
+ghost use Rattle.site_words.specs.Laws.{RequestsHaveTheirTrees, RollsOver, SessionsAreApart};
+ghost use Rattle.site_words.specs.Laws.{SessionsAreGood, StampsNameFiles, StampsNameTexts};
+ghost use Rattle.site_words.specs.Laws.{SureLasts, TreeIsSound, UnchangedStands, VersionCounts};
 
 /// What a pass may do is decided by its own entries and by what is published, and lasts until it
 /// acts.

@@ -6,7 +6,9 @@ ghost use Rattle.site_words.specs.declared.words.Op.TheVariants as op;
 ghost use Rattle.site_words.specs.State.{after};
 ghost use Rattle.site_words.specs.Law.{May, own, run_of, Legal};
 ghost use Rattle.site_words.specs.Calls.{Calls};
-ghost use Rattle.site_words.specs.Answers.{of_published, of_begun, of_app, of_fresh, of_fetched, of_offered, of_snapped, IsFullOnRefused, StartsWith, Shows, IsNamed, ForRun, IsSamePort};
+ghost use Rattle.site_words.specs.Answers.{of_published, of_begun, of_app, of_fresh, of_fetched};
+ghost use Rattle.site_words.specs.Answers.{of_offered, of_snapped, IsFullOnRefused, StartsWith};
+ghost use Rattle.site_words.specs.Answers.{Shows, IsNamed, ForRun, IsSamePort};
 ghost use Rattle.site_words.specs.Opening.{is_sound};
 
 use crate::compiled::Compiled;

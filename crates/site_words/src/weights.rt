@@ -1,6 +1,8 @@
 ghost use Rattle.std.specs.Prelude.{◌≡◌, ◌+◌, ◌-◌, ◌^◌, ◌≤◌, nat_lt, min, length, ℕ};
 ghost use Rattle.site_words.specs.declared.limits.TheConstants.{OP_WEIGHT};
-ghost use Rattle.site_words.specs.Weights.{answer_weight, capped, edit_weight, edits_weight, names_weight, op_weight, reply_weight, step_weight, text_weight, weight_held, weight_with};
+ghost use Rattle.site_words.specs.Weights.{answer_weight, capped, edit_weight, edits_weight};
+ghost use Rattle.site_words.specs.Weights.{names_weight, op_weight, reply_weight, step_weight};
+ghost use Rattle.site_words.specs.Weights.{text_weight, weight_held, weight_with};
 
 use crate::OP_WEIGHT;
 use crate::words::{AppReply, AppStep, Entry, Op, Reply};

@@ -3,7 +3,12 @@
 #![tactic(auto)]
 
 ghost use Rattle.site_words_tests.specs.AtLimits.{FullIsSound, OneGivesWay, TooManyFiles};
-ghost use Rattle.site_words_tests.specs.Worked.{Abandon, AllAttributes, AttributesAreKept, EighthId, FirstId, FortyReads, IdleSessions, LastReadFits, NoRoom, OlderRequests, OpeningIsSound, Pictures, ReadWeighs, RoomForOne, SecondId, Sessions, SetWeighs, StaleBase, StepsOfTwoPasses, ThirdId};
+ghost use Rattle.site_words_tests.specs.Worked.{Abandon, AllAttributes, AttributesAreKept};
+ghost use Rattle.site_words_tests.specs.Worked.{EighthId, FirstId, FortyReads, IdleSessions};
+ghost use Rattle.site_words_tests.specs.Worked.{LastReadFits, NoRoom, OlderRequests};
+ghost use Rattle.site_words_tests.specs.Worked.{OpeningIsSound, Pictures, ReadWeighs, RoomForOne};
+ghost use Rattle.site_words_tests.specs.Worked.{SecondId, Sessions, SetWeighs, StaleBase};
+ghost use Rattle.site_words_tests.specs.Worked.{StepsOfTwoPasses, ThirdId};
 
 /// Histories of a few steps, and what entries weigh.
 pub fn worked()

@@ -13,7 +13,8 @@ use std::alloc::{AllocError, Global};
 use std::collections::BTreeSet;
 use std::marker::Model;
 
-/// The directives of a tag file itself that stand before another, with the names that they declare. Contracts see the list of them.
+/// The directives of a tag file itself that stand before another, with the names that they declare.
+/// Contracts see the list of them.
 #[derive(Drop)]
 pub struct DeclaredBefore<'a> {
     before: Before<'a>,

@@ -3,7 +3,8 @@ ghost use Rattle.std.specs.Option.{option_map};
 ghost use Rattle.page_pieces.specs.Settings.{value_of};
 ghost use Rattle.page_directives.specs.Settings.{decided, given};
 ghost use Rattle.page_directives.specs.Tables.{tag_table};
-ghost use Rattle.tag_decl.specs.Declare.{attribute_in, attribute_named, attributes_of, declaration, variable_in, variable_name, variables_of};
+ghost use Rattle.tag_decl.specs.Declare.{attribute_in, attribute_named, attributes_of, declaration};
+ghost use Rattle.tag_decl.specs.Declare.{variable_in, variable_name, variables_of};
 
 use crate::attr_decls::AttrDecls;
 use crate::declaration::{AttrDecl, TagDecl, VarDecl, VarDecls};

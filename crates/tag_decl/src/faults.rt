@@ -6,8 +6,10 @@ ghost use Rattle.page_directives.specs.Settings.{is_value};
 ghost use Rattle.page_directives.specs.Faults.{in_order, is_good};
 ghost use Rattle.page_directives.specs.Rows.{rows_of};
 ghost use Rattle.tag_decl.specs.Declare.{declared};
-ghost use Rattle.tag_decl.specs.Faults.{any_faults, are_good, attribute_directive_faults, attribute_table, clash_faults, declared_names};
-ghost use Rattle.tag_decl.specs.Faults.{declaring_faults, has_one_name, is_named_well, is_text, may_name, variable_directive_faults};
+ghost use Rattle.tag_decl.specs.Faults.{any_faults, are_good, attribute_directive_faults};
+ghost use Rattle.tag_decl.specs.Faults.{attribute_table, clash_faults, declared_names};
+ghost use Rattle.tag_decl.specs.Faults.{declaring_faults, has_one_name, is_named_well, is_text};
+ghost use Rattle.tag_decl.specs.Faults.{may_name, variable_directive_faults};
 ghost use Rattle.tag_decl.specs.Faults.{variable_table};
 
 use crate::attr_decls::AttrDecls;
@@ -166,7 +168,8 @@ fn variable_directive_faults(
     ).and(clash_faults(before, directive)))))
 }
 
-/// The faults of what a directive of a tag file with these declarations declares, behind the directives before it.
+/// The faults of what a directive of a tag file with these declarations declares, behind the
+/// directives before it.
 #[tactic(auto, unfolding(crate::specs::Faults::declaring_faults))]
 pub fn declaring_faults(decls: &AttrDecls, before: &DeclaredBefore, directive: &Directive) -> Faults
     ensures { result ≡ in_order (declaring_faults decls.now before.now directive.now) }
@@ -208,7 +211,8 @@ fn is_faultless<'a>(
     any_faults(decls, first, before, directive).is_empty()
 }
 
-/// Whether the directives of a tag file that declare have no fault, so that calls are checked against these declarations.
+/// Whether the directives of a tag file that declare have no fault, so that calls are checked
+/// against these declarations.
 pub fn is_good(
     alloc: Global,
     decls: &AttrDecls,

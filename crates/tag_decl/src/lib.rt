@@ -1,5 +1,5 @@
-//! What a tag file declares: its attributes, its variables, its body and its undeclared attributes; and the faults of the directives
-//! that declare it.
+//! What a tag file declares: its attributes, its variables, its body and its undeclared attributes;
+//! and the faults of the directives that declare it.
 #![tactic(auto)]
 
 mod attr_decls;

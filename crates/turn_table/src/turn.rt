@@ -112,8 +112,8 @@ fn draw<O: Object>(table: &TurnTable<O>, seat: &mut TurnSeat<O>) -> u64
     table.shared.fetch_add::<Draw<O>>(seat, TICKET, 1)
 }
 
-// Looks at the ticket that is served until it is this one. Since the passes come one after the other through the door of the
-// turns, the first look finds it; no proof rests on that.
+// Looks at the ticket that is served until it is this one. Since the passes come one after the
+// other through the door of the turns, the first look finds it; no proof rests on that.
 fn await_turn<O: Object, R: Wait>(rt: &R, table: &TurnTable<O>, seat: &mut TurnSeat<O>, ticket: u64)
     requires table { IsSeatOf table.now.shared.table_id seat.old.table_id }
     requires ticket { (t : ℕ) × (ticket ≡ t % 2 ^ 64) × (seat.old.me.0.ticket ≡ Some t) }

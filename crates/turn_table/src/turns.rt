@@ -15,8 +15,8 @@ use std::alloc::{AllocError, Global};
 use std::marker::Model;
 use std::sync::{Mutex, Wait};
 
-/// An object on which passes take turns. Contracts see which turns they are, how many passes they have, and the opening of
-/// the object.
+/// An object on which passes take turns. Contracts see which turns they are, how many passes they
+/// have, and the opening of the object.
 #[derive(Drop)]
 pub struct Turns<O: Object> {
     table: TurnTable<O>,
@@ -37,8 +37,8 @@ impl<O: Object> Model for Turns<O> {
 }
 
 impl<O: Object> Turns<O> {
-    /// Starts turns on an object for 1 to 64 passes, each of which has seen the object's whole history. Where there is no
-    /// memory the object is dropped.
+    /// Starts turns on an object for 1 to 64 passes, each of which has seen the object's whole
+    /// history. Where there is no memory the object is dropped.
     pub fn start(alloc: Global, object: O, passes: u8) -> Result<(Turns<O>, Passes<O>), AllocError>
         requires some { 1 ≤ passes }
         requires few { passes ≤ 64 }
@@ -88,7 +88,8 @@ impl<O: Object> Turns<O> {
         turn::act(rt, &self.table, &mut pass.seat, pass.number, op)
     }
 
-    /// The length of a front of the history that holds all that the pass had seen, and that it has then seen. It takes no turn.
+    /// The length of a front of the history that holds all that the pass had seen, and that it has
+    /// then seen. It takes no turn.
     pub fn latest(&self, pass: &mut Pass<O>) -> u64
         requires { IsPassOf self.now pass.old }
         ensures same { pass.new ≡ record pass.old { seen = pass.new.seen } }

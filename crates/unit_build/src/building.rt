@@ -23,7 +23,8 @@ use unit_source::Root;
 
 const XML: &[u8] = b".jspx";
 
-/// The unit of the page at a path. `steps` counts the bytes of the dependencies that are there, each once.
+/// The unit of the page at a path. `steps` counts the bytes of the dependencies that are there,
+/// each once.
 #[tactic(auto, using(crate::proofs::BuildingLemmas::names_needed))]
 pub fn build<L: Ledger>(
     alloc: Global,

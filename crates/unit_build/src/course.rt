@@ -16,7 +16,8 @@ use std::mem::replace;
 use tag_decl::DeclaredBefore;
 use unit_source::Root;
 
-/// A page or a tag file that is being read, what stood before in it, and of that the directives of the file itself.
+/// A page or a tag file that is being read, what stood before in it, and of that the directives of
+/// the file itself.
 #[derive(Drop)]
 pub(crate) struct Course<'r> {
     pub root: Decided<'r>,

@@ -2,7 +2,8 @@ ghost use Rattle.std.specs.Prelude.{◌≡◌, ◌&&◌, map};
 ghost use Rattle.el_reader.specs.El.{pair_of, tree_of};
 ghost use Rattle.el_reader.specs.Tree.{trees_of, pairs_of};
 ghost use Rattle.unit_build.specs.Kinds.{is_function_prefix};
-ghost use Rattle.unit_build.specs.Values.{are_all_functions, are_functions, are_pairs_functions, how_many, is_function, takes_as_many};
+ghost use Rattle.unit_build.specs.Values.{are_all_functions, are_functions, are_pairs_functions};
+ghost use Rattle.unit_build.specs.Values.{how_many, is_function, takes_as_many};
 
 use el_reader::El;
 use page_directives::{Before, Target};
@@ -35,8 +36,8 @@ fn is_function(before: &Before, prefix: &str, name: &str, count: usize) -> bool
     is_function_prefix(before, prefix) && takes_as_many(count, Function::of_name(name))
 }
 
-// Whether all calls in an expression are of functions of the library. It goes down the left sides in a loop: a long sum is as deep
-// as it is long.
+// Whether all calls in an expression are of functions of the library. It goes down the left sides
+// in a loop: a long sum is as deep as it is long.
 #[cycle(functions)]
 #[tactic(auto, using(el_reader::proofs::Rows::rows))]
 pub(crate) fn are_functions(before: &Before, el: &El) -> bool

@@ -23,8 +23,8 @@ pub(crate) enum Around<'n> {
     Two(Host<'n>, Host<'n>),
 }
 
-/// What stands around a node: elements; the row of the innermost, where that takes parts; and how many there are, counted up to one
-/// more than there may be.
+/// What stands around a node: elements; the row of the innermost, where that takes parts; and how
+/// many there are, counted up to one more than there may be.
 #[derive(Clone, Copy)]
 pub(crate) struct Here<'n> {
     pub around: Around<'n>,

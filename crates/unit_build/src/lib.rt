@@ -1,5 +1,5 @@
-//! The unit of a page: the page with its includes in place, its settings, its tag files and its beans, or the first of its faults in
-//! reading order; and the files on which it depends.
+//! The unit of a page: the page with its includes in place, its settings, its tag files and its
+//! beans, or the first of its faults in reading order; and the files on which it depends.
 #![tactic(auto)]
 
 mod beans;

@@ -6,7 +6,8 @@ use page_directives::{Before, Directive, Target};
 use std::alloc::{AllocError, Global};
 use std::marker::Model;
 
-/// The directives of both readings of a page or tag file, with what each prefix stands for. Contracts see the list of them.
+/// The directives of both readings of a page or tag file, with what each prefix stands for.
+/// Contracts see the list of them.
 #[derive(Drop)]
 pub(crate) struct Registered<'r> {
     all: Before<'r>,

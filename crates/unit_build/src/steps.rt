@@ -1,6 +1,7 @@
 ghost use Rattle.std.specs.Prelude.{◌≡◌, ◌++◌, map, IfOk, OnOk};
 ghost use Rattle.jstl_tags.specs.Elements.{opened_of};
-ghost use Rattle.unit_source.specs.InPlace.{done, element as element_placed, included as include_placed};
+ghost use Rattle.unit_source.specs.InPlace.{done, element as element_placed};
+ghost use Rattle.unit_source.specs.InPlace.{included as include_placed};
 ghost use Rattle.unit_source.specs.Placed.{in_place, node_in_place};
 ghost use Rattle.unit_build.specs.Elements.{outermost};
 ghost use Rattle.unit_build.specs.Made.{here_made};
@@ -40,7 +41,8 @@ pub(crate) enum Step<'r> {
     End,
 }
 
-/// The steps of nodes in place, in reading order. `directives` are those of both readings of the page or tag file.
+/// The steps of nodes in place, in reading order. `directives` are those of both readings of the
+/// page or tag file.
 pub(crate) fn steps_of<'r>(
     alloc: Global,
     directives: &Registered,
@@ -102,7 +104,8 @@ fn push_node<'r>(
     }
 }
 
-// Adds the beginning of an element, and the steps of its body; the answer is what stands around the node behind it.
+// Adds the beginning of an element, and the steps of its body; the answer is what stands around the
+// node behind it.
 #[cycle(steps)]
 fn push_element<'r>(
     alloc: Global,

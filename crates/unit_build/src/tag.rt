@@ -85,7 +85,8 @@ pub(crate) fn own_directives<'r>(
     standing_in(alloc, &root.path, first_directives(alloc, root)?)
 }
 
-// The directives of the second reading that stand in a tag file itself: by them it is judged whether what it declares is good.
+// The directives of the second reading that stand in a tag file itself: by them it is judged
+// whether what it declares is good.
 fn judged_directives<'r>(alloc: Global, root: &'r Root) -> Result<Vec<Directive<'r>>, AllocError>
     ensures { IfOk result (λ own. own.items ≡ judged_directives (root_view root.now)) }
 {

@@ -7,7 +7,8 @@ ghost use Rattle.unit_source.specs.Placed.{in_place, root_view};
 ghost use Rattle.unit_build.specs.Made.{here_made, kind_made};
 ghost use Rattle.unit_build.specs.MadeSteps.{step_made};
 ghost use Rattle.unit_build.specs.ReadFound.{IsRead, state_in};
-ghost use Rattle.unit_build.specs.ReadSteps.{left_out, left_out_still, start_step, step_met, steps_met};
+ghost use Rattle.unit_build.specs.ReadSteps.{left_out, left_out_still, start_step, step_met};
+ghost use Rattle.unit_build.specs.ReadSteps.{steps_met};
 ghost use Rattle.unit_build.specs.ReadWalk.{IsOwn, IsPageMet};
 ghost use Rattle.unit_build.specs.Walk.{met_within};
 
@@ -140,7 +141,8 @@ fn read_root(alloc: Global, root: &Root, deep: usize, found: &mut Found) -> Resu
     take_steps(alloc, &mut course, &steps, deep - 1, found)
 }
 
-/// Reads a page, and the tag files and the beans that it uses. It goes no deeper than 257 tag files that call each other.
+/// Reads a page, and the tag files and the beans that it uses. It goes no deeper than 257 tag files
+/// that call each other.
 pub(crate) fn read_page<'t>(
     alloc: Global,
     site: Site<'t>,

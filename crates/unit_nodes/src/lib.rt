@@ -1,4 +1,5 @@
-//! The unit of a page as its readers and writers share it: nodes, tag files and beans, or a fault, and the files on which it depends.
+//! The unit of a page as its readers and writers share it: nodes, tag files and beans, or a fault,
+//! and the files on which it depends.
 #![tactic(auto)]
 
 mod jsp_name;

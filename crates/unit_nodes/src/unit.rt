@@ -84,7 +84,8 @@ pub enum UnitBody {
     Bad(PageFault),
 }
 
-/// The unit of a page: the page or its fault, and the names of the files on which that depends, absent ones too, each with its stamp.
+/// The unit of a page: the page or its fault, and the names of the files on which that depends,
+/// absent ones too, each with its stamp.
 #[derive(Drop)]
 pub struct Unit {
     pub deps: Stamps,

@@ -12,7 +12,8 @@ use page_pieces::{Brought, BroughtPrefixes};
 use pg_text::{Listed, Path};
 use std::alloc::AllocError;
 
-// What an include directive brings behind so much: the first readings of its file, and of what that includes.
+// What an include directive brings behind so much: the first readings of its file, and of what that
+// includes.
 fn brought_first(
     files: &mut UnitFiles,
     chain: &[Path],
@@ -37,8 +38,8 @@ pub(crate) fn push_names(names: &mut Listed<Path>, more: &[Path]) -> Result<(), 
     Ok(())
 }
 
-// The prefixes that the include directives of a file bring, whose chain, bytes and own directives these are. The names of the files
-// that are read for it are added.
+// The prefixes that the include directives of a file bring, whose chain, bytes and own directives
+// these are. The names of the files that are read for it are added.
 pub(crate) fn read_brought(
     files: &mut UnitFiles,
     chain: &[Path],

@@ -9,7 +9,7 @@ pub enum Entry {
     Cycle,
     /// The file that it names has so many bytes, and is read.
     Entered(usize),
-    /// The file that it names has so many bytes, and isn't read: it stands in too many elements, or behind a limit of files or
-    /// bytes.
+    /// The file that it names has so many bytes, and isn't read: it stands in too many elements, or
+    /// behind a limit of files or bytes.
     Unread(usize),
 }

@@ -55,8 +55,9 @@ impl<'a> UnitFiles<'a> {
         self.alloc
     }
 
-    /// The page or the tag file at a path, where a file stands there, read twice. Reading goes no deeper than a chain of 256 files,
-    /// each with at most 128 levels of elements; in the nodes at most 64 elements stand around an include whose file is read.
+    /// The page or the tag file at a path, where a file stands there, read twice. Reading goes no
+    /// deeper than a chain of 256 files, each with at most 128 levels of elements; in the nodes at
+    /// most 64 elements stand around an include whose file is read.
     pub fn read_root(&mut self, path: &Path, in_tag: bool) -> Result<Option<Root>, AllocError>
         ensures root { IfOk result (λ root. option_map root_view root ≡ root_at (text_in self.old) in_tag path.now) }
         ensures files { self.new ≡ self.old }

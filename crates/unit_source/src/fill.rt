@@ -11,7 +11,8 @@ use crate::whole::known;
 use std::alloc::{AllocError, Global};
 use std::collections::VecDeque;
 
-// The nodes with what was found at their include directives, which is taken from the front of the queue.
+// The nodes with what was found at their include directives, which is taken from the front of the
+// queue.
 #[cycle(filling)]
 #[tactic(auto, using(crate::proofs::FillLemmas::next_filled, crate::proofs::PlacedLemmas::followed_done))]
 pub(crate) fn fill_nodes(

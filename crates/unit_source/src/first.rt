@@ -1,6 +1,7 @@
 ghost use Rattle.std.specs.Prelude.{◌≡◌, ◌++◌, [], OnOk, IfOk};
 ghost use Rattle.unit_source.specs.Files.{text_in};
-ghost use Rattle.unit_source.specs.First.{first_all, first_file, first_within, included_path, none_read};
+ghost use Rattle.unit_source.specs.First.{first_all, first_file, first_within, included_path};
+ghost use Rattle.unit_source.specs.First.{none_read};
 ghost use Rattle.unit_source.specs.ReadFirst.{and_name, and_part, told, told_behind};
 ghost use Rattle.unit_source.specs.ReadParts.{in_part, in_parts};
 
@@ -18,8 +19,8 @@ use std::marker::Model;
 // The most files of a chain of includes.
 pub(crate) const MAX_CHAIN: usize = 257;
 
-// First readings: directives in reading order, the prefixes that they register, the names of the files that they include, and what
-// was read.
+// First readings: directives in reading order, the prefixes that they register, the names of the
+// files that they include, and what was read.
 #[derive(Drop)]
 pub(crate) struct First {
     directives: Listed<WrittenDirective>,
@@ -110,7 +111,8 @@ fn push_directives(directives: &mut Listed<WrittenDirective>, part: &Part) -> Re
     Ok(())
 }
 
-// Adds the first readings of a file and of what it includes, within the files of the chain, so many deep at most.
+// Adds the first readings of a file and of what it includes, within the files of the chain, so many
+// deep at most.
 #[cycle(first)]
 #[tactic(auto, using(crate::proofs::FirstLemmas::first_step, crate::proofs::FirstLemmas::first_end))]
 pub(crate) fn read_first(
@@ -131,7 +133,8 @@ pub(crate) fn read_first(
     read_parts(files, longer.as_slice(), deep - 1, file.parts(), found)
 }
 
-// Adds parts of the chain's first file, and behind each the first readings of the file that it includes.
+// Adds parts of the chain's first file, and behind each the first readings of the file that it
+// includes.
 #[cycle(first)]
 fn read_parts(
     files: &mut UnitFiles,
@@ -151,7 +154,8 @@ fn read_parts(
     Ok(())
 }
 
-// Adds a part of the chain's first file, and behind it the first readings of the file that it includes.
+// Adds a part of the chain's first file, and behind it the first readings of the file that it
+// includes.
 #[cycle(first)]
 #[tactic(auto, using(crate::proofs::FirstLemmas::part_followed, crate::proofs::FirstLemmas::part_ended))]
 fn read_part(
@@ -173,7 +177,8 @@ fn read_part(
     }
 }
 
-// Adds the first readings of the file that a directive of the chain's first file includes, where it includes one.
+// Adds the first readings of the file that a directive of the chain's first file includes, where it
+// includes one.
 #[cycle(first)]
 #[tactic(auto, using(crate::proofs::FirstLemmas::behind_none, crate::proofs::FirstLemmas::behind_name))]
 pub(crate) fn read_included(

@@ -1,4 +1,5 @@
-//! The files of a page's unit: a page or a tag file of a tree, read twice, with its static includes in place.
+//! The files of a page's unit: a page or a tag file of a tree, read twice, with its static includes
+//! in place.
 #![tactic(auto)]
 
 mod brought;

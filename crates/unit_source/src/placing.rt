@@ -2,8 +2,10 @@ ghost use Rattle.std.specs.Prelude.{◌≡◌, ◌∷◌, [], IfOk, OnOk};
 ghost use Rattle.std.specs.List.{list_all};
 ghost use Rattle.page_pieces.specs.Names.{is_white};
 ghost use Rattle.page_pieces.specs.declared.piece.Leaf.TheVariants as leaves;
-ghost use Rattle.page_reader.specs.Trees.{done as nothing, leaf as tree_leaf, page_of, tree_of, trees_of};
-ghost use Rattle.unit_source.specs.InPlace.{broken, done, element, followed, is_open, leaf_placed, placed, trimmed, with_fault, with_stop};
+ghost use Rattle.page_reader.specs.Trees.{done as nothing, leaf as tree_leaf, page_of, tree_of};
+ghost use Rattle.page_reader.specs.Trees.{trees_of};
+ghost use Rattle.unit_source.specs.InPlace.{broken, done, element, followed, is_open, leaf_placed};
+ghost use Rattle.unit_source.specs.InPlace.{placed, trimmed, with_fault, with_stop};
 ghost use Rattle.unit_source.specs.Placed.{head_of, in_place, node_in_place};
 ghost use Rattle.unit_source.specs.ReadPlacing.{blanked, is_one_leaf};
 
@@ -14,7 +16,8 @@ use page_reader::{Closing, Element, Node, PageTree};
 use pg_text::{PageFault, Place, Text};
 use std::alloc::{AllocError, Global};
 
-// The nodes of a file in place, before its include directives are read, the break of its reading among them.
+// The nodes of a file in place, before its include directives are read, the break of its reading
+// among them.
 pub(crate) fn file_nodes(
     alloc: Global,
     tree: PageTree,

@@ -18,8 +18,8 @@ use std::marker::Model;
 /// The most elements in which an element of a unit stands.
 pub const MAX_NESTING: usize = 64;
 
-// How the second reading of a page or a tag file goes on: the names of the files that were included so far, the prefixes that
-// are registered, and the files and bytes that were read.
+// How the second reading of a page or a tag file goes on: the names of the files that were included
+// so far, the prefixes that are registered, and the files and bytes that were read.
 #[derive(Drop)]
 pub(crate) struct Progress {
     names: Listed<Path>,

@@ -21,8 +21,8 @@ use pg_text::{Listed, Path};
 use pg_value::PageSettings;
 use std::alloc::{AllocError, Global};
 
-/// A page or a tag file, read twice. The first reading takes each file by itself and decides the settings, under which the second
-/// puts the static includes in place.
+/// A page or a tag file, read twice. The first reading takes each file by itself and decides the
+/// settings, under which the second puts the static includes in place.
 #[derive(Drop)]
 pub struct Root {
     pub path: Path,
@@ -34,7 +34,8 @@ pub struct Root {
     pub first: Listed<WrittenDirective>,
     pub settings: PageSettings,
     pub nodes: Vec<PlacedNode>,
-    /// The names of the files that either reading includes, each as often as it is named, absent ones too.
+    /// The names of the files that either reading includes, each as often as it is named, absent
+    /// ones too.
     pub names: Listed<Path>,
 }
 

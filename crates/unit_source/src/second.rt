@@ -42,7 +42,8 @@ fn page_under(
     read_under(alloc, path, text, setting)
 }
 
-// Reads a file by itself under settings and behind the prefixes that are registered; the chain begins with it.
+// Reads a file by itself under settings and behind the prefixes that are registered; the chain
+// begins with it.
 pub(crate) fn read_alone(
     files: &mut UnitFiles,
     settings: &PageSettings,

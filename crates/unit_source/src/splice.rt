@@ -1,9 +1,11 @@
 ghost use Rattle.std.specs.Prelude.{◌≡◌, ◌≤◌, ◌∷◌, [], true, Some, length, map, IfOk, OnOk};
 ghost use Rattle.unit_source.specs.Files.{text_in};
 ghost use Rattle.unit_source.specs.Placed.{in_place};
-ghost use Rattle.unit_source.specs.ReadSplice.{behind_file, behind_inner, found_of, reads, step_of, taken_of, with_more};
+ghost use Rattle.unit_source.specs.ReadSplice.{behind_file, behind_inner, found_of, reads, step_of};
+ghost use Rattle.unit_source.specs.ReadSplice.{taken_of, with_more};
 ghost use Rattle.unit_source.specs.ReadSteps.{both_taken, found_in, taken};
-ghost use Rattle.unit_source.specs.Splice.{file_nodes, nodes_read, room_read, spliced_within, target_read, text_read};
+ghost use Rattle.unit_source.specs.Splice.{file_nodes, nodes_read, room_read, spliced_within};
+ghost use Rattle.unit_source.specs.Splice.{target_read, text_read};
 
 use crate::chain::{chain_with, contains, included_path};
 use crate::files::UnitFiles;
@@ -20,8 +22,8 @@ use pg_value::PageSettings;
 use std::alloc::{AllocError, Global};
 use std::collections::VecDeque;
 
-// A file that is read: under what settings, within which files, with what its include directives bring, and how many files deep
-// reading may still go.
+// A file that is read: under what settings, within which files, with what its include directives
+// bring, and how many files deep reading may still go.
 #[derive(Drop)]
 pub(crate) struct InFile<'f> {
     settings: &'f PageSettings,
@@ -30,7 +32,8 @@ pub(crate) struct InFile<'f> {
     deep: usize,
 }
 
-// Reads a file with its includes in place, within the files of the chain and so many open elements, so many files deep at most.
+// Reads a file with its includes in place, within the files of the chain and so many open elements,
+// so many files deep at most.
 #[cycle(splicing)]
 #[tactic(auto, using(crate::proofs::SpliceLemmas::file_end_nodes, crate::proofs::SpliceLemmas::file_end_gone))]
 pub(crate) fn read_file(
