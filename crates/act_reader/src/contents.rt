@@ -11,7 +11,8 @@ use page_acts::{Act, ActAttribute, ActBranch, ActParam};
 use pg_text::Text;
 use std::alloc::{AllocError, Global};
 
-/// What stands in an action: its acts, and those of its children that are params and branches.
+/// The content of an action, in three lists: the acts of its body, its params, and its branches
+/// (`c:when`, `c:otherwise`).
 #[derive(Drop)]
 pub(crate) struct Content<'u> {
     pub acts: Vec<Act<'u>>,

@@ -54,7 +54,9 @@ impl Handed {
         }
     }
 
-    /// One fragment more, by its code with its end.
+    /// Adds a fragment: its name, and its code with its end, behind the cells that are there.
+    /// Where memory runs out the name may stand without its code, or the code in part, so all of
+    /// it is to be let go.
     pub fn add_fragment(&mut self, name: Text, code: Code) -> Result<(), AllocError>
         ensures { OnOk result (self.new ≡ record {
           body = self.old.body;

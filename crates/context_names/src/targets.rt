@@ -3,7 +3,8 @@ ghost use Rattle.std.specs.List.{position};
 ghost use Rattle.std.specs.Option.{option_map};
 ghost use Rattle.context_names.specs.Targets.{is_slash, named};
 
-/// What stands between the first slash of a target and the second, and where the second stands.
+/// The bytes between the first and the second slash of a target, and the index of the second. None
+/// where there are no two.
 pub(crate) fn named(target: &[u8]) -> Option<(&[u8], usize)>
     ensures found { option_map (λ found. (found.0.now, found.1)) result ≡ named target.entry.now }
     ensures slash { IfSome result (λ found. (found.1 < length target.entry.now)

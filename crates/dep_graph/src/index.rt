@@ -145,8 +145,8 @@ fn order(user: &Path, path: &Path) -> Ordering
     user.as_bytes().cmp(path.as_bytes())
 }
 
-// None of the paths needs anything: all names are gone over. Those that nothing else needs are
-// dropped.
+// Takes these paths out of the users of every name, and drops the names that no path uses any
+// more. Goes over the whole index; takes no memory.
 pub(crate) fn remove_users(index: &mut Vec<Named>, paths: &Names)
     ensures { index.new.items ≡ unindexed paths.now index.old.items }
 {

@@ -6,7 +6,8 @@ use source_tree::{Edit, Edits};
 use std::alloc::{AllocError, Global};
 use std::marker::Model;
 
-/// The edits of a connection that wait to be published. Contracts see the list of them.
+/// The edits of a connection that wait to be published. In contracts a draft is the list of its
+/// edits.
 #[derive(Drop)]
 pub struct Draft {
     edits: Edits,

@@ -14,8 +14,10 @@ use site_words::{Acted, Entry, Op, Reply};
 use std::alloc::{AllocError, Global};
 use word_equality::Same;
 
-/// Does an entry again that is no Roll, and says whether it may come and the site's reply is the
-/// entry's.
+/// Does an entry of a journal once more on the site; a Roll isn't done. True exactly where it may
+/// come at this place and the site gives the reply that is written: then the site has it as its
+/// last entry. Where it is false, or memory ran out, the site may have done something else, and is
+/// to be let go.
 pub(crate) fn do_entry(
     alloc: Global,
     site: &mut Site<Made>,

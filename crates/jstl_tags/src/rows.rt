@@ -30,7 +30,7 @@ pub enum Stands {
     Anywhere,
     /// As a param of the core library.
     CoreParam,
-    /// As a param of the standard actions.
+    /// Where `jsp:param` may stand: in a standard action that takes params.
     StandardParam,
     /// As a branch of a choice.
     Branch,

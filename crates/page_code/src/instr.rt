@@ -16,9 +16,9 @@ pub enum Instr {
     /// Pushes what was kept as a text.
     TakeBody,
     Jump(usize),
-    /// Takes a truth value, and jumps where it is this one.
+    /// Pops a truth value, and jumps over so many cells if it is equal to this one.
     JumpIf(bool, usize),
-    /// Jumps where null is on top, which it then takes.
+    /// Jumps over so many cells if null is on top, which it then pops.
     JumpNull(usize),
     /// Jumps where the variable stands; else it is set to the bean.
     Ensure {

@@ -4,9 +4,9 @@ ghost use Rattle.page_table.specs.Laws.{EachRunEnds, NeverStuck, OneEnd, RunsGro
 ghost use Rattle.page_table.specs.Laws.{RunsLeaveFrames, TurnsComeNearer, TurnsLeaveFrames};
 ghost use Rattle.page_table.specs.Laws.{TurnsStand};
 
-/// A run has one end, only adds to the steps asked, behind all that was committed, and to the
-/// pieces committed, starts no session behind a commit, and takes no frame back that stood before
-/// it.
+/// A run has one end. It only adds to the steps asked, each after what was committed by then, and
+/// to the pieces committed; it starts no session after a commit, and takes away no frame that
+/// stood before it.
 pub fn runs()
     ensures one { OneEnd }
     ensures grow { RunsGrow }

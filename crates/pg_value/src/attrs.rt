@@ -121,8 +121,8 @@ impl Attrs {
         put(&mut self.entries, key, value)
     }
 
-    /// Puts the value under the key, in the place of what stood there. The key is copied only where
-    /// nothing did.
+    /// Puts the value under the key, in the place of what stood there. The key is copied only if
+    /// it wasn't there: an entry that is there keeps its own.
     pub fn set(&mut self, key: &Text, value: Value) -> Result<(), AllocError>
         ensures ok { OnOk result (self.new ≡ with_entry self.old key.now (datum_of value)) }
         ensures err { OnErr result (self.new ≡ self.old) }

@@ -28,8 +28,8 @@ pub struct Course {
     pub around: Around,
 }
 
-/// How a page is answered: with this status, on a connection that closes behind it or doesn't, and
-/// with its body or, as to HEAD, without.
+/// How a page is answered: its status, whether the connection closes after the response, and
+/// whether the body is sent, which it isn't to HEAD.
 #[derive(Clone, Copy, Debug, PartialEq, Eq)]
 pub struct Way {
     pub status: Status,

@@ -77,7 +77,7 @@ impl Stack {
         self.values.last()
     }
 
-    /// Takes so many of the topmost values away.
+    /// Drops the topmost `count` values.
     pub fn drop_top(&mut self, count: usize)
         requires { count ≤ length self.old }
         ensures { self.new ≡ drop count self.old }

@@ -5,7 +5,7 @@ ghost use Rattle.pg_value.specs.Value.{datum_of};
 
 use pg_value::Value;
 
-/// The text of a value, which is empty where it isn't one.
+/// The text, where the value is one; the empty text for any other value.
 pub fn text_of(value: &Value) -> &str
     ensures { result.now ≡ text_in (Some (datum_of value.now)) }
 {

@@ -26,7 +26,7 @@ pub(crate) fn expression_faults(
     }
 }
 
-// The faults of a part of a value.
+// The faults of one part of an attribute's value: none of a text, those of its expression, or E16.
 fn part_fault(alloc: Global, before: &Before, part: &Part) -> Result<Faults, AllocError>
     ensures { IfOk result (λ faults. faults ≡ in_order
         (part_faults (is_function_prefix before.now.directives) (part.now ∷ []))) }

@@ -16,7 +16,7 @@ use pg_text::{Listed, Path};
 use std::alloc::{AllocError, Global};
 use std::marker::Model;
 
-// The most files of a chain of includes.
+// How deep the readings go: one more than the most files of a unit (`MAX_UNIT_FILES`).
 pub(crate) const MAX_CHAIN: usize = 257;
 
 // First readings: directives in reading order, the prefixes that they register, the names of the
@@ -111,8 +111,10 @@ fn push_directives(directives: &mut Listed<WrittenDirective>, part: &Part) -> Re
     Ok(())
 }
 
-// Adds the first readings of a file and of what it includes, within the files of the chain, so many
-// deep at most.
+// Adds to `found` the first reading of a file and, behind each include directive, those of the
+// file that it includes. `chain` has the files that are being read around this one, the innermost
+// first: none of them is entered again. `deep` is how many files deeper it may go. Where memory
+// runs out `found` has a part.
 #[cycle(first)]
 #[tactic(auto, using(crate::proofs::FirstLemmas::first_step, crate::proofs::FirstLemmas::first_end))]
 pub(crate) fn read_first(
