@@ -12,7 +12,7 @@ use Rattle.page_code.specs.Shapes.{cell, keeping, looping, up}
 use Rattle.page_code.specs.declared.code.Cell.{Cell}
 use Rattle.page_code.specs.declared.instr.Instr.TheVariants as instr
 use Rattle.page_code.specs.declared.op.Op.TheVariants as op
-use Rattle.page_code.specs.declared.operands.Over.{Over}
+use Rattle.page_code.specs.declared.operands.LoopKind.{LoopKind}
 use Rattle.page_code.specs.declared.operands.Over.TheVariants as over
 use Rattle.page_code.specs.declared.operands.PropertyMode.TheVariants as mode
 use Rattle.page_code.specs.declared.shape.Shape.{Shape}
@@ -74,8 +74,8 @@ abbrev pub if_by : Shape → Place → Option Variable → (names : List (List �
 if_by sh place x names body = tested_by sh place names (form_code sh (sets_given place x (truth true)) ++ body) (form_code sh (sets_given place x (truth false)))
 
 -- a loop
-abbrev pub each_by : Shape → Place → Over → (variable status : Option (List ℕ)) → (names : List (List ℕ)) → (body : List Cell) → List Cell
-each_by sh place o variable status names body = cell (up (length names) sh) place (instr.LoopStart (loop_kind o names variable status)) ∷ rounds_code sh place body
+abbrev pub each_by : Shape → Place → LoopKind → (body : List Cell) → List Cell
+each_by sh place kind body = cell (up (length kind.names) sh) place (instr.LoopStart kind) ∷ rounds_code sh place body
 
 -- the code of the action
 abbrev pub enclosing_code : Enclosing → Shape → Place → (names : List (List ℕ)) → (body : List Cell) → List Cell
@@ -83,5 +83,5 @@ enclosing_code action.Out sh place names body = out_by sh place names body
 enclosing_code (action.Set x) sh place names body = set_by sh place (variable_of x.now) names body
 enclosing_code (action.SetEntry target) sh place names body = entry_by sh place target.now names body
 enclosing_code (action.If x) sh place names body = if_by sh place (option_map variable_of x.now) names body
-enclosing_code (action.ForEach x status) sh place names body = each_by sh place over.Items x.now status.now names body
-enclosing_code (action.ForTokens x status) sh place names body = each_by sh place over.Tokens x.now status.now names body
+enclosing_code (action.ForEach x status) sh place names body = each_by sh place (loop_kind over.Items names x.now status.now) body
+enclosing_code (action.ForTokens x status) sh place names body = each_by sh place (loop_kind over.Tokens names x.now status.now) body

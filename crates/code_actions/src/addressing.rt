@@ -34,6 +34,14 @@ pub enum Addressing<'a> {
     Forward,
 }
 
+/// The params of an address: how many they are, and their code, which has one value more below it
+/// than the action.
+#[derive(Drop)]
+pub struct Params {
+    pub count: usize,
+    pub code: Code,
+}
+
 impl<'a> Addressing<'a> {
     /// What becomes of the attributes.
     pub fn evaluations(&self) -> Evaluations<'static>
@@ -48,20 +56,20 @@ impl<'a> Addressing<'a> {
         }
     }
 
-    /// The code of the action behind the values of its attributes, which have these names, from the
-    /// code of its params: there are so many, and their code has one value more below it.
+    /// The code of the action behind the values of its attributes, which have these names.
     pub fn code(
         &self,
         alloc: Global,
         ground: &Shape,
         place: &Place,
         names: &Listed<Text>,
-        count: usize,
-        params: Code,
+        params: Params,
     ) -> Result<Code, AllocError>
-        ensures { IfOk result (λ code. code ≡ addressing_code self.now ground.now place.now names.now count params) }
+        ensures { IfOk result (λ code. code
+            ≡ addressing_code self.now ground.now place.now names.now params.count params.code) }
     {
-        let mut code = self.address(alloc, ground, place, names, count, params)?;
+        let count = params.count;
+        let mut code = self.address(alloc, ground, place, names, params)?;
         code.join(self.behind(alloc, ground, place, count)?)?;
         Ok(code)
     }
@@ -73,17 +81,17 @@ impl<'a> Addressing<'a> {
         ground: &Shape,
         place: &Place,
         names: &Listed<Text>,
-        count: usize,
-        params: Code,
+        params: Params,
     ) -> Result<Code, AllocError>
-        ensures { IfOk result (λ code. code ≡ address_code self.now ground.now place.now names.now count params) }
+        ensures { IfOk result (λ code. code
+            ≡ address_code self.now ground.now place.now names.now params.count params.code) }
     {
         match self {
-            Addressing::Import(_) => url(alloc, ground, place, "url", names, count, params),
-            Addressing::Url(_) => url(alloc, ground, place, "value", names, count, params),
-            Addressing::Redirect => url(alloc, ground, place, "url", names, count, params),
-            Addressing::Include(_) => page(alloc, ground, place, names, params),
-            Addressing::Forward => page(alloc, ground, place, names, params),
+            Addressing::Import(_) => url(alloc, ground, place, "url", names, params),
+            Addressing::Url(_) => url(alloc, ground, place, "value", names, params),
+            Addressing::Redirect => url(alloc, ground, place, "url", names, params),
+            Addressing::Include(_) => page(alloc, ground, place, names, params.code),
+            Addressing::Forward => page(alloc, ground, place, names, params.code),
         }
     }
 
@@ -107,22 +115,21 @@ impl<'a> Addressing<'a> {
     }
 }
 
-// The code of the url of a tag, behind the values of its attributes: its address with so many
-// params, whose code has one value more below it.
+// The code of the url of a tag, behind the values of its attributes: its address with params.
 fn url(
     alloc: Global,
     ground: &Shape,
     place: &Place,
     address: &str,
     names: &Listed<Text>,
-    count: usize,
-    params: Code,
+    params: Params,
 ) -> Result<Code, AllocError>
-    ensures { IfOk result (λ code. code ≡ url_code ground.now place.now address.now names.now count params) }
+    ensures { IfOk result (λ code. code
+        ≡ url_code ground.now place.now address.now names.now params.count params.code) }
 {
     let mut code = arranged(alloc, ground, place, &[address], names)?;
-    code.join(params)?;
-    code.join(operation(alloc, ground, place, Op::Url(count))?)?;
+    code.join(params.code)?;
+    code.join(operation(alloc, ground, place, Op::Url(params.count))?)?;
     Ok(code)
 }
 

@@ -19,10 +19,18 @@ use crate::variables::{name_of, scoped};
 use code_expressions::{coercion, constant};
 use code_forms::{arranged, ensured, operation};
 use page_acts::Property;
-use page_code::{Bean, Code, Coercion, Name, Op, PropertyMode, Shape};
+use page_code::{Bean, Code, Coercion, Op, PropertyMode, Shape};
 use pg_text::{Listed, Place, Text};
 use pg_value::{Attrs, Scope, Value};
 use std::alloc::{AllocError, Global};
+
+/// `jsp:useBean`, apart from its body.
+#[derive(Clone, Copy)]
+pub struct UseBean<'a> {
+    pub name: &'a Text,
+    pub scope: Scope,
+    pub class: &'a Text,
+}
 
 /// The code of `jsp:useBean` among these beans. The part runs where the bean was made.
 pub fn use_bean(
@@ -30,16 +38,16 @@ pub fn use_bean(
     ground: &Shape,
     place: &Place,
     beans: &Attrs,
-    name: &Text,
-    scope: Scope,
-    class: &Text,
+    action: &UseBean,
     part: Code,
 ) -> Result<Code, AllocError>
-    ensures { IfOk result (λ code. code ≡ cell ground.now place.now (instr.Ensure (scoped scope name.now)
-        (value_of (or_null (entry_at class.now beans.now))) (length part)) ∷ part) }
+    ensures { IfOk result (λ code. code ≡ cell ground.now place.now
+        (instr.Ensure (scoped action.now.scope action.now.name.now)
+        (value_of (or_null (entry_at action.now.class.now beans.now))) (length part)) ∷ part) }
 {
-    let bean = bean_of(beans, class.as_str())?;
-    ensured(alloc, ground, place, scoped(scope, name)?, bean, part)
+    let bean = bean_of(beans, action.class.as_str())?;
+    let variable = scoped(action.scope, action.name)?;
+    ensured(alloc, ground, place, variable, bean, part)
 }
 
 // The bean of a class. Memory is wanting where it is over the limits of a value, as no bean that
@@ -78,70 +86,71 @@ pub fn get_property(
     Ok(code)
 }
 
-/// The code of `jsp:setProperty`, behind the values of its attributes. The faults of its value
-/// stand at a place of their own.
+/// `jsp:setProperty`, apart from its attributes. The faults of its value stand at a place of their
+/// own.
+#[derive(Clone, Copy)]
+pub struct SetProperty<'a> {
+    pub name: &'a Text,
+    pub property: &'a Property,
+    pub value_place: &'a Place,
+}
+
+/// The code of `jsp:setProperty`, behind the values of its attributes.
 pub fn set_property(
     alloc: Global,
     ground: &Shape,
     place: &Place,
-    name: &Text,
-    property: &Property,
-    value_place: &Place,
+    action: &SetProperty,
     names: &Listed<Text>,
 ) -> Result<Code, AllocError>
     ensures { IfOk result (λ code. code ≡ form_code ground.now
-        (property_form place.now name.now (property_of property.now) value_place.now
-        (has (codes "value") names.now) names.now)) }
+        (property_form place.now action.now.name.now (property_of action.now.property.now)
+        action.now.value_place.now (has (codes "value") names.now) names.now)) }
 {
-    let name = name_of(name)?;
-    match property {
-        Property::Every => set_as(
-            alloc,
-            ground,
-            place,
-            name,
-            PropertyMode::Parameters,
-            &[],
-            names,
-        ),
+    let name = name_of(action.name)?;
+    match action.property {
+        Property::Every => {
+            let op = Op::SetProperty(name, PropertyMode::Parameters);
+            arranged_for(alloc, ground, place, op, &[], names)
+        }
         Property::One {
             property,
             parameter,
         } => {
             let property = property.copy()?;
             if has(names.as_slice(), "value") {
-                let place_of_value = value_place.copy()?;
+                let place_of_value = action.value_place.copy()?;
                 let mode = PropertyMode::Value {
                     property,
                     place: place_of_value,
                 };
-                set_as(alloc, ground, place, name, mode, &["value"], names)
+                let op = Op::SetProperty(name, mode);
+                arranged_for(alloc, ground, place, op, &["value"], names)
             } else {
                 let mode = PropertyMode::Parameter {
                     property,
                     parameter: parameter.copy()?,
                 };
-                set_as(alloc, ground, place, name, mode, &[], names)
+                let op = Op::SetProperty(name, mode);
+                arranged_for(alloc, ground, place, op, &[], names)
             }
         }
     }
 }
 
-// The code of a change of properties with these of the values.
-fn set_as(
+// The code of an operation on these of the values.
+fn arranged_for(
     alloc: Global,
     ground: &Shape,
     place: &Place,
-    name: Name,
-    mode: PropertyMode,
+    op: Op,
     wanted: &[&str],
     names: &Listed<Text>,
 ) -> Result<Code, AllocError>
     ensures { IfOk result (λ code. code ≡ arranged_code ground.now place.now
-        (map (λ name. name.now) wanted.now) names.now 0 ++ form_code ground.now
-        (does (op.SetProperty name mode) place.now)) }
+        (map (λ name. name.now) wanted.now) names.now 0 ++ form_code ground.now (does op place.now)) }
 {
     let mut code = arranged(alloc, ground, place, wanted, names)?;
-    code.join(operation(alloc, ground, place, Op::SetProperty(name, mode))?)?;
+    code.join(operation(alloc, ground, place, op)?)?;
     Ok(code)
 }

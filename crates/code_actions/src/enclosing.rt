@@ -6,7 +6,7 @@ ghost use Rattle.code_actions.specs.Enclosing.{enclosing_ground};
 use crate::bodies::{set, set_entry};
 use crate::choices::tested_once;
 use crate::evaluations::Evaluations;
-use crate::loops::each;
+use crate::loops::{each, loop_kind};
 use crate::outputs::{out, out_ground};
 use page_acts::Variable;
 use page_code::{Code, Over, Shape};
@@ -82,26 +82,14 @@ impl<'a> Enclosing<'a> {
             Enclosing::Set(variable) => set(alloc, ground, place, variable, &names, body),
             Enclosing::SetEntry(target) => set_entry(alloc, ground, place, target, &names, body),
             Enclosing::If(variable) => tested_once(alloc, ground, place, variable, &names, body),
-            Enclosing::ForEach { variable, status } => each(
-                alloc,
-                ground,
-                place,
-                Over::Items,
-                names,
-                variable,
-                status,
-                body,
-            ),
-            Enclosing::ForTokens { variable, status } => each(
-                alloc,
-                ground,
-                place,
-                Over::Tokens,
-                names,
-                variable,
-                status,
-                body,
-            ),
+            Enclosing::ForEach { variable, status } => {
+                let kind = loop_kind(Over::Items, names, variable, status)?;
+                each(alloc, ground, place, kind, body)
+            }
+            Enclosing::ForTokens { variable, status } => {
+                let kind = loop_kind(Over::Tokens, names, variable, status)?;
+                each(alloc, ground, place, kind, body)
+            }
         }
     }
 }

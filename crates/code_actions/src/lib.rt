@@ -17,8 +17,8 @@ mod outputs;
 mod tags;
 mod variables;
 
-pub use addressing::Addressing;
-pub use beans::{get_property, set_property, use_bean};
+pub use addressing::{Addressing, Params};
+pub use beans::{SetProperty, UseBean, get_property, set_property, use_bean};
 pub use bodies::{param, param_ground};
 pub use calls::{do_body, invoke};
 pub use choices::catch;

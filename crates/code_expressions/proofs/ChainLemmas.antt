@@ -1,5 +1,5 @@
 -- The code of an expression along its left side: the first part, and what each link does.
-use Rattle.std.proofs.Common.{◌≡◌, ℕ, ◌<◌, false, true, List, [], ◌∷◌, ◌++◌, All, get_or, length, Option, Some, None, option_map, refl, sym, ap, subst, ◌∙◌, append_assoc, arith}
+use Rattle.std.proofs.Common.{◌≡◌, ℕ, ◌<◌, false, true, List, [], ◌∷◌, ◌++◌, All, get_or, length, None, refl, sym, ap, subst, ◌∙◌, append_assoc}
 use Rattle.std.proofs.lemmas.List.{append-nil}
 use Rattle.std.proofs.lemmas.List.Elements.{All-get_or, All-same, All-tail}
 use Rattle.std.specs.Borrow.{Bor}
@@ -16,9 +16,8 @@ use Rattle.page_code.specs.declared.operands.Coercion.TheVariants as coercion
 use Rattle.page_code.specs.declared.shape.Shape.{Shape}
 use Rattle.code_forms.specs.Codes.{form_code}
 use Rattle.code_forms.specs.Forms.{Form, chosen}
-use Rattle.code_lowering.specs.Expressions.{as_truth, binary_form, coerces, constant, entry_form, index_form, tree_form, value_form}
+use Rattle.code_lowering.specs.Expressions.{as_truth, binary_form, coerces, constant, index_form, tree_form, value_form}
 use Rattle.page_meaning.specs.Expressions.{keyed_object}
-use Rattle.page_meaning.specs.Implicit.{Keyed}
 use Rattle.pg_text.specs.declared.place.Place.{Place}
 use Rattle.pg_value.specs.Datum.{truth}
 use Rattle.pg_value.specs.declared.operators.BinOp.{BinOp}
@@ -59,13 +58,6 @@ operation_linked sh place t l {o} {right} is =
     subst (λ x. form_code sh (value_form place t) ++ form_code sh (link_form place x) ≡ form_code sh (value_form place (linked t x))) (sym is)
     (one_link sh place t (link.Operation o right) tt)
 
--- the same of a key of a value that is no such object
-pub key_linked : (sh : Shape) (place : Place) (t : Tree) (l : Link) {key : Bor El} → l ≡ link.Key key → keyed_object t ≡ None
-    → form_code sh (value_form place t) ++ form_code sh (link_form place l) ≡ form_code sh (value_form place (linked t l))
-key_linked sh place t l {key} is none =
-    subst (λ x. form_code sh (value_form place t) ++ form_code sh (link_form place x) ≡ form_code sh (value_form place (linked t x))) (sym is)
-    (one_link sh place t (link.Key key) none)
-
 -- behind a link nothing is an object of which one entry is taken
 no_key : (t : Tree) (l : Link) → keyed_object (linked t l) ≡ None
 no_key t (link.Operation o right) = refl
@@ -87,11 +79,6 @@ links_code sh place t (l ∷ links) h =
     others : List Cell
     others = form_code sh (links_form place links)
 
--- a chain without links
-pub chain_alone : (first whole : Tree) (all slice : List Link) → chained first all ≡ whole → slice ≡ all → length slice ≡ 0 → first ≡ whole
-chain_alone first whole [] slice is same none = is
-chain_alone first whole (l ∷ links) slice is same none = let e = ap length same in absurd (omega (arith, e, none))
-
 -- the code of a chain from its first link on
 pub chain_begins : (sh : Shape) (place : Place) (first whole : Tree) (all slice links : List Link) (l : Link) (code : List Cell) → chained first all ≡ whole → slice ≡ all
     → IsFirstAndRest slice l links → code ≡ form_code sh (value_form place (linked first l)) → code ++ form_code sh (links_form place links) ≡ form_code sh (value_form place whole)
@@ -107,17 +94,3 @@ link_is_below most all slice links first l i below same cut lt is =
     subst (λ part. size-El (right_of part) < most) (sym is)
     (All-get_or (λ part. size-El (right_of part) < most) links i l lt
     (All-tail (λ part. size-El (right_of part) < most) first links (All-same (λ part. size-El (right_of part) < most) (first ∷ links) all (sym cut.0 ∙ same) below)))
-
--- an index that takes one entry alone
-pub entry_taken : (sh : Shape) (place : Place) (k : Option Keyed) (a b : Tree) (key entry : List Cell) → option_map (λ o. form_code sh (entry_form place o)) k ≡ Some entry
-    → key ≡ form_code sh (tree_form place b) → key ++ entry ≡ form_code sh (index_form place k (value_form place a) (tree_form place b))
-entry_taken sh place None a b key entry some is = absurd (cc)
-entry_taken sh place (Some o) a b key entry some is = ap (λ c. c ++ entry) is ∙ ap (λ c. form_code sh (tree_form place b) ++ c) (some_same entry (form_code sh (entry_form place o)) (sym some))
-  where
-    some_same : (x y : List Cell) → Some x ≡ Some y → x ≡ y
-    some_same x y e = cc
-
--- an index where there is no such entry
-pub no_entry : (sh : Shape) (place : Place) (k : Option Keyed) → option_map (λ o. form_code sh (entry_form place o)) k ≡ None → k ≡ None
-no_entry sh place None e = refl
-no_entry sh place (Some o) e = absurd (cc)

@@ -43,9 +43,6 @@ module _ (sh : Shape) (place : Place) (total : List Cell) where
       ∙ append_assoc code (form_code sh (link_form place l)) (links_code sh place (drop (i + 1) links))
       ∙ ap (λ rest. code ++ links_code sh place rest) (sym (next_of links i l lt is)) ∙ whole
 
-  pub links_end : (links : List Link) (i : ℕ) (code : List Cell) → length links ≤ i → code ++ links_code sh place (drop i links) ≡ total → code ≡ total
-  links_end links i code past whole = sym (append-nil code) ∙ ap (λ rest. code ++ links_code sh place rest) (sym (drop_all i links past)) ∙ whole
-
   -- one expression more
   pub trees_from : (items : List El) (i : ℕ) (x : El) (code more : List Cell) (above : Shape) → i < length items → x ≡ get_or items i x → more ≡ code ++ form_code sh (tree_form place (tree_of x))
       → above ≡ up 1 sh → code ++ trees_code sh place (drop i items) ≡ total → more ++ trees_code above place (drop (i + 1) items) ≡ total

@@ -32,7 +32,8 @@ impl Handed {
         }
     }
 
-    /// A body as the text that was written, and no fragments.
+    /// The body of a tag file that declares it tagdependent: its text as it was written, without
+    /// fragments.
     pub fn source(alloc: Global, text: Text) -> Self
         ensures { result ≡ record { body = body_is.Source text; fragments = []; cells = [] } }
     {

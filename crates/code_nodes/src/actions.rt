@@ -12,11 +12,12 @@ ghost use Rattle.unit_nodes.specs.Views.{page_view};
 use crate::attributes::values;
 use crate::names::{evaluated_names, value_place};
 use crate::params::params;
+use crate::position::Position;
 use crate::tree::nodes;
-use code_actions::{Addressing, Enclosing, Evaluations, set_property};
+use code_actions::{Addressing, Enclosing, Evaluations, Params, SetProperty, set_property};
 use page_acts::{Act, ActAttribute, ActParam, Property};
-use page_code::{Code, Shape};
-use pg_text::{Place, Text};
+use page_code::Code;
+use pg_text::Text;
 use std::alloc::{AllocError, Global};
 use unit_nodes::Page;
 
@@ -25,22 +26,21 @@ use unit_nodes::Page;
 pub(crate) fn enclosed(
     alloc: Global,
     page: &Page,
-    ground: &Shape,
-    place: &Place,
+    at: Position,
     action: &Enclosing,
     attributes: &[ActAttribute],
     body: &[Act],
 ) -> Result<Code, AllocError>
     ensures { IfOk result (λ code. code
-        ≡ form_code ground.now (node_form (page_of (page_view page.now))
-        (enclosing_node action.now (attributes_of attributes.now) (acts_of body.now) place.now))) }
+        ≡ form_code at.entry.ground.now (node_form (page_of (page_view page.now))
+        (enclosing_node action.now (attributes_of attributes.now) (acts_of body.now) at.entry.place.now))) }
 {
     let evaluations = action.evaluations();
     let names = evaluated_names(alloc, &evaluations, attributes)?;
-    let mut code = values(alloc, page, ground, &evaluations, attributes)?;
-    let within = action.body_ground(ground, &names)?;
+    let mut code = values(alloc, page, at.ground, &evaluations, attributes)?;
+    let within = action.body_ground(at.ground, &names)?;
     let body = nodes(alloc, page, &within, body)?;
-    code.join(action.code(alloc, ground, place, names, body)?)?;
+    code.join(action.code(alloc, at.ground, at.place, names, body)?)?;
     Ok(code)
 }
 
@@ -49,21 +49,24 @@ pub(crate) fn enclosed(
 pub(crate) fn addressed(
     alloc: Global,
     page: &Page,
-    ground: &Shape,
-    place: &Place,
+    at: Position,
     action: &Addressing,
     attributes: &[ActAttribute],
     list: &[ActParam],
 ) -> Result<Code, AllocError>
     ensures { IfOk result (λ code. code
-        ≡ form_code ground.now (node_form (page_of (page_view page.now))
-        (addressing_node action.now (attributes_of attributes.now) (params_of list.now) place.now))) }
+        ≡ form_code at.entry.ground.now (node_form (page_of (page_view page.now))
+        (addressing_node action.now (attributes_of attributes.now) (params_of list.now) at.entry.place.now))) }
 {
     let evaluations = action.evaluations();
     let names = evaluated_names(alloc, &evaluations, attributes)?;
-    let mut code = values(alloc, page, ground, &evaluations, attributes)?;
-    let given = params(alloc, page, &ground.up(1)?, list)?;
-    code.join(action.code(alloc, ground, place, &names, list.len(), given)?)?;
+    let mut code = values(alloc, page, at.ground, &evaluations, attributes)?;
+    let cells = params(alloc, page, &at.ground.up(1)?, list)?;
+    let given = Params {
+        count: list.len(),
+        code: cells,
+    };
+    code.join(action.code(alloc, at.ground, at.place, &names, given)?)?;
     Ok(code)
 }
 
@@ -72,20 +75,23 @@ pub(crate) fn addressed(
 pub(crate) fn properties(
     alloc: Global,
     page: &Page,
-    ground: &Shape,
-    place: &Place,
+    at: Position,
     name: &Text,
     property: &Property,
     attributes: &[ActAttribute],
 ) -> Result<Code, AllocError>
     ensures { IfOk result (λ code. code
-        ≡ form_code ground.now (node_form (page_of (page_view page.now))
-        (set_property name.now (property_of property.now) (attributes_of attributes.now) place.now))) }
+        ≡ form_code at.entry.ground.now (node_form (page_of (page_view page.now))
+        (set_property name.now (property_of property.now) (attributes_of attributes.now) at.entry.place.now))) }
 {
     let evaluations = Evaluations::AsTheyAre;
     let names = evaluated_names(alloc, &evaluations, attributes)?;
-    let mut code = values(alloc, page, ground, &evaluations, attributes)?;
-    let at = value_place(attributes, place);
-    code.join(set_property(alloc, ground, place, name, property, at, &names)?)?;
+    let mut code = values(alloc, page, at.ground, &evaluations, attributes)?;
+    let action = SetProperty {
+        name,
+        property,
+        value_place: value_place(attributes, at.place),
+    };
+    code.join(set_property(alloc, at.ground, at.place, &action, &names)?)?;
     Ok(code)
 }

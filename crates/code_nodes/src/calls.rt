@@ -13,6 +13,7 @@ ghost use Rattle.code_nodes.specs.Calls.{body_handed, is_fragment, with_fragment
 
 use crate::attributes::values;
 use crate::names::evaluated_names;
+use crate::position::Position;
 use crate::tree::nodes;
 use code_actions::{Evaluations, call_tag};
 use code_forms::{Handed, ended};
@@ -29,25 +30,24 @@ use unit_nodes::{Page, TagFile};
 pub(crate) fn call(
     alloc: Global,
     page: &Page,
-    ground: &Shape,
-    place: &Place,
+    at: Position,
     path: &Path,
     attributes: &[ActAttribute],
     body: &CallBody,
 ) -> Result<Code, AllocError>
     ensures { IfOk result (λ code. code
-        ≡ form_code ground.now (node_form (page_of (page_view page.now))
-        (call path.now (attributes_of attributes.now) (body_of body.now) place.now))) }
+        ≡ form_code at.entry.ground.now (node_form (page_of (page_view page.now))
+        (call path.now (attributes_of attributes.now) (body_of body.now) at.entry.place.now))) }
 {
     let Some(tag) = tag_at(&page.tags, path) else {
         return Ok(Code::new(alloc));
     };
     let evaluations = Evaluations::Declared(&tag.decl.attributes);
     let names = evaluated_names(alloc, &evaluations, attributes)?;
-    let mut code = values(alloc, page, ground, &evaluations, attributes)?;
-    let down = handed(alloc, page, place, tag.decl.body, body)?;
+    let mut code = values(alloc, page, at.ground, &evaluations, attributes)?;
+    let down = handed(alloc, page, at.place, tag.decl.body, body)?;
     let down = with_fragments(alloc, page, &tag.decl, attributes, down)?;
-    code.join(call_tag(alloc, ground, place, path, names, down)?)?;
+    code.join(call_tag(alloc, at.ground, at.place, path, names, down)?)?;
     Ok(code)
 }
 

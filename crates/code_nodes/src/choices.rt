@@ -11,12 +11,12 @@ ghost use Rattle.unit_nodes.specs.Views.{page_view};
 
 use crate::attributes::values;
 use crate::names::evaluated_names;
+use crate::position::Position;
 use crate::tree::nodes;
 use code_actions::{Evaluations, TestedBranch, choice, when as when_code};
 use code_expressions::visits;
 use page_acts::{Act, ActAttribute, ActBranch};
 use page_code::{Code, Shape};
-use pg_text::Place;
 use std::alloc::{AllocError, Global};
 use unit_nodes::Page;
 
@@ -39,9 +39,12 @@ pub(crate) fn branches(
                 attributes,
                 body,
                 place,
-            } => whens.push(when(alloc, page, ground, place, attributes, body)?)?,
+            } => {
+                let at = Position { ground, place };
+                whens.push(when(alloc, page, at, attributes, body)?)?;
+            }
             ActBranch::Otherwise { body, place } => {
-                let last = otherwise(alloc, page, ground, place, body)?;
+                let last = otherwise(alloc, page, Position { ground, place }, body)?;
                 return choice(alloc, ground, whens, last);
             }
         }
@@ -54,37 +57,31 @@ pub(crate) fn branches(
 fn when(
     alloc: Global,
     page: &Page,
-    ground: &Shape,
-    place: &Place,
+    at: Position,
     attributes: &[ActAttribute],
     body: &[Act],
 ) -> Result<TestedBranch, AllocError>
     ensures { IfOk result (λ made. (others : Branches) →
-        before ground.now (made ∷ []) (form_code ground.now (branches_form (page_of (page_view page.now)) others))
-        ≡ form_code ground.now (branches_form (page_of (page_view page.now))
-        (when (attributes_of attributes.now) (acts_of body.now) place.now others))) }
+        before at.entry.ground.now (made ∷ [])
+        (form_code at.entry.ground.now (branches_form (page_of (page_view page.now)) others))
+        ≡ form_code at.entry.ground.now (branches_form (page_of (page_view page.now))
+        (when (attributes_of attributes.now) (acts_of body.now) at.entry.place.now others))) }
 {
     let names = evaluated_names(alloc, &Evaluations::Test, attributes)?;
-    let mut code = visits(alloc, ground, place, 1)?;
-    code.join(values(alloc, page, ground, &Evaluations::Test, attributes)?)?;
-    let body = nodes(alloc, page, ground, body)?;
-    let made = when_code(alloc, ground, place, &names, code, body)?;
+    let mut code = visits(alloc, at.ground, at.place, 1)?;
+    code.join(values(alloc, page, at.ground, &Evaluations::Test, attributes)?)?;
+    let body = nodes(alloc, page, at.ground, body)?;
+    let made = when_code(alloc, at.ground, at.place, &names, code, body)?;
     Ok(made)
 }
 
 // The code of the branch without a test.
 #[cycle(nodes)]
-fn otherwise(
-    alloc: Global,
-    page: &Page,
-    ground: &Shape,
-    place: &Place,
-    body: &[Act],
-) -> Result<Code, AllocError>
-    ensures { IfOk result (λ code. code ≡ form_code ground.now (visits 1 place.now) ++ form_code ground.now
-        (nodes_form (page_of (page_view page.now)) (acts_of body.now))) }
+fn otherwise(alloc: Global, page: &Page, at: Position, body: &[Act]) -> Result<Code, AllocError>
+    ensures { IfOk result (λ code. code ≡ form_code at.entry.ground.now (visits 1 at.entry.place.now)
+        ++ form_code at.entry.ground.now (nodes_form (page_of (page_view page.now)) (acts_of body.now))) }
 {
-    let mut code = visits(alloc, ground, place, 1)?;
-    code.join(nodes(alloc, page, ground, body)?)?;
+    let mut code = visits(alloc, at.ground, at.place, 1)?;
+    code.join(nodes(alloc, page, at.ground, body)?)?;
     Ok(code)
 }

@@ -8,6 +8,7 @@ mod calls;
 mod choices;
 mod names;
 mod params;
+mod position;
 mod tree;
 
 pub use tree::nodes;

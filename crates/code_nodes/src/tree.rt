@@ -9,8 +9,10 @@ ghost use Rattle.unit_nodes.specs.Views.{page_view};
 use crate::actions::{addressed, enclosed, properties};
 use crate::calls::call;
 use crate::choices::branches as branches_code;
+use crate::position::Position;
 use code_actions::{
-    Addressing, Enclosing, catch, do_body, get_property, invoke, remove, shown, template, use_bean,
+    Addressing, Enclosing, UseBean, catch, do_body, get_property, invoke, remove, shown, template,
+    use_bean,
 };
 use code_expressions::{first_visits, visits};
 use page_acts::Act;
@@ -58,15 +60,8 @@ fn node(alloc: Global, page: &Page, ground: &Shape, act: &Act) -> Result<Code, A
             body,
             place,
         } => {
-            enclosed(
-                alloc,
-                page,
-                ground,
-                place,
-                &Enclosing::Out,
-                attributes,
-                body,
-            )
+            let at = Position { ground, place };
+            enclosed(alloc, page, at, &Enclosing::Out, attributes, body)
         }
         Act::Set {
             variable,
@@ -75,7 +70,8 @@ fn node(alloc: Global, page: &Page, ground: &Shape, act: &Act) -> Result<Code, A
             place,
         } => {
             let action = Enclosing::Set(variable);
-            enclosed(alloc, page, ground, place, &action, attributes, body)
+            let at = Position { ground, place };
+            enclosed(alloc, page, at, &action, attributes, body)
         }
         Act::SetEntry {
             target,
@@ -84,7 +80,8 @@ fn node(alloc: Global, page: &Page, ground: &Shape, act: &Act) -> Result<Code, A
             place,
         } => {
             let action = Enclosing::SetEntry(target);
-            enclosed(alloc, page, ground, place, &action, attributes, body)
+            let at = Position { ground, place };
+            enclosed(alloc, page, at, &action, attributes, body)
         }
         Act::Remove { variable, place } => remove(alloc, ground, place, variable),
         Act::Catch {
@@ -102,7 +99,8 @@ fn node(alloc: Global, page: &Page, ground: &Shape, act: &Act) -> Result<Code, A
             place,
         } => {
             let action = Enclosing::If(variable);
-            enclosed(alloc, page, ground, place, &action, attributes, body)
+            let at = Position { ground, place };
+            enclosed(alloc, page, at, &action, attributes, body)
         }
         Act::Choose { branches, place: _ } => branches_code(alloc, page, ground, branches),
         Act::ForEach {
@@ -113,7 +111,8 @@ fn node(alloc: Global, page: &Page, ground: &Shape, act: &Act) -> Result<Code, A
             place,
         } => {
             let action = Enclosing::ForEach { variable, status };
-            enclosed(alloc, page, ground, place, &action, attributes, body)
+            let at = Position { ground, place };
+            enclosed(alloc, page, at, &action, attributes, body)
         }
         Act::ForTokens {
             variable,
@@ -123,7 +122,8 @@ fn node(alloc: Global, page: &Page, ground: &Shape, act: &Act) -> Result<Code, A
             place,
         } => {
             let action = Enclosing::ForTokens { variable, status };
-            enclosed(alloc, page, ground, place, &action, attributes, body)
+            let at = Position { ground, place };
+            enclosed(alloc, page, at, &action, attributes, body)
         }
         Act::Import {
             variable,
@@ -132,7 +132,8 @@ fn node(alloc: Global, page: &Page, ground: &Shape, act: &Act) -> Result<Code, A
             place,
         } => {
             let action = Addressing::Import(variable);
-            addressed(alloc, page, ground, place, &action, attributes, params)
+            let at = Position { ground, place };
+            addressed(alloc, page, at, &action, attributes, params)
         }
         Act::Url {
             variable,
@@ -141,22 +142,16 @@ fn node(alloc: Global, page: &Page, ground: &Shape, act: &Act) -> Result<Code, A
             place,
         } => {
             let action = Addressing::Url(variable);
-            addressed(alloc, page, ground, place, &action, attributes, params)
+            let at = Position { ground, place };
+            addressed(alloc, page, at, &action, attributes, params)
         }
         Act::Redirect {
             attributes,
             params,
             place,
         } => {
-            addressed(
-                alloc,
-                page,
-                ground,
-                place,
-                &Addressing::Redirect,
-                attributes,
-                params,
-            )
+            let at = Position { ground, place };
+            addressed(alloc, page, at, &Addressing::Redirect, attributes, params)
         }
         Act::Include {
             flush,
@@ -165,22 +160,16 @@ fn node(alloc: Global, page: &Page, ground: &Shape, act: &Act) -> Result<Code, A
             place,
         } => {
             let action = Addressing::Include(*flush);
-            addressed(alloc, page, ground, place, &action, attributes, params)
+            let at = Position { ground, place };
+            addressed(alloc, page, at, &action, attributes, params)
         }
         Act::Forward {
             attributes,
             params,
             place,
         } => {
-            addressed(
-                alloc,
-                page,
-                ground,
-                place,
-                &Addressing::Forward,
-                attributes,
-                params,
-            )
+            let at = Position { ground, place };
+            addressed(alloc, page, at, &Addressing::Forward, attributes, params)
         }
         Act::UseBean {
             name,
@@ -190,7 +179,12 @@ fn node(alloc: Global, page: &Page, ground: &Shape, act: &Act) -> Result<Code, A
             place,
         } => {
             let part = nodes(alloc, page, ground, body)?;
-            use_bean(alloc, ground, place, &page.beans, name, *scope, class, part)
+            let action = UseBean {
+                name,
+                scope: *scope,
+                class,
+            };
+            use_bean(alloc, ground, place, &page.beans, &action, part)
         }
         Act::GetProperty {
             name,
@@ -202,7 +196,10 @@ fn node(alloc: Global, page: &Page, ground: &Shape, act: &Act) -> Result<Code, A
             property,
             attributes,
             place,
-        } => { properties(alloc, page, ground, place, name, property, attributes) }
+        } => {
+            let at = Position { ground, place };
+            properties(alloc, page, at, name, property, attributes)
+        }
         Act::Group { body, place: _ } => nodes(alloc, page, ground, body),
         Act::DoBody { variable, place } => do_body(alloc, ground, place, variable),
         Act::Invoke {
@@ -215,6 +212,9 @@ fn node(alloc: Global, page: &Page, ground: &Shape, act: &Act) -> Result<Code, A
             attributes,
             body,
             place,
-        } => { call(alloc, page, ground, place, path, attributes, body) }
+        } => {
+            let at = Position { ground, place };
+            call(alloc, page, at, path, attributes, body)
+        }
     }
 }

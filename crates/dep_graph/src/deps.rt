@@ -35,8 +35,8 @@ impl Model for Deps {
 
     ghost view = { λ d. d.dependents.items };
 
-    ghost invariant = { λ d.
-        AreRising path_of d.dependents.items × AreRising name_of d.index.items × IsIndexOf d.dependents.items d.index.items };
+    ghost invariant = { λ d. AreRising path_of d.dependents.items × AreRising name_of d.index.items
+        × IsIndexOf d.dependents.items d.index.items };
 }
 
 impl Deps {
@@ -147,10 +147,11 @@ fn place_of(dependents: &[Dependent], path: &Path) -> Result<usize, usize>
     requires { AreRising path_of dependents.now }
     ensures { IsPlace path_of path.now dependents.now result }
 {
-    dependents.binary_search_by(|dependent| compare(dependent, path))
+    dependents.binary_search_by(|dependent| order_of_dependent(dependent, path))
 }
 
-fn compare(dependent: &Dependent, path: &Path) -> Ordering
+// How the path of a dependent stands to a path, by their bytes.
+fn order_of_dependent(dependent: &Dependent, path: &Path) -> Ordering
     ensures { result ≡ path_cmp dependent.now.path path.now }
 {
     dependent.path.as_bytes().cmp(path.as_bytes())

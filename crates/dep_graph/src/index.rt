@@ -16,10 +16,11 @@ pub(crate) fn place_of(index: &[Named], name: &Path) -> Result<usize, usize>
     requires { AreRising name_of index.now }
     ensures { IsPlace name_of name.now index.now result }
 {
-    index.binary_search_by(|named| compare(named, name))
+    index.binary_search_by(|named| order_of_name(named, name))
 }
 
-fn compare(named: &Named, name: &Path) -> Ordering
+// How the name of an entry stands to a name, by their bytes.
+fn order_of_name(named: &Named, name: &Path) -> Ordering
     ensures { result ≡ path_cmp named.now.name name.now }
 {
     named.name.as_bytes().cmp(name.as_bytes())
@@ -136,10 +137,11 @@ fn user_place(users: &[Path], path: &Path) -> Result<usize, usize>
     requires { AreInOrder users.now }
     ensures { IsPlace itself path.now users.now result }
 {
-    users.binary_search_by(|user| order(user, path))
+    users.binary_search_by(|user| order_of_user(user, path))
 }
 
-fn order(user: &Path, path: &Path) -> Ordering
+// How a user stands to a path, by their bytes.
+fn order_of_user(user: &Path, path: &Path) -> Ordering
     ensures { result ≡ path_cmp user.now path.now }
 {
     user.as_bytes().cmp(path.as_bytes())

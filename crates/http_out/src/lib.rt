@@ -26,4 +26,4 @@ pub use methods::{shows_body, takes_method};
 pub use no_memory::write_no_memory;
 pub use sending::write;
 pub use status::Status;
-pub use whole::{tell_plain, write_head, write_plain, write_whole};
+pub use whole::{tell_plain, write_head, write_whole};

@@ -65,33 +65,6 @@ pub fn write_head<K: Sink>(
     Ok(())
 }
 
-/// Writes a plain answer of one line. Without memory nothing was written.
-pub fn write_plain<K: Sink>(
-    alloc: Global,
-    sink: &mut K,
-    failed: &mut bool,
-    status: Status,
-    close: bool,
-    line: &[u8],
-    shown: bool,
-) -> Result<(), AllocError>
-    ensures sent { (old : Option (List ℕ)) (text : List ℕ) →
-        Sent old (K.taken sink.old) text failed.old →
-        OnOk result (Sent old (K.taken sink.new) (text ++ plain status close line.now shown) failed.new) }
-    ensures err { OnErr result ((sink.new ≡ sink.old) × (failed.new ≡ failed.old)) }
-    ensures over { failed.old ≡ true → (sink.new ≡ sink.old) × (failed.new ≡ true) }
-    ensures later { K.faults sink.old ≤ K.faults sink.new }
-    ensures rose { (before : ℕ) → before ≤ K.faults sink.old →
-        (failed.old ≡ true → Rose before (K.faults sink.old)) → failed.new ≡ true →
-        Rose before (K.faults sink.new) }
-{
-    let head = Head::plain(status, close);
-    let mut body = Vec::with_capacity(alloc, line.len().saturating_add(1))?;
-    body.extend_from_slice(line)?;
-    body.extend_from_slice(b"\n")?;
-    write_whole(alloc, sink, failed, &head, &body, shown)
-}
-
 /// Writes a plain answer of one line as all of a response, and says whether the sink failed.
 /// Without memory nothing was written.
 pub fn tell_plain<K: Sink>(
@@ -108,8 +81,12 @@ pub fn tell_plain<K: Sink>(
     ensures later { K.faults sink.old ≤ K.faults sink.new }
     ensures rose { IfOk result (λ failed. failed ≡ true → Rose (K.faults sink.old) (K.faults sink.new)) }
 {
+    let head = Head::plain(status, close);
+    let mut body = Vec::with_capacity(alloc, line.len().saturating_add(1))?;
+    body.extend_from_slice(line)?;
+    body.extend_from_slice(b"\n")?;
     let mut failed = false;
-    write_plain(alloc, sink, &mut failed, status, close, line, shown)?;
+    write_whole(alloc, sink, &mut failed, &head, &body, shown)?;
     Ok(failed)
 }
 

@@ -1,6 +1,6 @@
 use edges::MemSink;
 use http_out::{
-    Head, Status, write_chunk, write_end, write_head, write_no_memory, write_plain, write_whole,
+    Head, Status, tell_plain, write_chunk, write_end, write_head, write_no_memory, write_whole,
 };
 use pg_text::Text;
 use std::alloc::{AllocError, Global};
@@ -48,16 +48,7 @@ fn plain(
     shown: bool,
 ) -> Result<String, AllocError> {
     let mut sink = MemSink::new(alloc, Vec::new(alloc));
-    let mut failed = false;
-    write_plain(
-        alloc,
-        &mut sink,
-        &mut failed,
-        status,
-        close,
-        line.as_bytes(),
-        shown,
-    )?;
+    let failed = tell_plain(alloc, &mut sink, status, close, line.as_bytes(), shown)?;
     taken(alloc, &sink, failed)
 }
 

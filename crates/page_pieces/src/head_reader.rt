@@ -8,7 +8,7 @@ ghost use Rattle.page_pieces.specs.ReadHead.{attribute_at, end_read, unread, att
 
 use crate::attribute::{Attribute, Attributes};
 use crate::attribute_reader::{Spelled, attribute_at};
-use crate::head::{HeadEnd, HeadKind, Misread};
+use crate::head::{Head, HeadEnd, HeadKind, Misread};
 use crate::misread::behind_mark;
 use crate::names::behind_white;
 use crate::piece::Break;
@@ -94,35 +94,34 @@ fn value_spot(at: Spot, text: &str, a: Spelled<'_>) -> Spot
     at.after_bytes(before_last(text, a.value.len() + 1 + a.rest.len()))
 }
 
-// The attributes of the head at this spot, which follow its name at the other, what closes it, and
-// what follows that.
+// The attributes of a head in this file, what closes it, and what follows that. The text begins
+// behind the head's name, at this spot.
 pub(crate) fn attributes_at<'a>(
     alloc: Global,
     setting: &Setting,
     file: &Path,
-    spot: Spot,
+    head: Head,
     from: Spot,
-    kind: HeadKind,
     text: &'a str,
 ) -> Result<(Attributes, HeadEnd, &'a str), Failure<Break>>
     requires byte { from.byte + length text.now < 2 ^ 31 }
     requires line { from.line ≤ from.byte + 1 }
     requires column { from.column ≤ from.byte + 1 }
     ensures value { AnswersAs (λ x. (x.0, (x.1, x.2.now)))
-        (attributes_at setting.now file.now spot from kind text.now) result }
+        (attributes_at setting.now file.now head.spot from head.kind text.now) result }
     ensures within { IfOk result (λ x. length x.2.now < length text.now) }
 {
     let mut found = Listed::empty(alloc);
     let mut at = from;
     let mut rest = text;
     'attributes: loop {
-        let fault = match end_read(kind, behind_white(rest)) {
+        let fault = match end_read(head.kind, behind_white(rest)) {
             Ok((end, behind)) => return Ok((Attributes::new(alloc, found)?, end, behind)),
             Err(fault) => fault,
         };
         let a = match attribute_unless_cut_off(fault, rest) {
             Ok(a) => a,
-            Err(fault) => return Err(Failure::Fault(unread(spot, fault))),
+            Err(fault) => return Err(Failure::Fault(unread(head.spot, fault))),
         };
         found.push(attribute_with(alloc, setting, file, value_spot(at, rest, a), a)?)?;
         at = at.after_bytes(before_last(rest, a.rest.len()));

@@ -5,7 +5,7 @@ ghost use Rattle.page_pieces.specs.Texts.{begins};
 ghost use Rattle.page_pieces.specs.Marks.{tag_name};
 ghost use Rattle.page_pieces.specs.ReadHead.{or_misread, start_piece, directive_at, start_at};
 
-use crate::head::{HeadEnd, HeadKind, Misread};
+use crate::head::{Head, HeadEnd, HeadKind, Misread};
 use crate::head_reader::{attributes_at, unread};
 use crate::misread::{misread, name_read};
 use crate::names::{TagName, behind_white, tag_name};
@@ -36,16 +36,12 @@ pub(crate) fn directive_at<'a>(
         Ok(found) => found,
         Err(fault) => return Err(Failure::Fault(unread(spot, fault))),
     };
-    let from = spot.after_bytes(before_last(text, rest.len()));
-    let (attributes, _, rest) = attributes_at(
-        alloc,
-        setting,
-        file,
+    let head = Head {
+        kind: HeadKind::Directive,
         spot,
-        from,
-        HeadKind::Directive,
-        rest,
-    )?;
+    };
+    let from = spot.after_bytes(before_last(text, rest.len()));
+    let (attributes, _, rest) = attributes_at(alloc, setting, file, head, from, rest)?;
     let name = Text::copy_of(alloc, name)?;
     Ok((Piece::Leaf(Leaf::Directive(name, attributes)), rest))
 }
@@ -91,16 +87,12 @@ pub(crate) fn start_at<'a>(
         Ok(tag) => tag,
         Err(fault) => return Err(Failure::Fault(unread(spot, fault))),
     };
-    let from = spot.after_bytes(before_last(text, tag.rest.len()));
-    let (attributes, end, rest) = attributes_at(
-        alloc,
-        setting,
-        file,
+    let head = Head {
+        kind: HeadKind::Element,
         spot,
-        from,
-        HeadKind::Element,
-        tag.rest,
-    )?;
+    };
+    let from = spot.after_bytes(before_last(text, tag.rest.len()));
+    let (attributes, end, rest) = attributes_at(alloc, setting, file, head, from, tag.rest)?;
     let tag = Tag {
         prefix: Text::copy_of(alloc, tag.prefix)?,
         name: Text::copy_of(alloc, tag.name)?,

@@ -1,3 +1,4 @@
+// Edits, operations, replies and entries. What is_same answers is the clause of Same (same.rt).
 use crate::lists::are_same;
 use crate::read::{same_op, same_reply};
 use crate::same::Same;

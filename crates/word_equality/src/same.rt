@@ -7,6 +7,7 @@ use pg_value::Value;
 
 /// A type whose values can be compared in their whole content.
 pub trait Same {
+    /// Whether the whole content is the same.
     fn is_same(&self, other: &Self) -> bool
         ensures { Decides result (self.now ≡ other.now) };
 }

@@ -18,15 +18,15 @@ use Rattle.code_nodes.proofs.+nodes.Goals as goal
 
 pub actions::enclosed-returns : goal.actions::enclosed-returns
 actions::enclosed-returns t c =
-    enclosed_is c.args.ground.now c.args.place.now (page_of (page_view c.args.page.now)) (attributes_of c.args.attributes.now) c.args.action.now (acts_of c.args.body.now)
+    enclosed_is c.args.at.ground.now c.args.at.place.now (page_of (page_view c.args.page.now)) (attributes_of c.args.attributes.now) c.args.action.now (acts_of c.args.body.now)
     c.evaluations-evaluations.result c.in_ok-names.names c.in_ok-code.code c.in_ok-body.body c.in_ok-code-2.field-0 c.join.new.self c.in_ok-within.within c.evaluations-evaluations.ensures
     c.in_ok-names.ensures c.in_ok-code.ensures c.in_ok-within.ensures c.in_ok-body.ensures c.in_ok-code-2.ensures c.in_ok-join.ensures.ok
 
 pub actions::addressed-returns : goal.actions::addressed-returns
 actions::addressed-returns t c =
-    addressed_is c.args.ground.now c.args.place.now (page_of (page_view c.args.page.now)) (attributes_of c.args.attributes.now) c.args.action.now (params_of c.args.list.now)
-    c.evaluations-evaluations.result c.in_ok-names.names _ c.in_ok-code.code c.in_ok-given.given c.in_ok-code-2.field-0 c.join.new.self c.in_ok-up.field-0 c.evaluations-evaluations.ensures
-    c.in_ok-names.ensures c.in_ok-code.ensures c.in_ok-up.ensures c.in_ok-given.ensures (sym (param_count_is c.args.list.now)) c.in_ok-code-2.ensures c.in_ok-join.ensures.ok
+    addressed_is c.args.at.ground.now c.args.at.place.now (page_of (page_view c.args.page.now)) (attributes_of c.args.attributes.now) c.args.action.now (params_of c.args.list.now)
+    c.evaluations-evaluations.result c.in_ok-names.names _ c.in_ok-code.code c.in_ok-cells.cells c.in_ok-code-2.field-0 c.join.new.self c.in_ok-up.field-0 c.evaluations-evaluations.ensures
+    c.in_ok-names.ensures c.in_ok-code.ensures c.in_ok-up.ensures c.in_ok-cells.ensures (sym (param_count_is c.args.list.now)) c.in_ok-code-2.ensures c.in_ok-join.ensures.ok
 
 pub attributes::values-loop-attribute-preserved : goal.attributes::values-loop-attribute-preserved
 attributes::values-loop-attribute-preserved t c =
@@ -84,7 +84,7 @@ choices::branches-returns t c =
 pub choices::when-returns : goal.choices::when-returns
 choices::when-returns t c =
     λ others.
-    when_is (page_of (page_view c.args.page.now)) c.args.ground.now (attributes_of c.args.attributes.now) (acts_of c.args.body.now) c.args.place.now c.in_ok-names.names c.in_ok-code.code
+    when_is (page_of (page_view c.args.page.now)) c.args.at.ground.now (attributes_of c.args.attributes.now) (acts_of c.args.body.now) c.args.at.place.now c.in_ok-names.names c.in_ok-code.code
     c.join.new.self c.in_ok-body.body c.in_ok-made.made others c.in_ok-names.ensures c.in_ok-code.ensures
     (c.in_ok-join.ensures.ok ∙ ap (λ cells. c.in_ok-code.code ++ cells) c.in_ok-values.ensures) c.in_ok-body.ensures c.in_ok-made.ensures
 

@@ -7,7 +7,7 @@ use Rattle.page_pieces.proofs.head_reader.attributes_at.Given as goal
 abbrev pub invariant-attributes : goal.invariant-attributes
 invariant-attributes l = record {
   utf8 : shadow (Utf8 l.rest);
-  leads : Leads l.fn.setting l.fn.file l.fn.spot l.fn.from l.fn.kind l.text l.found l.at l.rest;
+  leads : Leads l.fn.setting l.fn.file l.fn.head.spot l.fn.from l.fn.head.kind l.text l.found l.at l.rest;
   within : length l.rest ≤ length l.text;
   byte : l.at.byte + length l.rest ≡ l.fn.from.byte + length l.text;
   line : l.at.line ≤ l.at.byte + 1;
