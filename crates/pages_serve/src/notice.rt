@@ -11,8 +11,8 @@ const GREATEST_REQUEST: u64 = 4_325_504;
 /// session's cookie, a Fetch, and the session's attributes.
 const COUNTER_REQUEST: u64 = 333;
 
-/// Says where the site is, and how long its journal lasts; or nothing where there is no memory for
-/// that.
+/// Says where the site is, how long its journal lasts, and that no seed was given if that is so; or
+/// nothing where there is no memory for that.
 pub(crate) fn announce<K: Sink>(alloc: Global, settings: &Settings, limit: u64, notices: &mut K) {
     if let Ok(line) = line(alloc, settings, limit) {
         write(notices, &mut false, line.as_bytes());
@@ -31,6 +31,11 @@ fn line(alloc: Global, settings: &Settings, limit: u64) -> Result<String, AllocE
     )?;
     if let Some(preview_port) = settings.preview_port {
         write!(line, "pages: drafts at http://127.0.0.1:{preview_port}/\n")?;
+    }
+    if settings.seed == [0; 32] {
+        line.push_str(
+            "pages: no seed, so anyone can compute the ids of sessions; give one by --seed\n",
+        )?;
     }
     Ok(line)
 }
