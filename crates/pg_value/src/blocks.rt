@@ -181,6 +181,7 @@ pub fn put(blocks: &mut Vec<Block>, key: Text, value: Value) -> Result<(), Alloc
 }
 
 // Puts the value in the place of the one at this place.
+#[inline(never)]
 pub fn set_at(blocks: &mut Vec<Block>, at: usize, value: Value) -> Result<(), AllocError>
     requires within { at < length (joined blocks.old.items) }
     requires kept { AreBlocks blocks.old.items }

@@ -82,6 +82,7 @@ impl Entries {
 
     // Whether the record weighs the same and is as deep with this value at this place. Where it
     // tells no, it may be so.
+    #[inline(always)]
     pub fn keeps_measures(&self, at: usize, value: &Value) -> bool
         requires { at < length (in_entries self.now) }
         ensures { result ≡ true → (w d : ℕ) → IsMeasured (rec (entries_of (in_entries self.now))) w d
@@ -94,6 +95,7 @@ impl Entries {
     }
 
     // What stands under the key.
+    #[inline(always)]
     pub fn find(&self, key: &str) -> Option<&Value>
         requires { AreKept self.now }
         ensures { option_map (λ value. datum_of value.now) result ≡ entry_at key.now (in_entries self.now) }
@@ -147,6 +149,7 @@ impl Entries {
     }
 
     // Puts the value in the place of the one at this place.
+    #[inline(always)]
     pub fn set_at(&mut self, at: usize, value: Value) -> Result<(), AllocError>
         requires within { at < length (in_entries self.old) }
         requires kept { AreKept self.old }

@@ -93,6 +93,7 @@ impl Record {
     }
 
     /// What stands under the key.
+    #[inline(always)]
     pub fn get(&self, key: &str) -> Option<&Value>
         ensures { option_map (λ value. datum_of value.now) result ≡ entry_at key.now self.now }
     {
@@ -230,6 +231,7 @@ fn put(shared: &mut Arc<Entries>, key: Text, value: Value) -> Result<(), AllocEr
 
 // Puts the value in its place, in the entries themselves where no other record shares them, and
 // else in a copy.
+#[inline(always)]
 fn put_at(shared: &mut Arc<Entries>, at: usize, value: Value) -> Result<(), AllocError>
     requires within { at < length (in_entries shared.old.value) }
     requires kept { AreKept shared.old.value }
@@ -238,9 +240,22 @@ fn put_at(shared: &mut Arc<Entries>, at: usize, value: Value) -> Result<(), Allo
     ensures err { OnErr result (in_entries shared.new.value ≡ in_entries shared.old.value) }
     ensures kept { AreKept shared.new.value }
 {
-    if let Some(entries) = Arc::get_mut(shared) {
-        return entries.set_at(at, value);
+    match Arc::get_mut(shared) {
+        Some(entries) => entries.set_at(at, value),
+        None => put_in_copy(shared, at, value),
     }
+}
+
+// Puts the value in its place, in a copy of the entries.
+#[inline(never)]
+fn put_in_copy(shared: &mut Arc<Entries>, at: usize, value: Value) -> Result<(), AllocError>
+    requires within { at < length (in_entries shared.old.value) }
+    requires kept { AreKept shared.old.value }
+    ensures ok { OnOk result (in_entries shared.new.value
+        ≡ with_value_at (in_entries shared.old.value) at (datum_of value)) }
+    ensures err { OnErr result (in_entries shared.new.value ≡ in_entries shared.old.value) }
+    ensures kept { AreKept shared.new.value }
+{
     let mut entries = shared.copy()?;
     entries.set_at(at, value)?;
     *shared = Arc::new(entries.allocator(), entries)?;

@@ -54,6 +54,7 @@ impl Frame {
     }
 
     // What stands under the name.
+    #[inline(always)]
     pub fn get(&self, name: &str) -> Option<&Value>
         ensures { option_map (λ value. datum_of value.now) result ≡ entry_at name.now self.now }
     {
@@ -76,15 +77,24 @@ impl Frame {
     }
 
     // The variables come into a tree where they are many.
+    #[inline(always)]
     fn make_room(&mut self) -> Result<(), AllocError>
+        ensures { self.new ≡ self.old }
+    {
+        match &self.variables {
+            Variables::Few(few) if few.len() >= MANY => self.plant(),
+            _ => Ok(()),
+        }
+    }
+
+    // The variables come into a tree.
+    #[inline(never)]
+    fn plant(&mut self) -> Result<(), AllocError>
         ensures { self.new ≡ self.old }
     {
         let Variables::Few(few) = &self.variables else {
             return Ok(());
         };
-        if few.len() < MANY {
-            return Ok(());
-        }
         let many = VariableTree::of(few.copy()?)?;
         self.variables = Variables::Many(many);
         Ok(())
