@@ -1,23 +1,36 @@
 -- The files of a tree that were read.
-use Rattle.std.proofs.Common.{◌≡◌, ◌≤◌, ◌∙◌, ap, sym, refl, cond, Bool, true, false, ℕ, List, [], ◌∷◌, ◌++◌, length, Some, None}
+use Rattle.std.proofs.Common.{◌≡◌, ◌≤◌, ◌∙◌, ap, sym, refl, subst, cond, Bool, true, false, ℕ, zero, suc, List, [], ◌∷◌, length, Some, None, Err}
 use Rattle.std.specs.Prelude.{◌||◌, find, nat_lt, sum_by}
-use Rattle.std.specs.List.{list_any}
+use Rattle.std.specs.List.{insert, list_any}
 use Rattle.std.specs.Option.{option_map}
 use Rattle.std.specs.Str.{bytes_eq}
 use Rattle.std.proofs.lemmas.Bool.{ltb-false}
 use Rattle.std.proofs.lemmas.Slice.Eq.{bytes_eq-Decides}
+use Rattle.pg_text.specs.Order.{AreRising, IsPlace}
+use Rattle.pg_text.proofs.ItemLemmas.{order_with}
+use Rattle.pg_text.proofs.PlaceLemmas.{with_absent}
 use Rattle.source_tree.specs.declared.file.File.{File}
 use Rattle.source_tree.specs.declared.limits.TheConstants.{MAX_FILES, MAX_TREE_BYTES}
 use Rattle.source_tree.specs.declared.fault.TreeFault.TheVariants.{TooManyFiles, FileTooLarge, TreeTooLarge}
 use Rattle.source_tree.specs.Edits.{file_at}
 use Rattle.source_tree.specs.Limits.{IsWithinLimits, is_large, tree_fault}
 use Rattle.unit_source.specs.Files.{Files}
-use Rattle.unit_source.specs.ReadFiles.{Source, source, source_at, IsOneOf, AreOf}
+use Rattle.unit_source.specs.ReadFiles.{Source, source, source_at, source_path, IsOneOf, AreOf}
 
--- one more is
-pub of_push : (files : Files) (all : List Source) (file : Source) → AreOf files all → IsOneOf files file → AreOf files (all ++ file ∷ [])
-of_push files [] file are is = (is, tt)
-of_push files (first ∷ all) file are is = (are.0, of_push files all file are.1 is)
+-- one more is, wherever it is inserted
+pub of_insert : (files : Files) (all : List Source) (at : ℕ) (file : Source) → AreOf files all → IsOneOf files file → AreOf files (insert all at file)
+of_insert files [] zero file are is = (is, are)
+of_insert files [] (suc at) file are is = (is, are)
+of_insert files (first ∷ all) zero file are is = (is, are)
+of_insert files (first ∷ all) (suc at) file are is = (are.0, of_insert files all at file are.1 is)
+
+-- a file of the tree that is inserted where a search for its path told it to go is one more, and keeps the order
+pub inserted : (files : Files) (read : List Source) (at : ℕ) (path text : List ℕ) (file : Source) → AreOf files read × AreRising source_path read → IsPlace source_path path read (Err at)
+    → files path ≡ Some text → file ≡ source path text → AreOf files (insert read at file) × AreRising source_path (insert read at file)
+inserted files read at path text file are place found is =
+    let new : Source = source path text in
+    subst (λ f. AreOf files (insert read at f) × AreRising source_path (insert read at f)) (sym is)
+    (of_insert files read at new are.0 found, subst (AreRising source_path) (sym (with_absent source_path new read at place)) (order_with source_path new read are.1))
 
 -- the text of a file of the tree is within its limit
 not_large : (many large whole : Bool) → cond many (Some TooManyFiles) (cond large (Some FileTooLarge) (cond whole (Some TreeTooLarge) None)) ≡ None → large ≡ false

@@ -10,6 +10,10 @@ pub record Source : Type 0 where
 abbrev pub source : (path text : List ℕ) → Source
 source path text = record { path = path; text = text }
 
+-- the path of a file
+abbrev pub source_path : Source → List ℕ
+source_path file = file.path
+
 -- the file at a path, where there is one
 abbrev pub source_at : Files → (path : List ℕ) → Option Source
 source_at files path = option_map (source path) (files path)

@@ -5,6 +5,7 @@ ghost use Rattle.unit_source.specs.ReadFirst.{told};
 ghost use Rattle.unit_source.specs.Volume.{one_file};
 
 use crate::WrittenDirective;
+use crate::chain::Chain;
 use crate::files::UnitFiles;
 use crate::first::{First, MAX_CHAIN, read_included};
 use crate::volume::Volume;
@@ -16,7 +17,7 @@ use std::alloc::AllocError;
 // includes.
 fn brought_first(
     files: &mut UnitFiles,
-    chain: &[Path],
+    chain: &Chain,
     volume: Volume,
     directive: &WrittenDirective,
 ) -> Result<First, AllocError>
@@ -42,7 +43,7 @@ pub(crate) fn push_names(names: &mut Listed<Path>, more: &[Path]) -> Result<(), 
 // these are. The names of the files that are read for it are added.
 pub(crate) fn read_brought(
     files: &mut UnitFiles,
-    chain: &[Path],
+    chain: &Chain,
     bytes: usize,
     own: &[WrittenDirective],
     names: &mut Listed<Path>,

@@ -1,39 +1,61 @@
-ghost use Rattle.std.specs.Prelude.{◌≡◌, ◌∷◌, ◌++◌, IfOk};
+ghost use Rattle.std.specs.Prelude.{◌≡◌, ◌∷◌, [], IfOk};
 ghost use Rattle.std.specs.Option.{option_map};
 ghost use Rattle.page_pieces.specs.Settings.{contains_text};
 ghost use Rattle.unit_source.specs.Files.{path_in};
 ghost use Rattle.unit_source.specs.First.{included_path};
 
 use crate::WrittenDirective;
-use pg_text::{Failure, Listed, Path, resolve};
+use pg_text::{Failure, Path, resolve};
 use std::alloc::{AllocError, Global};
+use std::marker::Model;
 
-// Whether a path is one of these.
-pub(crate) fn contains(paths: &[Path], path: &Path) -> bool
-    ensures { result ≡ contains_text path.now paths.now }
-{
-    for one in paths {
-        if one.as_str() == path.as_str() {
-            return true;
-        }
-    }
-    false
+// The files that are being read, each included by the next: the innermost first. A file that is
+// entered stands before those around it, which it borrows. Contracts see the list of the paths.
+#[derive(Drop)]
+pub(crate) struct Chain<'c> {
+    innermost: Option<(&'c Path, &'c Chain<'c>)>,
 }
 
-// The chain of a file that is entered: it, and then the files that include it.
-pub(crate) fn chain_with(
-    alloc: Global,
-    path: &Path,
-    chain: &[Path],
-) -> Result<Listed<Path>, AllocError>
-    ensures { IfOk result (λ longer. longer ≡ path.now ∷ chain.now) }
-{
-    let mut longer = Listed::empty(alloc);
-    longer.push(path.copy()?)?;
-    for outer in chain {
-        longer.push(outer.copy()?)?;
+impl<'c> Model for Chain<'c> {
+    ghost use Rattle.std.specs.Prelude.{List, [], ◌∷◌, ℕ, length};
+    ghost use Rattle.std.specs.Option.{option_map_or};
+    ghost use Rattle.std.proofs.Common.{arith};
+
+    ghost Value = { List (List ℕ) };
+
+    ghost view = { λ c. option_map_or (λ file. file.0.now ∷ file.1.now) c.innermost [] };
+
+    ghost size = { length };
+
+    ghost size_decreases = { λ c h. Prim.grind (arith) };
+}
+
+impl<'c> Chain<'c> {
+    // No file is being read.
+    pub fn empty() -> Self
+        ensures { result ≡ [] }
+    {
+        Chain { innermost: None }
     }
-    Ok(longer)
+
+    // The chain of a file that is entered: it, and then the files around it.
+    pub fn entered(path: &'c Path, around: &'c Chain<'c>) -> Self
+        ensures { result ≡ path.now ∷ around.now }
+    {
+        Chain {
+            innermost: Some((path, around)),
+        }
+    }
+
+    // Whether the file at a path is being read.
+    pub fn contains(&self, path: &Path) -> bool
+        ensures { result ≡ contains_text path.now self.now }
+    {
+        match self.innermost {
+            Some((file, around)) => file.as_str() == path.as_str() || around.contains(path),
+            None => false,
+        }
+    }
 }
 
 // The path that a text names in a file, where it names one.

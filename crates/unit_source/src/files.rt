@@ -1,11 +1,10 @@
 ghost use Rattle.std.specs.Prelude.{◌≡◌, length, IfOk};
-ghost use Rattle.std.specs.List.{find};
-ghost use Rattle.std.specs.Option.{option_copied, option_map};
-ghost use Rattle.std.specs.Str.{bytes_eq};
+ghost use Rattle.std.specs.Option.{option_map};
+ghost use Rattle.pg_text.specs.Order.{AreRising, IsPlace, path_cmp};
 ghost use Rattle.source_tree.specs.Limits.{IsWithinLimits};
 ghost use Rattle.unit_source.specs.Files.{text_in};
 ghost use Rattle.unit_source.specs.Placed.{root_view};
-ghost use Rattle.unit_source.specs.ReadFiles.{source_at};
+ghost use Rattle.unit_source.specs.ReadFiles.{source_at, source_path};
 ghost use Rattle.unit_source.specs.Root.{root_at};
 
 use crate::Root;
@@ -14,9 +13,11 @@ use crate::source_file::SourceFile;
 use pg_text::Path;
 use source_tree::Tree;
 use std::alloc::{AllocError, Global};
+use std::cmp::Ordering;
 use std::marker::Model;
 
-/// The files of a tree. The first reading of each is made once and kept. Contracts see the tree.
+/// The files of a tree. The first reading of each is made once and kept, in byte order of the paths.
+/// Contracts see the tree.
 #[derive(Drop)]
 pub struct UnitFiles<'a> {
     alloc: Global,
@@ -29,13 +30,15 @@ impl<'a> Model for UnitFiles<'a> {
     ghost use Rattle.source_tree.specs.declared.file.File.{File};
     ghost use Rattle.source_tree.specs.Limits.{IsWithinLimits};
     ghost use Rattle.unit_source.specs.Files.{text_in};
-    ghost use Rattle.unit_source.specs.ReadFiles.{AreOf};
+    ghost use Rattle.pg_text.specs.Order.{AreRising};
+    ghost use Rattle.unit_source.specs.ReadFiles.{AreOf, source_path};
 
     ghost Value = { List File };
 
     ghost view = { λ f. f.tree.now };
 
-    ghost invariant = { λ f. IsWithinLimits f.tree.now × AreOf (text_in f.tree.now) f.read.items };
+    ghost invariant = { λ f. IsWithinLimits f.tree.now × (AreOf (text_in f.tree.now) f.read.items
+        × AreRising source_path f.read.items) };
 }
 
 impl<'a> UnitFiles<'a> {
@@ -79,28 +82,35 @@ impl<'a> UnitFiles<'a> {
     }
 
     // The file at a path, with its first reading.
-    #[tactic(auto, using(crate::proofs::FileLemmas::found_is, crate::proofs::FileLemmas::of_push, crate::proofs::FileLemmas::file_within))]
+    #[tactic(auto, using(crate::proofs::FileLemmas::file_within))]
     pub(crate) fn file(&mut self, path: &Path) -> Result<Option<SourceFile>, AllocError>
         ensures value { IfOk result (λ found. found ≡ source_at (text_in self.old) path.now) }
         ensures files { self.new ≡ self.old }
     {
-        if let Some(file) = find(&self.read, path) {
-            return Ok(Some(file.copy()?));
-        }
+        let at = match place_of(&self.read, path) {
+            Ok(at) => return Ok(Some(self.read[at].copy()?)),
+            Err(at) => at,
+        };
         let Some(file) = self.tree.get(path) else {
             return Ok(None);
         };
         let source = SourceFile::read(self.alloc, path.copy()?, file.text.copy()?)?;
-        self.read.push(source.copy()?)?;
+        self.read.insert(at, source.copy()?)?;
         Ok(Some(source))
     }
 }
 
-// The one of these files that has the path.
-fn find<'f>(files: &'f [SourceFile], path: &Path) -> Option<&'f SourceFile>
-    ensures { option_copied result ≡ find (λ file. bytes_eq file.path path.now) files.now }
+// The index of the file with this path, or the one at which it would stand.
+fn place_of(files: &[SourceFile], path: &Path) -> Result<usize, usize>
+    requires { AreRising source_path files.now }
+    ensures { IsPlace source_path path.now files.now result }
 {
-    files
-        .iter()
-        .find(|file| file.path().as_str() == path.as_str())
+    files.binary_search_by(|file| compare(file, path))
+}
+
+// How the path of a file stands to this one.
+fn compare(file: &SourceFile, path: &Path) -> Ordering
+    ensures { result ≡ path_cmp file.now.path path.now }
+{
+    file.path().as_bytes().cmp(path.as_bytes())
 }

@@ -6,7 +6,7 @@ ghost use Rattle.unit_source.specs.ReadFirst.{and_name, and_part, told, told_beh
 ghost use Rattle.unit_source.specs.ReadParts.{in_part, in_parts};
 
 use crate::WrittenDirective;
-use crate::chain::{chain_with, contains, included_path};
+use crate::chain::{Chain, included_path};
 use crate::files::UnitFiles;
 use crate::part::Part;
 use crate::source_file::SourceFile;
@@ -119,7 +119,7 @@ fn push_directives(directives: &mut Listed<WrittenDirective>, part: &Part) -> Re
 #[tactic(auto, using(crate::proofs::FirstLemmas::first_step, crate::proofs::FirstLemmas::first_end))]
 pub(crate) fn read_first(
     files: &mut UnitFiles,
-    chain: &[Path],
+    chain: &Chain,
     deep: usize,
     file: &SourceFile,
     found: &mut First,
@@ -131,8 +131,8 @@ pub(crate) fn read_first(
     if deep == 0 {
         return Ok(());
     }
-    let longer = chain_with(files.alloc(), file.path(), chain)?;
-    read_parts(files, longer.as_slice(), deep - 1, file.parts(), found)
+    let longer = Chain::entered(file.path(), &*chain);
+    read_parts(files, &longer, deep - 1, file.parts(), found)
 }
 
 // Adds parts of the chain's first file, and behind each the first readings of the file that it
@@ -140,7 +140,7 @@ pub(crate) fn read_first(
 #[cycle(first)]
 fn read_parts(
     files: &mut UnitFiles,
-    chain: &[Path],
+    chain: &Chain,
     deep: usize,
     parts: &[Part],
     found: &mut First,
@@ -162,7 +162,7 @@ fn read_parts(
 #[tactic(auto, using(crate::proofs::FirstLemmas::part_followed, crate::proofs::FirstLemmas::part_ended))]
 fn read_part(
     files: &mut UnitFiles,
-    chain: &[Path],
+    chain: &Chain,
     deep: usize,
     part: &Part,
     found: &mut First,
@@ -185,7 +185,7 @@ fn read_part(
 #[tactic(auto, using(crate::proofs::FirstLemmas::behind_none, crate::proofs::FirstLemmas::behind_name))]
 pub(crate) fn read_included(
     files: &mut UnitFiles,
-    chain: &[Path],
+    chain: &Chain,
     deep: usize,
     directive: &WrittenDirective,
     found: &mut First,
@@ -199,7 +199,7 @@ pub(crate) fn read_included(
         return Ok(());
     };
     found.push_name(&path)?;
-    if contains(chain, &path) {
+    if chain.contains(&path) {
         return Ok(());
     }
     let Some(bytes) = files.bytes_at(&path) else {

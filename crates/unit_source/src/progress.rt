@@ -8,6 +8,7 @@ ghost use Rattle.unit_source.specs.Volume.{has_room, one_file};
 
 use crate::WrittenDirective;
 use crate::brought::read_brought;
+use crate::chain::Chain;
 use crate::files::UnitFiles;
 use crate::volume::Volume;
 use page_pieces::{Brought, Prefixes};
@@ -74,7 +75,7 @@ impl Progress {
     pub fn read_brought(
         &mut self,
         files: &mut UnitFiles,
-        chain: &[Path],
+        chain: &Chain,
         bytes: usize,
         own: &[WrittenDirective],
     ) -> Result<Brought, AllocError>

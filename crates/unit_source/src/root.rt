@@ -8,6 +8,7 @@ ghost use Rattle.unit_source.specs.Root.{rooted};
 ghost use Rattle.unit_source.specs.Volume.{one_file};
 
 use crate::brought::push_names;
+use crate::chain::Chain;
 use crate::files::UnitFiles;
 use crate::first::{First, MAX_CHAIN, read_first};
 use crate::progress::Progress;
@@ -58,8 +59,8 @@ fn first_reading(files: &mut UnitFiles, source: &SourceFile) -> Result<First, Al
     ensures files { files.new ≡ files.old }
 {
     let mut first = First::new(files.alloc(), Volume::one(source.text().len()));
-    let outside: Listed<Path> = Listed::empty(files.alloc());
-    read_first(files, outside.as_slice(), MAX_CHAIN, source, &mut first)?;
+    let outside = Chain::empty();
+    read_first(files, &outside, MAX_CHAIN, source, &mut first)?;
     Ok(first)
 }
 
@@ -78,12 +79,12 @@ pub(crate) fn read_twice(
     let bytes = source.text().len();
     let first = first_reading(files, source)?;
     let settings = decided_settings(alloc, first.directives(), in_tag)?;
-    let outside: Listed<Path> = Listed::empty(alloc);
+    let outside = Chain::empty();
     let mut progress = Progress::new(alloc, bytes);
     let nodes = read_file(
         files,
         &settings,
-        outside.as_slice(),
+        &outside,
         MAX_CHAIN,
         0,
         source,

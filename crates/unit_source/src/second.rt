@@ -10,6 +10,7 @@ ghost use Rattle.unit_source.specs.Volume.{one_file};
 
 use crate::PlacedNode;
 use crate::brought::read_brought;
+use crate::chain::Chain;
 use crate::files::UnitFiles;
 use crate::placing::file_nodes;
 use crate::progress::Progress;
@@ -47,7 +48,7 @@ fn page_under(
 pub(crate) fn read_alone(
     files: &mut UnitFiles,
     settings: &PageSettings,
-    chain: &[Path],
+    chain: &Chain,
     source: &SourceFile,
     progress: &mut Progress,
 ) -> Result<Alone, AllocError>

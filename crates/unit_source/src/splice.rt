@@ -7,7 +7,7 @@ ghost use Rattle.unit_source.specs.ReadSteps.{both_taken, found_in, taken};
 ghost use Rattle.unit_source.specs.Splice.{file_nodes, nodes_read, room_read, spliced_within};
 ghost use Rattle.unit_source.specs.Splice.{target_read, text_read};
 
-use crate::chain::{chain_with, contains, included_path};
+use crate::chain::{Chain, included_path};
 use crate::files::UnitFiles;
 use crate::fill::fill_nodes;
 use crate::found::FoundNodes;
@@ -17,9 +17,9 @@ use crate::source_file::SourceFile;
 use crate::steps::{Step, add_steps};
 use crate::{Entry, PlacedNode, WrittenDirective};
 use page_pieces::Brought;
-use pg_text::{Listed, Path};
+use pg_text::Path;
 use pg_value::PageSettings;
-use std::alloc::{AllocError, Global};
+use std::alloc::AllocError;
 use std::collections::VecDeque;
 
 // A file that is read: under what settings, within which files, with what its include directives
@@ -27,7 +27,7 @@ use std::collections::VecDeque;
 #[derive(Drop)]
 pub(crate) struct InFile<'f> {
     settings: &'f PageSettings,
-    chain: Listed<Path>,
+    chain: Chain<'f>,
     brought: Brought,
     deep: usize,
 }
@@ -39,7 +39,7 @@ pub(crate) struct InFile<'f> {
 pub(crate) fn read_file(
     files: &mut UnitFiles,
     settings: &PageSettings,
-    chain: &[Path],
+    chain: &Chain,
     deep: usize,
     around: usize,
     source: &SourceFile,
@@ -57,10 +57,10 @@ pub(crate) fn read_file(
     if deep == 0 {
         return Ok(Vec::new(alloc));
     }
-    let longer = chain_with(alloc, source.path(), chain)?;
-    let alone = read_alone(files, settings, longer.as_slice(), source, progress)?;
+    let longer = Chain::entered(source.path(), &*chain);
+    let alone = read_alone(files, settings, &longer, source, progress)?;
     let file = InFile {
-        settings,
+        settings: &*settings,
         chain: longer,
         brought: alone.brought,
         deep: deep - 1,
@@ -183,7 +183,7 @@ fn enter_path(
     ensures files { files.new ≡ files.old }
 {
     let alloc = files.alloc();
-    if contains(file.chain.as_slice(), path) {
+    if file.chain.contains(path) {
         progress.push_name(path)?;
         return Ok(FoundNodes::nothing(alloc, Entry::Cycle));
     }
@@ -248,7 +248,7 @@ fn enter_within(
     let nodes = read_file(
         files,
         file.settings,
-        file.chain.as_slice(),
+        &file.chain,
         file.deep,
         around,
         source,
