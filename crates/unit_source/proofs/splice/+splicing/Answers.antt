@@ -38,7 +38,7 @@ pub read_file-returns-clause-nodes : goal.read_file-returns-clause-nodes
 read_file-returns-clause-nodes t c =
     let files = text_in c.args.files.now in
     let settings = c.args.settings.now in
-    let longer = c.entered.result in
+    let longer = c.entered-longer.result in
     let own = own_directives c.args.source.now.path c.args.source.now.text in
     let names = brought_names (firsts_by files longer (one_file (length c.args.source.now.text)) own) in
     let read = include_read (spliced_within (c.args.deep - 1) files settings longer) files longer in
@@ -62,7 +62,7 @@ pub read_file-returns-clause-progress : goal.read_file-returns-clause-progress
 read_file-returns-clause-progress t c =
     let files = text_in c.args.files.now in
     let settings = c.args.settings.now in
-    let longer = c.entered.result in
+    let longer = c.entered-longer.result in
     let own = own_directives c.args.source.now.path c.args.source.now.text in
     let names = brought_names (firsts_by files longer (one_file (length c.args.source.now.text)) own) in
     let read = include_read (spliced_within (c.args.deep - 1) files settings longer) files longer in
