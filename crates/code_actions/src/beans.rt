@@ -19,7 +19,7 @@ use crate::variables::{name_of, scoped};
 use code_expressions::{coercion, constant};
 use code_forms::{arranged, ensured, operation};
 use page_acts::Property;
-use page_code::{Bean, Code, Coercion, Op, PropertyMode, Shape};
+use page_code::{Bean, Code, Coercion, Op, PropertyMode, Shape, Shared};
 use pg_text::{Listed, Place, Text};
 use pg_value::{Attrs, Scope, Value};
 use std::alloc::{AllocError, Global};
@@ -110,7 +110,7 @@ pub fn set_property(
     let name = name_of(action.name)?;
     match action.property {
         Property::Every => {
-            let op = Op::SetProperty(name, PropertyMode::Parameters);
+            let op = Op::SetProperty(name, Shared::new(alloc, PropertyMode::Parameters)?);
             arranged_for(alloc, ground, place, op, &[], names)
         }
         Property::One {
@@ -124,14 +124,14 @@ pub fn set_property(
                     property,
                     place: place_of_value,
                 };
-                let op = Op::SetProperty(name, mode);
+                let op = Op::SetProperty(name, Shared::new(alloc, mode)?);
                 arranged_for(alloc, ground, place, op, &["value"], names)
             } else {
                 let mode = PropertyMode::Parameter {
                     property,
                     parameter: parameter.copy()?,
                 };
-                let op = Op::SetProperty(name, mode);
+                let op = Op::SetProperty(name, Shared::new(alloc, mode)?);
                 arranged_for(alloc, ground, place, op, &[], names)
             }
         }

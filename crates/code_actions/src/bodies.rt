@@ -11,7 +11,7 @@ use crate::variables::{name_of, sets_or_removes};
 use code_expressions::kept;
 use code_forms::{arranged, operation};
 use page_acts::Variable;
-use page_code::{Code, Op, PropertyMode, Shape};
+use page_code::{Code, Op, PropertyMode, Shape, Shared};
 use pg_text::{Listed, Place, Text};
 use std::alloc::{AllocError, Global};
 
@@ -51,7 +51,7 @@ pub(crate) fn set_entry(
     ensures { IfOk result (λ code. code ≡ entry_by ground.now place.now target.now names.now body) }
 {
     let mut code = with_value_or_body(alloc, ground, place, "property", names, body)?;
-    let op = Op::SetProperty(name_of(target)?, PropertyMode::Entry);
+    let op = Op::SetProperty(name_of(target)?, Shared::new(alloc, PropertyMode::Entry)?);
     code.join(operation(alloc, ground, place, op)?)?;
     Ok(code)
 }

@@ -14,7 +14,7 @@ pub(crate) fn call_fits(code: &[Cell], next: usize, open: Open<'_>, call: &CallO
         open.entry.catches.now call.now }
 {
     match call {
-        CallOut::Tag(call) => tag_call_fits(code, next, open, call),
+        CallOut::Tag(call) => tag_call_fits(code, next, open, call.get()),
         CallOut::Body | CallOut::Fragment(_) => carries_same(code, next, open),
         CallOut::Include { params, .. } => address_call_fits(code, next, open, *params),
         CallOut::Import => address_call_fits(code, next, open, 0),

@@ -28,10 +28,11 @@ pub(crate) fn carries_more(
     let Some(cell) = code.get(at) else {
         return false;
     };
-    is_more(cell.shape.values, open.values, values)
-        && is_more(cell.shape.bodies, open.bodies, bodies)
-        && is_more(cell.shape.loops, open.loops, loops)
-        && are_same(cell.shape.catches.as_slice(), open.catches)
+    let there = cell.shape.get();
+    is_more(there.values, open.values, values)
+        && is_more(there.bodies, open.bodies, bodies)
+        && is_more(there.loops, open.loops, loops)
+        && are_same(there.catches.as_slice(), open.catches)
 }
 
 /// The place behind so many cells is in the code, and so many values more stand open there.
@@ -72,10 +73,11 @@ pub(crate) fn carries_catch(code: &[Cell], at: usize, open: Open<'_>) -> bool
     let Some(cell) = code.get(at) else {
         return false;
     };
-    cell.shape.values == open.values
-        && cell.shape.bodies == open.bodies
-        && cell.shape.loops == open.loops
-        && opens_catch(cell.shape.catches.as_slice(), open)
+    let there = cell.shape.get();
+    there.values == open.values
+        && there.bodies == open.bodies
+        && there.loops == open.loops
+        && opens_catch(there.catches.as_slice(), open)
 }
 
 /// The innermost catch began where as much stood open as now, and the place is in the code and has

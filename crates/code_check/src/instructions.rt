@@ -40,7 +40,7 @@ pub(crate) fn instr_fits(code: &[Cell], pc: usize, open: Open<'_>, instr: &Instr
         Instr::Ensure { size, .. } => {
             carries_same(code, next, open) && carries_ahead(code, next, *size, open, 0)
         }
-        Instr::LoopStart(kind) => loop_fits(code, next, open, kind),
+        Instr::LoopStart(kind) => loop_fits(code, next, open, kind.get()),
         Instr::LoopNext(size) => round_fits(code, pc, *size, open),
         Instr::CatchStart(size) => {
             carries_catch(code, next, open) && carries_ahead(code, next, *size, open, 1)

@@ -41,6 +41,6 @@ fn is_fit(code: &[Cell], pc: usize, cell: &Cell) -> bool
     requires { pc + 1 < 2 ^ 64 }
     ensures { result ≡ cell_fits code.now pc cell.now }
 {
-    let open = opened(&cell.shape);
+    let open = opened(cell.shape.get());
     is_roomy(open) && instr_fits(code, pc, open, &cell.instr)
 }

@@ -5,7 +5,7 @@ use crate::operations::operation;
 use code_check::CheckedCode;
 use page_code::{
     Bean, CallBody, CallOut, Code, Fragment, Instr, Leave, LoopKind, Name, Over, ScopedName, Shape,
-    TagCall,
+    Shared, TagCall,
 };
 use pg_text::{Listed, Place, Text, resolve};
 use pg_value::{Scope, Value};
@@ -103,12 +103,13 @@ fn opening(alloc: Global, word: &str, count: usize) -> Result<Option<Instr>, Fai
 
 // A loop over items with so many names.
 fn loop_start(alloc: Global, names: usize) -> Result<Instr, Fail> {
-    Ok(Instr::LoopStart(LoopKind {
+    let kind = LoopKind {
         over: Over::Items,
         names: texts(alloc, names)?,
         variable: Some(name(alloc)?),
         status: None,
-    }))
+    };
+    Ok(Instr::LoopStart(Shared::new(alloc, kind)?))
 }
 
 // A bean, with so many cells behind it that are passed over where it stands.
@@ -122,7 +123,7 @@ fn ensure(alloc: Global, size: usize) -> Result<Instr, Fail> {
     };
     Ok(Instr::Ensure {
         variable,
-        bean,
+        bean: Shared::new(alloc, bean)?,
         size,
     })
 }
@@ -163,12 +164,13 @@ fn tag_call(alloc: Global, body: CallBody, size: usize) -> Result<CallOut, Fail>
     let name = text(alloc)?;
     let mut fragments = Listed::empty(alloc);
     fragments.push(Fragment { name, size })?;
-    Ok(CallOut::Tag(TagCall {
+    let call = TagCall {
         path: resolve(alloc, None, "/WEB-INF/tags/t.tag")?,
         names: texts(alloc, 1)?,
         body,
         fragments,
-    }))
+    };
+    Ok(CallOut::Tag(Shared::new(alloc, call)?))
 }
 
 pub fn place(alloc: Global) -> Result<Place, Fail> {

@@ -1,6 +1,6 @@
 // The operations by their words.
 use crate::accepted::{name, place, text};
-use page_code::{Coercion, HeaderObject, Implicit, Op, PropertyMode, ScopedName};
+use page_code::{Coercion, HeaderObject, Implicit, Op, PropertyMode, ScopedName, Shared};
 use pg_value::{BinOp, Function, Scope, UnOp, Value};
 use std::alloc::Global;
 use std::test::Fail;
@@ -70,7 +70,7 @@ fn of_properties(alloc: Global, word: &str) -> Result<Option<Op>, Fail> {
         "GetProperty" => return Ok(Some(Op::GetProperty(name(alloc)?))),
         _ => return Ok(None),
     };
-    Ok(Some(Op::SetProperty(name(alloc)?, mode)))
+    Ok(Some(Op::SetProperty(name(alloc)?, Shared::new(alloc, mode)?)))
 }
 
 fn scoped(alloc: Global) -> Result<ScopedName, Fail> {

@@ -15,7 +15,7 @@ pub(crate) fn show(alloc: Global, code: &Code) -> Result<String, AllocError> {
 }
 
 fn show_cell(out: &mut String, cell: &Cell) -> Result<(), AllocError> {
-    write!(out, "{} ", cell.shape.values)?;
+    write!(out, "{} ", cell.shape.get().values)?;
     match &cell.instr {
         Instr::Op(op) => show_op(out, op),
         Instr::Jump(size) => write!(out, "Jump {size}"),

@@ -7,7 +7,7 @@ ghost use Rattle.page_code.specs.declared.instr.Instr.TheVariants as instr;
 ghost use Rattle.code_forms.specs.Codes.{handed_code};
 
 use crate::cells::one_cell;
-use page_code::{CallBody, CallOut, Code, Fragment, Instr, Leave, Shape, TagCall};
+use page_code::{CallBody, CallOut, Code, Fragment, Instr, Leave, Shape, Shared, TagCall};
 use pg_text::{Listed, Path, Place, Text};
 use std::alloc::{AllocError, Global};
 
@@ -111,7 +111,8 @@ pub fn tag_call(
         body,
         fragments,
     };
-    let mut code = one_cell(alloc, before, place, Instr::CallOut(CallOut::Tag(call)))?;
+    let call = CallOut::Tag(Shared::new(alloc, call)?);
+    let mut code = one_cell(alloc, before, place, Instr::CallOut(call))?;
     code.join(cells)?;
     Ok(code)
 }

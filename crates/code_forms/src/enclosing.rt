@@ -6,7 +6,7 @@ ghost use Rattle.page_code.specs.declared.op.Op.TheVariants as op;
 ghost use Rattle.pg_value.specs.declared.value.Value.TheVariants as value;
 ghost use Rattle.code_forms.specs.Codes.{catch_code, rounds_code};
 
-use page_code::{Bean, Code, Instr, LoopKind, Op, ScopedName, Shape};
+use page_code::{Bean, Code, Instr, LoopKind, Op, ScopedName, Shape, Shared};
 use pg_text::Place;
 use pg_value::Value;
 use std::alloc::{AllocError, Global};
@@ -45,7 +45,7 @@ pub fn ensured(
     let mut code = Code::new(alloc);
     let instr = Instr::Ensure {
         variable,
-        bean,
+        bean: Shared::new(alloc, bean)?,
         size,
     };
     code.put(ground, place, instr)?;
@@ -69,7 +69,8 @@ pub fn looped(
     let size = part.len();
     let within = ground.looping()?;
     let mut code = Code::new(alloc);
-    code.put(before, place, Instr::LoopStart(kind))?;
+    let start = Instr::LoopStart(Shared::new(alloc, kind)?);
+    code.put(before, place, start)?;
     code.put(&within, place, Instr::Jump(size))?;
     code.join(part)?;
     code.put(&within, place, Instr::LoopNext(size))?;

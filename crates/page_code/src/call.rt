@@ -1,3 +1,4 @@
+use crate::shared::Shared;
 use pg_text::{Listed, Path, Text};
 
 /// The body that a call hands down.
@@ -31,7 +32,7 @@ pub struct TagCall {
 /// What is run inside the run of a code, which goes on behind it.
 #[derive(Drop)]
 pub enum CallOut {
-    Tag(TagCall),
+    Tag(Shared<TagCall>),
     /// The body that this code was given.
     Body,
     /// The fragment of this name that this code was given.

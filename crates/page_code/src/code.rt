@@ -1,8 +1,10 @@
-ghost use Rattle.std.specs.Prelude.{◌≡◌, ◌++◌, ◌∷◌, [], length, slice_get, option_map, OnOk, OnErr};
+ghost use Rattle.std.specs.Prelude.{◌≡◌, ◌++◌, ◌∷◌, [], length, slice_get, option_map, IfOk, OnOk, OnErr};
 ghost use Rattle.page_code.specs.Shapes.{cell};
 
+use crate::compact::compact;
 use crate::instr::Instr;
 use crate::shape::Shape;
+use crate::shared::Shared;
 use pg_text::Place;
 use std::alloc::{AllocError, Global};
 use std::marker::Model;
@@ -12,8 +14,8 @@ use std::marker::Model;
 #[derive(Drop)]
 pub struct Cell {
     pub instr: Instr,
-    pub place: Place,
-    pub shape: Shape,
+    pub place: Shared<Place>,
+    pub shape: Shared<Shape>,
 }
 
 /// The code of a page or of a tag file. Contracts see the list of its cells.
@@ -50,10 +52,11 @@ impl Code {
         ensures ok { OnOk result (self.new ≡ self.old ++ cell shape.now place.now instr ∷ []) }
         ensures err { OnErr result (self.new ≡ self.old) }
     {
+        let alloc = *self.cells.allocator();
         let cell = Cell {
             instr,
-            place: place.copy()?,
-            shape: shape.copy()?,
+            place: Shared::new(alloc, place.copy()?)?,
+            shape: Shared::new(alloc, shape.copy()?)?,
         };
         self.cells.push(cell)?;
         Ok(())
@@ -67,6 +70,16 @@ impl Code {
         let mut cells = other.cells;
         self.cells.append(&mut cells)?;
         Ok(())
+    }
+
+    /// The same code in no more memory than it needs: cells that stand near one another share what
+    /// is equal of their places and shapes, and there is no room for others.
+    pub fn compact(self) -> Result<Self, AllocError>
+        ensures { IfOk result (λ code. code ≡ self) }
+    {
+        Ok(Code {
+            cells: compact(self.cells)?,
+        })
     }
 
     pub fn len(&self) -> usize

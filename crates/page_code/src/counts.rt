@@ -19,7 +19,7 @@ impl Op {
             Op::MakeMap(pairs) => 2 * (*pairs as u128),
             Op::Call(function) => function.arity() as u128,
             Op::Url(params) => values_of_address(*params),
-            Op::SetProperty(_, mode) => mode.takes(),
+            Op::SetProperty(_, mode) => mode.get().takes(),
         }
     }
 

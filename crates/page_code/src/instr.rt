@@ -2,6 +2,7 @@ use crate::bean::Bean;
 use crate::call::{CallOut, Leave};
 use crate::op::Op;
 use crate::operands::{LoopKind, ScopedName};
+use crate::shared::Shared;
 
 /// An instruction. A jump names how many cells it passes over, and `LoopNext` how many it goes
 /// back.
@@ -23,10 +24,10 @@ pub enum Instr {
     /// Jumps where the variable stands; else it is set to the bean.
     Ensure {
         variable: ScopedName,
-        bean: Bean,
+        bean: Shared<Bean>,
         size: usize,
     },
-    LoopStart(LoopKind),
+    LoopStart(Shared<LoopKind>),
     /// Begins the next round so many cells before, or ends the innermost loop.
     LoopNext(usize),
     /// Opens a catch. A fault that it takes goes on behind so many cells, with its record pushed

@@ -5,12 +5,14 @@
 mod bean;
 mod call;
 mod code;
+mod compact;
 mod counts;
 mod instr;
 mod name;
 mod op;
 mod operands;
 mod shape;
+mod shared;
 
 pub use bean::Bean;
 pub use call::{CallBody, CallOut, Fragment, Leave, TagCall};
@@ -21,3 +23,4 @@ pub use name::{MAX_NAME_BYTES, Name};
 pub use op::Op;
 pub use operands::{Coercion, HeaderObject, Implicit, LoopKind, Over, PropertyMode, ScopedName};
 pub use shape::{Catches, Level, Shape};
+pub use shared::Shared;

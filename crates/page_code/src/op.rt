@@ -1,5 +1,6 @@
 use crate::name::Name;
 use crate::operands::{Coercion, HeaderObject, Implicit, PropertyMode, ScopedName};
+use crate::shared::Shared;
 use pg_text::Text;
 use pg_value::{BinOp, Function, Scope, UnOp, Value};
 
@@ -44,7 +45,7 @@ pub enum Op {
     /// Removes the variables of this name from all scopes.
     RemoveAll(Name),
     /// Sets properties of the variable of this name.
-    SetProperty(Name, PropertyMode),
+    SetProperty(Name, Shared<PropertyMode>),
     /// The property on top of the variable of this name.
     GetProperty(Name),
 }

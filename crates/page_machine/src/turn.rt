@@ -75,7 +75,7 @@ pub(crate) fn run_code<'a, W: World>(
         };
         match quick(alloc, seat, op, &mut opened, world) {
             Ok(()) => pc += 1,
-            Err(failed) => match fail(alloc, failed, &cell.place, &mut opened, world) {
+            Err(failed) => match fail(alloc, failed, cell.place.get(), &mut opened, world) {
                 Flow::Go(to) => pc = to,
                 Flow::Over(end) => return end,
             },
@@ -169,7 +169,7 @@ fn call_out<W: World>(
     ensures left { opened.new.left ≡ opened.old.left }
 {
     match what {
-        CallOut::Tag(call) => tag_call(alloc, &*at, records, call, opened, world),
+        CallOut::Tag(call) => tag_call(alloc, &*at, records, call.get(), opened, world),
         CallOut::Body => given_call(alloc, at, records, None, opened, world),
         CallOut::Fragment(name) => given_call(alloc, at, records, Some(name), opened, world),
         CallOut::Include { flush, params } => {

@@ -58,7 +58,7 @@ pub(crate) fn land<W: World>(
 {
     let made = match made {
         Ok(made) => made,
-        Err(failed) => return fail(alloc, failed, &at.cell.place, opened, world),
+        Err(failed) => return fail(alloc, failed, at.cell.place.get(), opened, world),
     };
     let Some(value) = made else {
         return Flow::Go(at.pc + 1);
@@ -88,6 +88,6 @@ pub(crate) fn land_done<W: World>(
 {
     match done {
         Ok(()) => Flow::Go(at.pc + 1),
-        Err(failed) => fail(alloc, failed, &at.cell.place, opened, world),
+        Err(failed) => fail(alloc, failed, at.cell.place.get(), opened, world),
     }
 }

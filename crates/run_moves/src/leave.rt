@@ -60,7 +60,7 @@ pub(crate) fn leave<W: World>(
 {
     match how {
         Leave::End => Flow::Over(End::Normal),
-        Leave::Redirect => redirect_away(alloc, &at.cell.place, opened, world),
+        Leave::Redirect => redirect_away(alloc, at.cell.place.get(), opened, world),
         Leave::Forward(params) => forward_away(alloc, at, *params, opened, world),
     }
 }
@@ -110,7 +110,7 @@ fn forward_away<W: World>(
             let Forward { path, params, left } = goal;
             Flow::Over(End::Forward { path, params, left })
         }
-        Err(failed) => fail(alloc, failed, &at.cell.place, opened, world),
+        Err(failed) => fail(alloc, failed, at.cell.place.get(), opened, world),
     }
 }
 

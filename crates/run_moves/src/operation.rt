@@ -50,7 +50,7 @@ pub(crate) fn operation<W: World>(
         return land_done(alloc, at, done, opened, world);
     }
     match op {
-        Op::SetProperty(name, mode) => match mode {
+        Op::SetProperty(name, mode) => match mode.get() {
             PropertyMode::Value { property, place } => {
                 let setting = Setting {
                     name,
@@ -136,7 +136,7 @@ fn set_value<W: World>(
     };
     let found = match find_property(setting.name, setting.property, world) {
         Ok(found) => found,
-        Err(failed) => return fail(alloc, failed, &at.cell.place, opened, world),
+        Err(failed) => return fail(alloc, failed, at.cell.place.get(), opened, world),
     };
     let made = match replaced(alloc, &found.old, &value) {
         Ok(made) => made,
@@ -144,6 +144,6 @@ fn set_value<W: World>(
     };
     match write_back(found, setting.property, made, setting.name, world) {
         Ok(()) => Flow::Go(at.pc + 1),
-        Err(failed) => fail(alloc, failed, &at.cell.place, opened, world),
+        Err(failed) => fail(alloc, failed, at.cell.place.get(), opened, world),
     }
 }

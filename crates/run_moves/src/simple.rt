@@ -62,12 +62,12 @@ pub fn step<W: World>(
         } => {
             let ensured = Ensured {
                 variable,
-                bean,
+                bean: bean.get(),
                 size: *size,
             };
             ensure(alloc, at, &ensured, opened, world)
         }
-        Instr::LoopStart(kind) => loop_start(alloc, at, kind, opened, world),
+        Instr::LoopStart(kind) => loop_start(alloc, at, kind.get(), opened, world),
         Instr::LoopNext(size) => loop_next(alloc, at, *size, opened, world),
         Instr::CatchStart(size) => catch_start(pc, *size, opened, world),
         Instr::CatchEnd => catch_end(pc, opened, world),

@@ -82,7 +82,7 @@ fn checked(code: Code) -> Result<CheckedCode, AllocError>
     requires { CodeFits code }
     ensures { IfOk result (λ made. made ≡ code) }
 {
-    match CheckedCode::new(code) {
+    match CheckedCode::new(code.compact()?) {
         Ok(made) => Ok(made),
         Err(_) => unreachable!(),
     }

@@ -1,0 +1,71 @@
+// Cells in no more memory than they need.
+ghost use Rattle.std.specs.Prelude.{◌≡◌, IfOk, IsTrue};
+
+use crate::code::Cell;
+use crate::shape::Shape;
+use crate::shared::Shared;
+use pg_text::Place;
+use std::alloc::AllocError;
+
+// How many cells before a cell are searched for what it can share.
+const NEAR: usize = 16;
+
+// The same cells, with no room for others. What is equal is shared by cells that stand near.
+pub(crate) fn compact(cells: Vec<Cell>) -> Result<Vec<Cell>, AllocError>
+    ensures { IfOk result (λ made. made.items ≡ cells.items) }
+{
+    let mut made = Vec::with_capacity(*cells.allocator(), cells.len())?;
+    for cell in cells {
+        let cell = Cell {
+            place: place_near(&made, cell.place)?,
+            shape: shape_near(&made, cell.shape)?,
+            instr: cell.instr,
+        };
+        made.push(cell)?;
+    }
+    Ok(made)
+}
+
+// The same place, that of a near cell if one has it.
+fn place_near(before: &[Cell], place: Shared<Place>) -> Result<Shared<Place>, AllocError>
+    ensures { IfOk result (λ same. same ≡ place) }
+{
+    for cell in before.iter().rev().take(NEAR) {
+        if is_same_place(cell.place.get(), place.get()) {
+            return cell.place.copy();
+        }
+    }
+    Ok(place)
+}
+
+// The same shape, that of a near cell if one has it.
+fn shape_near(before: &[Cell], shape: Shared<Shape>) -> Result<Shared<Shape>, AllocError>
+    ensures { IfOk result (λ same. same ≡ shape) }
+{
+    for cell in before.iter().rev().take(NEAR) {
+        if is_same_shape(cell.shape.get(), shape.get()) {
+            return cell.shape.copy();
+        }
+    }
+    Ok(shape)
+}
+
+// The places are equal.
+fn is_same_place(a: &Place, b: &Place) -> bool
+    ensures { IsTrue result → a.now ≡ b.now }
+{
+    a.byte == b.byte
+        && a.line == b.line
+        && a.column == b.column
+        && a.file.as_bytes() == b.file.as_bytes()
+}
+
+// The shapes are equal.
+fn is_same_shape(a: &Shape, b: &Shape) -> bool
+    ensures { IsTrue result → a.now ≡ b.now }
+{
+    a.values == b.values
+        && a.bodies == b.bodies
+        && a.loops == b.loops
+        && a.catches.as_slice() == b.catches.as_slice()
+}
