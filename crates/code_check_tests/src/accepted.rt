@@ -27,9 +27,10 @@ fn put(alloc: Global, code: &mut Code, cell: &str) -> Result<(), Fail> {
     let Some((open, instruction)) = cell.split_once(' ') else {
         return Err(Fail::new("a cell has no instruction"));
     };
+    let place = place(alloc)?;
     let shape = shape(alloc, open)?;
     let instr = instruction_of(alloc, instruction)?;
-    code.put(&shape, &place(alloc)?, instr)?;
+    code.put(&shape, &place, instr)?;
     Ok(())
 }
 
@@ -66,8 +67,8 @@ fn instruction_of(alloc: Global, words: &str) -> Result<Instr, Fail> {
     if let Some(instr) = opening(alloc, word, count)? {
         return Ok(instr);
     }
-    if let Some(instr) = call(alloc, word, count)? {
-        return Ok(instr);
+    if let Some(what) = call(alloc, word, count)? {
+        return Ok(Instr::CallOut(what));
     }
     match operation(alloc, word)? {
         Some(op) => Ok(Instr::Op(op)),
@@ -114,35 +115,38 @@ fn loop_start(alloc: Global, names: usize) -> Result<Instr, Fail> {
 
 // A bean, with so many cells behind it that are passed over where it stands.
 fn ensure(alloc: Global, size: usize) -> Result<Instr, Fail> {
-    let Some(bean) = Bean::new(Value::Null) else {
-        return Err(Fail::new("the value is too large"));
-    };
     let variable = ScopedName {
         scope: Scope::Page,
         name: name(alloc)?,
     };
-    Ok(Instr::Ensure {
-        variable,
-        bean: Shared::new(alloc, bean)?,
-        size,
-    })
+    match Bean::new(Value::Null) {
+        Some(bean) => Ok(Instr::Ensure {
+            variable,
+            bean: Shared::new(alloc, bean)?,
+            size,
+        }),
+        None => Err(Fail::new("the value is too large")),
+    }
 }
 
-fn call(alloc: Global, word: &str, count: usize) -> Result<Option<Instr>, Fail> {
-    let what = match word {
-        "Body" => CallOut::Body,
-        "Fragment" => CallOut::Fragment(text(alloc)?),
-        "Include" => CallOut::Include {
+fn call(alloc: Global, word: &str, count: usize) -> Result<Option<CallOut>, Fail> {
+    match word {
+        "Body" => Ok(Some(CallOut::Body)),
+        "Fragment" => Ok(Some(CallOut::Fragment(text(alloc)?))),
+        "Include" => Ok(Some(CallOut::Include {
             flush: true,
             params: count,
-        },
-        "Import" => CallOut::Import,
-        _ => match body_of(alloc, word)? {
-            Some(body) => tag_call(alloc, body, count)?,
-            None => return Ok(None),
-        },
-    };
-    Ok(Some(Instr::CallOut(what)))
+        })),
+        "Import" => Ok(Some(CallOut::Import)),
+        _ => tag(alloc, word, count),
+    }
+}
+
+fn tag(alloc: Global, word: &str, count: usize) -> Result<Option<CallOut>, Fail> {
+    match body_of(alloc, word)? {
+        Some(body) => Ok(Some(tag_call(alloc, body, count)?)),
+        None => Ok(None),
+    }
 }
 
 // What the body of a call of a tag file is.
@@ -161,16 +165,23 @@ fn body_of(alloc: Global, word: &str) -> Result<Option<CallBody>, Fail> {
 
 // The call of a tag file with one attribute, and a fragment of so many cells.
 fn tag_call(alloc: Global, body: CallBody, size: usize) -> Result<CallOut, Fail> {
-    let name = text(alloc)?;
-    let mut fragments = Listed::empty(alloc);
-    fragments.push(Fragment { name, size })?;
+    let path = resolve(alloc, None, "/WEB-INF/tags/t.tag")?;
+    let names = texts(alloc, 1)?;
+    let fragments = fragment(alloc, size)?;
     let call = TagCall {
-        path: resolve(alloc, None, "/WEB-INF/tags/t.tag")?,
-        names: texts(alloc, 1)?,
+        path,
+        names,
         body,
         fragments,
     };
     Ok(CallOut::Tag(Shared::new(alloc, call)?))
+}
+
+fn fragment(alloc: Global, size: usize) -> Result<Listed<Fragment>, AllocError> {
+    let name = text(alloc)?;
+    let mut fragments = Listed::empty(alloc);
+    fragments.push(Fragment { name, size })?;
+    Ok(fragments)
 }
 
 pub fn place(alloc: Global) -> Result<Place, Fail> {

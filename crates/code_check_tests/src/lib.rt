@@ -4,10 +4,8 @@
 #[cfg(test)]
 mod accepted;
 #[cfg(test)]
-mod instructions;
+mod codes;
 #[cfg(test)]
 mod operations;
-#[cfg(test)]
-mod shapes;
 #[cfg(test)]
 mod values;

@@ -60,17 +60,26 @@ fn of_variables(alloc: Global, word: &str) -> Result<Option<Op>, Fail> {
 }
 
 fn of_properties(alloc: Global, word: &str) -> Result<Option<Op>, Fail> {
-    let mode = match word {
-        "SetEntry" => PropertyMode::Entry,
-        "SetProperty" => PropertyMode::Value {
+    let name = name(alloc)?;
+    if word == "GetProperty" {
+        return Ok(Some(Op::GetProperty(name)));
+    }
+    match mode_of(alloc, word)? {
+        Some(mode) => Ok(Some(Op::SetProperty(name, Shared::new(alloc, mode)?))),
+        None => Ok(None),
+    }
+}
+
+fn mode_of(alloc: Global, word: &str) -> Result<Option<PropertyMode>, Fail> {
+    match word {
+        "SetEntry" => Ok(Some(PropertyMode::Entry)),
+        "SetProperty" => Ok(Some(PropertyMode::Value {
             property: text(alloc)?,
             place: place(alloc)?,
-        },
-        "SetParameters" => PropertyMode::Parameters,
-        "GetProperty" => return Ok(Some(Op::GetProperty(name(alloc)?))),
-        _ => return Ok(None),
-    };
-    Ok(Some(Op::SetProperty(name(alloc)?, Shared::new(alloc, mode)?)))
+        })),
+        "SetParameters" => Ok(Some(PropertyMode::Parameters)),
+        _ => Ok(None),
+    }
 }
 
 fn scoped(alloc: Global) -> Result<ScopedName, Fail> {

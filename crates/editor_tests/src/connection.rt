@@ -1,10 +1,10 @@
 use crate::message::{Said, request};
-use crate::word::Word;
 use editor::{Draft, EditorAnswer, EditorFault, answer_text, fault_text, take};
 use http_in::Request;
 use http_out::Status;
 use pg_text::Failure;
-use site_core::SoloPort;
+use site_core::{SoloPort, solo};
+use site_core_tests::{Unsound, Word, opened};
 use site_words::Port;
 use std::alloc::{AllocError, Global};
 
@@ -16,26 +16,46 @@ pub struct Editing {
 }
 
 impl Editing {
-    /// What each message is answered: its status and lines.
-    pub fn told(&mut self, alloc: Global, said: &[Said]) -> Result<String, AllocError> {
-        let mut lines = String::new(alloc);
+    /// An editor with an empty draft over a new site without files, whose journal weighs at most
+    /// `limit`.
+    pub fn open(alloc: Global, limit: u64) -> Result<Self, Failure<Unsound>> {
+        let site = opened(alloc, limit, 1)?;
+        if !site.at_rest() {
+            return Err(Failure::Fault(Unsound));
+        }
+        Ok(Editing {
+            draft: Draft::new(alloc),
+            port: solo(site),
+        })
+    }
+
+    /// The lines, and behind them what each message is answered: its status and lines.
+    pub fn told(
+        &mut self,
+        alloc: Global,
+        mut lines: String,
+        said: &[Said<'_>],
+    ) -> Result<String, AllocError> {
         for one in said {
-            let request = request(alloc, one)?;
-            let answer = taken(alloc, self, &request);
-            lines.push_str(status_line(alloc, &answer)?.as_str())?;
+            lines.push_str(self.answered(alloc, one)?.as_str())?;
         }
         Ok(lines)
     }
-}
 
-/// What a request is answered.
-pub fn taken(
-    alloc: Global,
-    editing: &mut Editing,
-    request: &Request,
-) -> Result<EditorAnswer, Failure<EditorFault>> {
-    editing.port.law();
-    take(alloc, &mut editing.draft, request, &mut editing.port)
+    fn answered(&mut self, alloc: Global, said: &Said<'_>) -> Result<String, AllocError> {
+        let request = request(alloc, said)?;
+        status_line(alloc, &self.taken(alloc, &request))
+    }
+
+    /// What a request is answered.
+    pub fn taken(
+        &mut self,
+        alloc: Global,
+        request: &Request,
+    ) -> Result<EditorAnswer, Failure<EditorFault>> {
+        self.port.law();
+        take(alloc, &mut self.draft, request, &mut self.port)
+    }
 }
 
 /// The status and the lines of an answer.
@@ -44,16 +64,14 @@ pub fn status_line(
     answer: &Result<EditorAnswer, Failure<EditorFault>>,
 ) -> Result<String, AllocError> {
     match answer {
-        Ok(answer) => line(alloc, Status::Ok, answer_text(alloc, answer)?),
-        Err(Failure::Fault(fault)) => line(alloc, fault.status(), fault_text(alloc, *fault)?),
+        Ok(answer) => line(alloc, Status::Ok, &answer_text(alloc, answer)?),
+        Err(Failure::Fault(fault)) => line(alloc, fault.status(), &fault_text(alloc, *fault)?),
         Err(Failure::NoMemory) => String::from_str(alloc, "no memory\n"),
     }
 }
 
-fn line(alloc: Global, status: Status, text: Vec<u8>) -> Result<String, AllocError> {
-    let mut line = String::from_str(alloc, status.as_str())?;
-    line.push_str(": ")?;
-    line.push_str(str::from_utf8(&text).unwrap_or("no text"))?;
-    line.push_str("\n")?;
-    Ok(line)
+fn line(alloc: Global, status: Status, text: &[u8]) -> Result<String, AllocError> {
+    let status = status.as_str();
+    let text = str::from_utf8(text).unwrap_or("no text");
+    format!(in alloc; "{status}: {text}\n")
 }

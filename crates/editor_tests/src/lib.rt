@@ -6,12 +6,8 @@ mod connection;
 #[cfg(test)]
 mod message;
 #[cfg(test)]
-mod opening;
-#[cfg(test)]
 mod talks;
 #[cfg(test)]
 mod telling_cases;
 #[cfg(test)]
 mod tests;
-#[cfg(test)]
-mod word;

@@ -1,20 +1,38 @@
 // What editors say one after the other, and what they are answered.
 use crate::message::Said;
-use crate::opening::AMPLE;
+use site_core_tests::AMPLE;
 
 /// The messages of an editor to a site whose journal weighs at most `limit`, and a line for each
 /// answer.
 #[derive(Clone, Copy)]
 pub struct Talk<'a> {
     pub limit: u64,
+    /// What is said first, again and again; of its answers the last is told.
+    pub often: Often<'a>,
     pub said: &'a [Said<'a>],
     pub told: &'a str,
 }
 
-pub const TALKS: [Talk<'static>; 7] = [
+/// A message about one file, and how often it is said.
+#[derive(Clone, Copy)]
+pub struct Often<'a> {
+    pub method: &'a str,
+    /// How many bytes its body has.
+    pub size: usize,
+    pub times: u32,
+}
+
+const NEVER: Often<'static> = Often {
+    method: "",
+    size: 0,
+    times: 0,
+};
+
+pub const TALKS: [Talk<'static>; 10] = [
     // Files are put and deleted.
     Talk {
         limit: AMPLE,
+        often: NEVER,
         said: &[
             Said("PUT", "/_editor/files/a.jsp", b"hi"),
             Said("PUT", "/_editor/files/a.jsp", b""),
@@ -26,6 +44,7 @@ pub const TALKS: [Talk<'static>; 7] = [
     // A path stands for itself.
     Talk {
         limit: AMPLE,
+        often: NEVER,
         said: &[
             Said("PUT", "/_editor/files/", b""),
             Said("PUT", "/_editor/files/a/../b", b""),
@@ -40,6 +59,7 @@ pub const TALKS: [Talk<'static>; 7] = [
     // Faults of a draft come in their order.
     Talk {
         limit: AMPLE,
+        often: NEVER,
         said: &[
             Said("PUT", "/_editor/files/..?", b"\xff"),
             Said("PATCH", "/_editor/files/..", b"\xff"),
@@ -52,6 +72,7 @@ pub const TALKS: [Talk<'static>; 7] = [
     // A draft is published, and then empty.
     Talk {
         limit: AMPLE,
+        often: NEVER,
         said: &[
             Said("PUT", "/_editor/files/a.jsp", b"hi"),
             Said("POST", "/_editor/publish", b""),
@@ -63,6 +84,7 @@ pub const TALKS: [Talk<'static>; 7] = [
     // A base has to be the latest version.
     Talk {
         limit: AMPLE,
+        often: NEVER,
         said: &[
             Said("PUT", "/_editor/files/a.jsp", b"hi"),
             Said("POST", "/_editor/publish?base=1", b""),
@@ -76,6 +98,7 @@ pub const TALKS: [Talk<'static>; 7] = [
     // What no editor takes is a bad message.
     Talk {
         limit: AMPLE,
+        often: NEVER,
         said: &[
             Said("POST", "/_editor/publish?base=x", b""),
             Said("POST", "/_editor/publish?base=", b""),
@@ -91,6 +114,7 @@ pub const TALKS: [Talk<'static>; 7] = [
     // A full journal leaves the draft.
     Talk {
         limit: 200,
+        often: NEVER,
         said: &[
             Said("POST", "/_editor/publish", b""),
             Said("PUT", "/_editor/files/a.jsp", b"0123456789"),
@@ -102,25 +126,14 @@ pub const TALKS: [Talk<'static>; 7] = [
         ],
         told: "200 OK: version 1\n200 OK: draft 1\n200 OK: version 2\n200 OK: draft 1\n409 Conflict: Stale 2\n503 Service Unavailable: JournalFull 176 0\n200 OK: draft 2\n",
     },
-];
-
-/// The same behind one message that is said again and again, of whose answers the last is told.
-#[derive(Clone, Copy)]
-pub struct Repeated<'a> {
-    pub method: &'a str,
-    /// How many bytes its body has.
-    pub size: usize,
-    pub times: u32,
-    pub said: &'a [Said<'a>],
-    pub told: &'a str,
-}
-
-pub const REPEATED: [Repeated<'static>; 3] = [
     // A draft has at most 1,024 edits.
-    Repeated {
-        method: "DELETE",
-        size: 0,
-        times: 1_024,
+    Talk {
+        limit: AMPLE,
+        often: Often {
+            method: "DELETE",
+            size: 0,
+            times: 1_024,
+        },
         said: &[
             Said("DELETE", "/_editor/files/a", b""),
             Said("PUT", "/_editor/files/a", b"\xff"),
@@ -130,10 +143,13 @@ pub const REPEATED: [Repeated<'static>; 3] = [
         told: "200 OK: draft 1024\n413 Content Too Large: DraftTooLarge\n400 Bad Request: NotUtf8\n200 OK: version 1\n200 OK: draft 1\n",
     },
     // A draft has at most 16,777,216 bytes.
-    Repeated {
-        method: "PUT",
-        size: 2_097_152,
-        times: 8,
+    Talk {
+        limit: AMPLE,
+        often: Often {
+            method: "PUT",
+            size: 2_097_152,
+            times: 8,
+        },
         said: &[
             Said("PUT", "/_editor/files/a", b"x"),
             Said("PUT", "/_editor/files/a", b""),
@@ -141,10 +157,13 @@ pub const REPEATED: [Repeated<'static>; 3] = [
         told: "200 OK: draft 8\n413 Content Too Large: DraftTooLarge\n200 OK: draft 9\n",
     },
     // A tree that is too large leaves the draft.
-    Repeated {
-        method: "PUT",
-        size: 1_048_577,
-        times: 1,
+    Talk {
+        limit: AMPLE,
+        often: Often {
+            method: "PUT",
+            size: 1_048_577,
+            times: 1,
+        },
         said: &[
             Said("POST", "/_editor/publish?base=1", b""),
             Said("POST", "/_editor/publish", b""),

@@ -1,13 +1,13 @@
-use pg_text::{BadPath, Failure, Names, Path, Text, resolve};
+use pg_text::{BadPath, Failure, Names, Path, resolve};
 use std::alloc::{AllocError, Global};
 use std::test::Fail;
 
-// What a text stands for, as a text: the path, or the reason why it stands for none.
-fn resolved(alloc: Global, base: Option<&Path>, text: &str) -> Result<Text, AllocError> {
-    match resolve(alloc, base, text) {
-        Ok(path) => Text::copy_of(alloc, path.as_str()),
-        Err(Failure::Fault(reason)) => Text::copy_of(alloc, name_of(reason)),
-        Err(Failure::NoMemory) => Err(AllocError),
+// Whether a text stands for what is meant: the path, or the reason why it stands for none.
+fn is_meant(found: &Result<Path, Failure<BadPath>>, meant: &str) -> bool {
+    match found {
+        Ok(path) => path.as_str() == meant,
+        Err(Failure::Fault(reason)) => name_of(*reason) == meant,
+        Err(Failure::NoMemory) => false,
     }
 }
 
@@ -20,67 +20,73 @@ fn name_of(reason: BadPath) -> &'static str {
     }
 }
 
+const TEXTS: [(&str, &str); 18] = [
+    ("/a.jsp", "/a.jsp"),
+    ("a.jsp", "/a.jsp"),
+    ("/a/./b/../c.jsp", "/a/c.jsp"),
+    ("/a/b/../../c", "/c"),
+    ("/WEB-INF/..", "AboveRoot"),
+    ("/..", "AboveRoot"),
+    ("/a/../../b", "AboveRoot"),
+    ("/.", "AboveRoot"),
+    ("", "Empty"),
+    ("/", "Empty"),
+    ("/a/", "Empty"),
+    ("/a//b", "Empty"),
+    ("//..", "Empty"),
+    ("/a\\b", "BadByte"),
+    ("/a\n//", "BadByte"),
+    ("/\u{7f}", "BadByte"),
+    ("/...", "/..."),
+    ("/ä b", "/ä b"),
+];
+
 #[test]
-fn a_text_stands_for_a_path_or_none(rt: HostRuntime) -> Result<(), Fail> {
-    for &(text, meant) in &[
-        ("/a.jsp", "/a.jsp"),
-        ("a.jsp", "/a.jsp"),
-        ("/a/./b/../c.jsp", "/a/c.jsp"),
-        ("/a/b/../../c", "/c"),
-        ("/WEB-INF/..", "AboveRoot"),
-        ("/..", "AboveRoot"),
-        ("/a/../../b", "AboveRoot"),
-        ("/.", "AboveRoot"),
-        ("", "Empty"),
-        ("/", "Empty"),
-        ("/a/", "Empty"),
-        ("/a//b", "Empty"),
-        ("//..", "Empty"),
-        ("/a\\b", "BadByte"),
-        ("/a\n//", "BadByte"),
-        ("/\u{7f}", "BadByte"),
-        ("/...", "/..."),
-        ("/ä b", "/ä b"),
-    ] {
-        let found = resolved(rt.alloc(), None, text)?;
-        assert_eq!(rt; found.as_str(), meant);
+fn a_text_stands_for_a_path_or_none(rt: HostRuntime) {
+    for &(text, meant) in &TEXTS {
+        assert!(rt; is_meant(&resolve(rt.alloc(), None, text), meant));
     }
-    Ok(())
+}
+
+const TEXTS_IN_SHOP: [(&str, &str); 5] = [
+    ("item.jspf", "/shop/item.jspf"),
+    ("../top.jsp", "/top.jsp"),
+    ("../..", "AboveRoot"),
+    ("/item.jspf", "/item.jspf"),
+    ("", "Empty"),
+];
+
+// The path of a page of the shop, copied.
+fn list(alloc: Global) -> Result<Path, Failure<BadPath>> {
+    Ok(resolve(alloc, None, "/shop/list.jsp")?.copy()?)
+}
+
+fn is_meant_in_shop(alloc: Global, text: &str, meant: &str) -> Result<bool, Failure<BadPath>> {
+    let base = list(alloc)?;
+    Ok(is_meant(&resolve(alloc, Some(&base), text), meant))
 }
 
 #[test]
 fn a_text_stands_in_the_folder_of_its_base(rt: HostRuntime) -> Result<(), Fail> {
-    let base = resolve(rt.alloc(), None, "/shop/list.jsp")?;
-    let base = base.copy()?;
-    for &(text, meant) in &[
-        ("item.jspf", "/shop/item.jspf"),
-        ("../top.jsp", "/top.jsp"),
-        ("../..", "AboveRoot"),
-        ("/item.jspf", "/item.jspf"),
-        ("", "Empty"),
-    ] {
-        let found = resolved(rt.alloc(), Some(&base), text)?;
-        assert_eq!(rt; found.as_str(), meant);
+    for &(text, meant) in &TEXTS_IN_SHOP {
+        assert!(rt; is_meant_in_shop(rt.alloc(), text, meant)?);
     }
     Ok(())
 }
 
-// Whether a text of a stroke and so many letters stands for a path.
-fn is_path(alloc: Global, count: usize) -> Result<bool, AllocError> {
-    let letters = "a".repeat(alloc, count)?;
-    let text = format!(in alloc; "/{letters}")?;
-    Ok(resolve(alloc, None, text.as_str()).is_ok())
+// Whether the path of a file at the top, whose name has so many letters, is no path.
+fn is_too_long(alloc: Global, letters: usize) -> Result<bool, AllocError> {
+    let name = "a".repeat(alloc, letters)?;
+    Ok(is_meant(&resolve(alloc, None, name.as_str()), "TooLong"))
 }
 
 #[test]
 fn a_path_has_at_most_1024_bytes(rt: HostRuntime) -> Result<(), Fail> {
-    for &(count, fits) in &[(1_023, true), (1_024, false)] {
-        assert_eq!(rt; is_path(rt.alloc(), count)?, fits);
-    }
+    assert!(rt; !is_too_long(rt.alloc(), 1_023)? && is_too_long(rt.alloc(), 1_024)?);
     Ok(())
 }
 
-// The names of these paths.
+// The names of some paths.
 fn names_of(alloc: Global, paths: &[&str]) -> Result<Names, Failure<BadPath>> {
     let mut names = Names::empty(alloc);
     for path in paths {
@@ -89,44 +95,45 @@ fn names_of(alloc: Global, paths: &[&str]) -> Result<Names, Failure<BadPath>> {
     Ok(names)
 }
 
-// Names, each ended by a blank.
-fn listed(alloc: Global, names: &Names) -> Result<String, AllocError> {
-    let mut told = String::new(alloc);
-    for name in names.as_slice() {
-        told.push_str(name.as_str())?;
-        told.push(' ')?;
-    }
-    Ok(told)
+/// Whether the names are these.
+pub fn are(names: &Names, wanted: &[&str]) -> bool {
+    let mut each = names.as_slice().iter().zip(wanted);
+    names.len() == wanted.len() && each.all(|(name, wanted)| name.as_str() == *wanted)
 }
 
 const PATHS: [&str; 4] = ["/b", "/a/c", "/b", "/a"];
 
 #[test]
 fn names_are_distinct_and_in_order(rt: HostRuntime) -> Result<(), Fail> {
-    let names = names_of(rt.alloc(), &PATHS)?;
-    let copy = names.copy()?;
-    assert_eq!(rt; listed(rt.alloc(), &copy)?.as_str(), "/a /a/c /b ");
+    assert!(rt;
+        are(
+            &names_of(rt.alloc(), &PATHS)?.copy()?,
+            &["/a", "/a/c", "/b"]
+        )
+    );
     Ok(())
+}
+
+// How many names these are, whether they are none, and how many they are once they were taken out.
+fn counts(names: Names) -> (usize, bool, usize) {
+    let (len, is_empty) = (names.len(), names.is_empty());
+    (len, is_empty, Names::new(names.into_vec()).len())
 }
 
 #[test]
 fn names_are_counted(rt: HostRuntime) -> Result<(), Fail> {
-    let names = names_of(rt.alloc(), &PATHS)?;
-    assert_eq!(rt; (names.len(), names.is_empty()), (3, false));
-    assert_eq!(rt; Names::new(names.into_vec()).len(), 3);
+    assert!(rt; counts(names_of(rt.alloc(), &PATHS)?) == (3, false, 3));
     Ok(())
 }
 
-// Whether the path is among the names of those paths.
+// Whether the path is among the names.
 fn is_among(alloc: Global, path: &str) -> Result<bool, Failure<BadPath>> {
-    let names = names_of(alloc, &PATHS)?;
-    Ok(names.contains(&resolve(alloc, None, path)?))
+    let path = resolve(alloc, None, path)?;
+    Ok(names_of(alloc, &PATHS)?.contains(&path))
 }
 
 #[test]
 fn a_name_is_found(rt: HostRuntime) -> Result<(), Fail> {
-    for &(path, there) in &[("/a/c", true), ("/c", false)] {
-        assert_eq!(rt; is_among(rt.alloc(), path)?, there);
-    }
+    assert!(rt; is_among(rt.alloc(), "/a/c")? && !is_among(rt.alloc(), "/c")?);
     Ok(())
 }

@@ -22,10 +22,11 @@ pub fn prepare(alloc: Global, site: &mut Site<Word>) -> Result<(), Failure<BadPa
 
 /// The errand of each visit with this cookie: it publishes the file anew and looks for it.
 pub fn errand(alloc: Global, cookie: &str) -> Result<Errand, Failure<BadPath>> {
-    let edits = put(alloc, "/a.jsp", 1)?;
+    let cookie = Text::copy_of(alloc, cookie)?;
     let path = resolve(alloc, None, "/a.jsp")?;
+    let edits = put(alloc, "/a.jsp", 1)?;
     Ok(Errand {
-        cookie: Text::copy_of(alloc, cookie)?,
+        cookie,
         edits,
         path,
     })
@@ -35,16 +36,15 @@ pub fn errand(alloc: Global, cookie: &str) -> Result<Errand, Failure<BadPath>> {
 pub fn entries(alloc: Global, history: &History, from: usize) -> Result<String, AllocError> {
     let mut lines = String::new(alloc);
     for entry in history.iter().skip(from) {
-        add_entry(alloc, &mut lines, entry)?;
+        lines.push_str(entry_line(alloc, entry)?.as_str())?;
     }
     Ok(lines)
 }
 
-fn add_entry(alloc: Global, lines: &mut String, entry: &PackedEntry) -> Result<(), AllocError> {
+fn entry_line(alloc: Global, entry: &PackedEntry) -> Result<String, AllocError> {
     let pass = entry.pass();
     let reply = replied(alloc, entry.reply())?;
-    let line = format!(in alloc; "{pass} {reply}\n")?;
-    lines.push_str(line.as_str())
+    format!(in alloc; "{pass} {reply}\n")
 }
 
 /// How many entries of the history have the answers that a site gives which does them again, one
@@ -64,11 +64,15 @@ pub fn agreeing(
 }
 
 fn agrees(alloc: Global, again: &mut Site<Word>, entry: &PackedEntry) -> Result<bool, AllocError> {
+    let given = given(alloc, again, entry)?;
+    Ok(replied(alloc, entry.reply())?.as_str() == given.as_str())
+}
+
+// What the site answers to the entry's operation.
+fn given(alloc: Global, again: &mut Site<Word>, entry: &PackedEntry) -> Result<String, AllocError> {
     let op = op_of(alloc, entry.op())?;
     let outcome = step(alloc, again, entry.pass(), op)?;
-    let wanted = replied(alloc, entry.reply())?;
-    let given = given_text(alloc, &outcome)?;
-    Ok(given.as_str() == wanted.as_str())
+    given_text(alloc, &outcome)
 }
 
 // The operation, to be done again.
@@ -118,17 +122,16 @@ fn given_text(
 }
 
 /// How many fetches of the history found something.
-pub fn hits(alloc: Global, history: &History) -> Result<u64, AllocError> {
+pub fn hits(history: &History) -> u64 {
     let mut count: u64 = 0;
     for entry in history.iter() {
-        if is_hit(alloc, entry)? {
+        if is_hit(entry.reply()) {
             count = count.saturating_add(1);
         }
     }
-    Ok(count)
+    count
 }
 
-fn is_hit(alloc: Global, entry: &PackedEntry) -> Result<bool, AllocError> {
-    let reply = replied(alloc, entry.reply())?;
-    Ok(reply.as_str() == "hit true")
+fn is_hit(reply: ReplyRef<'_>) -> bool {
+    matches!(reply, ReplyRef::Fetched { hit: true })
 }

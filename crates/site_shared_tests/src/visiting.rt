@@ -136,11 +136,9 @@ pub fn finish<P: Compiled, Q: Port<P>>(alloc: Global, port: &mut Q, begun: Begun
 
 // A session's attributes with one more visit.
 fn counted(alloc: Global, attrs: &Attrs) -> Result<Attrs, AllocError> {
+    let name = Text::copy_of(alloc, "n")?;
     let mut counted = Attrs::empty(alloc);
-    counted.insert(
-        Text::copy_of(alloc, "n")?,
-        Value::Int(visits(attrs).saturating_add(1)),
-    )?;
+    counted.insert(name, Value::Int(visits(attrs).saturating_add(1)))?;
     Ok(counted)
 }
 
