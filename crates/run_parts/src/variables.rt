@@ -1,4 +1,4 @@
-ghost use Rattle.std.specs.Prelude.{◌≡◌, ◌≢◌, option_map};
+ghost use Rattle.std.specs.Prelude.{◌≡◌, ◌≢◌, None, option_map};
 ghost use Rattle.page_meaning.specs.Expressions.{variable_or_step};
 ghost use Rattle.page_meaning.specs.Variables.{assign, inner_found, look_up, set_application};
 ghost use Rattle.page_meaning.specs.Variables.{unassign, unassign_all};
@@ -68,6 +68,22 @@ pub fn find<W: World>(strict: bool, name: &Name, world: &mut W) -> Result<Value,
     if let Some(value) = world.scopes().find(name.as_text().as_str()) {
         return Ok(value.copy()?);
     }
+    find_in_application(strict, name, world)
+}
+
+// The same of a variable that none of the scopes has which the run holds.
+#[inline(never)]
+fn find_in_application<W: World>(
+    strict: bool,
+    name: &Name,
+    world: &mut W,
+) -> Result<Value, Failure<RunFault>>
+    requires covered { W.covered world.old }
+    requires nowhere { found (W.variables world.old) name.now ≡ None }
+    ensures covered { W.covered world.new }
+    ensures does { Doing W.reached W.replies datum_of (λ place s. variable_or_step strict place name.now
+        (found s.scopes name.now) s) world.old world.new result }
+{
     let reply = world.ask(AppStep::Get(name.as_text().copy()?))?;
     nowhere(strict, told(reply))
 }

@@ -95,6 +95,7 @@ impl Statuses {
 }
 
 // The status of no round, of which a status of each round can be made.
+#[inline(never)]
 fn blank(alloc: Global, table: &[(Text, Value)]) -> Result<Record, AllocError>
     ensures { IfOk result (λ made. IsStatusOf (map entry_of table.now) made) }
 {
