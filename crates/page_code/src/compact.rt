@@ -2,7 +2,7 @@
 ghost use Rattle.std.specs.Prelude.{◌≡◌, IfOk, IsTrue};
 
 use crate::code::Cell;
-use crate::shape::Shape;
+use crate::shape::{Level, Shape};
 use crate::shared::Shared;
 use pg_text::Place;
 use std::alloc::AllocError;
@@ -16,38 +16,43 @@ pub(crate) fn compact(cells: Vec<Cell>) -> Result<Vec<Cell>, AllocError>
 {
     let mut made = Vec::with_capacity(*cells.allocator(), cells.len())?;
     for cell in cells {
-        let cell = Cell {
-            place: place_near(&made, cell.place)?,
-            shape: shape_near(&made, cell.shape)?,
-            instr: cell.instr,
-        };
+        let cell = sharing(&made, cell)?;
         made.push(cell)?;
     }
     Ok(made)
 }
 
+// The same cell, which shares what it can with the near cells before it.
+fn sharing(before: &[Cell], mut cell: Cell) -> Result<Cell, AllocError>
+    ensures { IfOk result (λ same. same ≡ cell) }
+{
+    cell.place = near_place(before, &cell.place)?;
+    cell.shape = near_shape(before, &cell.shape)?;
+    Ok(cell)
+}
+
 // The same place, that of a near cell if one has it.
-fn place_near(before: &[Cell], place: Shared<Place>) -> Result<Shared<Place>, AllocError>
-    ensures { IfOk result (λ same. same ≡ place) }
+fn near_place(before: &[Cell], place: &Shared<Place>) -> Result<Shared<Place>, AllocError>
+    ensures { IfOk result (λ same. same ≡ place.now) }
 {
     for cell in before.iter().rev().take(NEAR) {
         if is_same_place(cell.place.get(), place.get()) {
             return cell.place.copy();
         }
     }
-    Ok(place)
+    place.copy()
 }
 
 // The same shape, that of a near cell if one has it.
-fn shape_near(before: &[Cell], shape: Shared<Shape>) -> Result<Shared<Shape>, AllocError>
-    ensures { IfOk result (λ same. same ≡ shape) }
+fn near_shape(before: &[Cell], shape: &Shared<Shape>) -> Result<Shared<Shape>, AllocError>
+    ensures { IfOk result (λ same. same ≡ shape.now) }
 {
     for cell in before.iter().rev().take(NEAR) {
         if is_same_shape(cell.shape.get(), shape.get()) {
             return cell.shape.copy();
         }
     }
-    Ok(shape)
+    shape.copy()
 }
 
 // The places are equal.
@@ -67,5 +72,12 @@ fn is_same_shape(a: &Shape, b: &Shape) -> bool
     a.values == b.values
         && a.bodies == b.bodies
         && a.loops == b.loops
-        && a.catches.as_slice() == b.catches.as_slice()
+        && are_same(a.catches.as_slice(), b.catches.as_slice())
+}
+
+// The levels are equal, one by one.
+fn are_same(a: &[Level], b: &[Level]) -> bool
+    ensures { IsTrue result → a.now ≡ b.now }
+{
+    a == b
 }
