@@ -52,13 +52,12 @@ impl Code {
         ensures ok { OnOk result (self.new ≡ self.old ++ cell shape.now place.now instr ∷ []) }
         ensures err { OnErr result (self.new ≡ self.old) }
     {
-        let alloc = *self.cells.allocator();
-        let cell = Cell {
+        let (place, shape) = shared(*self.cells.allocator(), place, shape)?;
+        self.cells.push(Cell {
             instr,
-            place: Shared::new(alloc, place.copy()?)?,
-            shape: Shared::new(alloc, shape.copy()?)?,
-        };
-        self.cells.push(cell)?;
+            place,
+            shape,
+        })?;
         Ok(())
     }
 
@@ -99,4 +98,31 @@ impl Code {
     {
         &self.cells
     }
+}
+
+// A place and a shape that cells can share.
+fn shared(
+    alloc: Global,
+    place: &Place,
+    shape: &Shape,
+) -> Result<(Shared<Place>, Shared<Shape>), AllocError>
+    ensures { IfOk result (λ both. (both.0 ≡ place.now) × (both.1 ≡ shape.now)) }
+{
+    let place = shared_place(alloc, place)?;
+    let shape = shared_shape(alloc, shape)?;
+    Ok((place, shape))
+}
+
+fn shared_place(alloc: Global, place: &Place) -> Result<Shared<Place>, AllocError>
+    ensures { IfOk result (λ made. made ≡ place.now) }
+{
+    let place = place.copy()?;
+    Shared::new(alloc, place)
+}
+
+fn shared_shape(alloc: Global, shape: &Shape) -> Result<Shared<Shape>, AllocError>
+    ensures { IfOk result (λ made. made ≡ shape.now) }
+{
+    let shape = shape.copy()?;
+    Shared::new(alloc, shape)
 }
