@@ -149,9 +149,7 @@ pub fn operate<W: World>(
         Op::SetVar(variable) => none(set_or_remove(variable, &args[0], world)),
         Op::RemoveVar(variable) => none(unassign(variable.scope, &variable.name, world)),
         Op::RemoveAll(name) => none(unassign_all(name, world)),
-        Op::SetProperty(name, mode) => {
-            none(set_property(alloc, seat, name, mode.get(), args, world))
-        }
+        Op::SetProperty(name, mode) => none(set_property(alloc, seat, name, mode, args, world)),
         Op::GetProperty(name) => one(get_property(name, text_of(&args[0]), world)),
         Op::Find(name) => one(find(seat.is_strict(), name, world)),
         Op::Implicit(object) => one(implicit_value(alloc, served, seat, records, *object, world)),

@@ -16,7 +16,7 @@ ghost use Rattle.run_world.specs.Seats.{seat_of};
 
 use crate::variables::{assign, look_up};
 use http_in::Param;
-use page_code::{Name, PropertyMode};
+use page_code::{Name, PropertyMode, Shared};
 use pg_text::{Failure, Text};
 use pg_value::{Attrs, RunFault, Scope, Value};
 use run_values::{
@@ -158,7 +158,7 @@ pub(crate) fn set_property<W: World>(
     alloc: Global,
     seat: &Seat,
     name: &Name,
-    mode: &PropertyMode,
+    mode: &Shared<PropertyMode>,
     args: &[Value],
     world: &mut W,
 ) -> Result<(), Failure<RunFault>>
@@ -169,7 +169,7 @@ pub(crate) fn set_property<W: World>(
     ensures does { Doing W.reached W.replies (λ u. u) (λ place. property_set place name.now mode.now
         (page_run_of (seat_of seat.now)).params (map datum_of args.now)) world.old world.new result }
 {
-    match (mode, args) {
+    match (mode.get(), args) {
         (PropertyMode::Entry, [key, new]) => set_entry(alloc, name, key, new, world),
         (PropertyMode::Parameters, _) => set_all(alloc, name, seat.params(), world),
         (
