@@ -11,15 +11,34 @@ ghost use Rattle.run_parts.specs.Answers.{none_of};
 use crate::at::At;
 use crate::flow::{End, Flow};
 use crate::open::Open;
-use crate::raising::throw;
+use crate::raising::throw_at;
+use page_code::Shared;
 use pg_text::{Failure, Place};
 use pg_value::{RunFault, Value};
 use run_world::World;
 use std::alloc::Global;
 
-/// Goes on where a part's fault leads; where memory was wanting the run is over.
+/// Goes on where a fault of an instruction leads; where memory was wanting the run is over.
 #[inline(never)]
 pub fn fail<W: World>(
+    alloc: Global,
+    failed: Failure<RunFault>,
+    place: &Shared<Place>,
+    opened: &mut Open,
+    world: &mut W,
+) -> Flow
+    requires covered { W.covered world.old }
+    ensures covered { W.covered world.new }
+    ensures acted { Acted W.reached W.replies (failing place.now (open_of opened.old) failed) world.old world.new
+        (open_of opened.new) result }
+    ensures short { failed ≡ failure.NoMemory → (result ≡ flow.Over end.NoMemory) × (world.new ≡ world.old) }
+    ensures left { opened.new.left ≡ opened.old.left }
+{
+    fail_at(alloc, failed, place.get(), opened, world)
+}
+
+// The same of a fault that stands at a place of its own.
+pub(crate) fn fail_at<W: World>(
     alloc: Global,
     failed: Failure<RunFault>,
     place: &Place,
@@ -34,7 +53,7 @@ pub fn fail<W: World>(
     ensures left { opened.new.left ≡ opened.old.left }
 {
     match failed {
-        Failure::Fault(fault) => throw(alloc, fault, place, opened, world),
+        Failure::Fault(fault) => throw_at(alloc, fault, place, opened, world),
         Failure::NoMemory => Flow::Over(End::NoMemory),
     }
 }
@@ -58,7 +77,7 @@ pub(crate) fn land<W: World>(
 {
     let made = match made {
         Ok(made) => made,
-        Err(failed) => return fail(alloc, failed, at.cell.place.get(), opened, world),
+        Err(failed) => return fail(alloc, failed, &at.cell.place, opened, world),
     };
     let Some(value) = made else {
         return Flow::Go(at.pc + 1);
@@ -88,6 +107,6 @@ pub(crate) fn land_done<W: World>(
 {
     match done {
         Ok(()) => Flow::Go(at.pc + 1),
-        Err(failed) => fail(alloc, failed, at.cell.place.get(), opened, world),
+        Err(failed) => fail(alloc, failed, &at.cell.place, opened, world),
     }
 }

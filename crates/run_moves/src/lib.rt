@@ -22,5 +22,5 @@ pub use frequent::{is_quick, quick};
 pub use landing::fail;
 pub use leave::named_path;
 pub use open::Open;
-pub use raising::throw;
+pub use raising::{throw, throw_at};
 pub use simple::step;

@@ -15,7 +15,7 @@ ghost use Rattle.run_world.specs.Known.{ServesSo};
 use crate::at::At;
 use crate::flow::Flow;
 use crate::frequent::{is_quick, quick};
-use crate::landing::{fail, land, land_done};
+use crate::landing::{fail, fail_at, land, land_done};
 use crate::open::Open;
 use page_code::{Name, Op, PropertyMode};
 use pg_text::{Place, Text};
@@ -136,14 +136,14 @@ fn set_value<W: World>(
     };
     let found = match find_property(setting.name, setting.property, world) {
         Ok(found) => found,
-        Err(failed) => return fail(alloc, failed, at.cell.place.get(), opened, world),
+        Err(failed) => return fail(alloc, failed, &at.cell.place, opened, world),
     };
     let made = match replaced(alloc, &found.old, &value) {
         Ok(made) => made,
-        Err(failed) => return fail(alloc, failed, setting.place, opened, world),
+        Err(failed) => return fail_at(alloc, failed, setting.place, opened, world),
     };
     match write_back(found, setting.property, made, setting.name, world) {
         Ok(()) => Flow::Go(at.pc + 1),
-        Err(failed) => fail(alloc, failed, at.cell.place.get(), opened, world),
+        Err(failed) => fail(alloc, failed, &at.cell.place, opened, world),
     }
 }

@@ -11,7 +11,7 @@ ghost use Rattle.run_world.specs.Part.{Changes};
 use crate::flow::{End, Flow};
 use crate::loops::Loops;
 use crate::open::Open;
-use page_code::Name;
+use page_code::{Name, Shared};
 use pg_text::Place;
 use pg_value::RunFault;
 use run_values::fault_record;
@@ -64,8 +64,25 @@ fn fall<W: World>(fault: RunFault, place: &Place, opened: &mut Open, world: &mut
     Flow::Over(End::Raised { fault, place })
 }
 
-/// Takes a fault to the innermost catch, or ends the run.
+/// Takes a fault of an instruction to the innermost catch, or ends the run.
 pub fn throw<W: World>(
+    alloc: Global,
+    fault: RunFault,
+    place: &Shared<Place>,
+    opened: &mut Open,
+    world: &mut W,
+) -> Flow
+    requires covered { W.covered world.old }
+    ensures covered { W.covered world.new }
+    ensures acted { Acted W.reached W.replies (λ s. On (thrown fault place.now s (open_of opened.old)))
+        world.old world.new (open_of opened.new) result }
+    ensures left { opened.new.left ≡ opened.old.left }
+{
+    throw_at(alloc, fault, place.get(), opened, world)
+}
+
+/// The same of a fault that stands at a place of its own.
+pub fn throw_at<W: World>(
     alloc: Global,
     fault: RunFault,
     place: &Place,

@@ -1,12 +1,11 @@
+use Rattle.std.proofs.Common.{subst}
+use Rattle.run_moves.specs.Acted.{Acted}
+use Rattle.run_moves.specs.Landing.{failing}
 use Rattle.run_moves.specs.Opened.{open_of}
-use Rattle.run_moves.proofs.Landings.{failing_as, failing_short}
 use Rattle.run_moves.proofs.landing.fail.Goals as goal
-use Rattle.pg_text.specs.declared.failure.Failure.TheVariants as failure
 
-pub returns-in-Fault-clause-acted : goal.returns-in-Fault-clause-acted
-returns-in-Fault-clause-acted g c =
-    failing_as c.args.place.now (open_of c.args.opened.now) c.args.failed (failure.Fault c.in-Fault.fault) c.args.world.now c.throw.new.world (open_of c.throw.new.opened) c.throw.result c.in-Fault.is
-    c.throw.ensures.acted
-
-pub returns-in-NoMemory-clause-acted : goal.returns-in-NoMemory-clause-acted
-returns-in-NoMemory-clause-acted g c = failing_short c.args.place.now (open_of c.args.opened.now) c.args.failed c.args.world.now (open_of c.args.opened.now) c.in-NoMemory.is
+pub returns-clause-acted : goal.returns-clause-acted
+returns-clause-acted g c =
+    subst
+    (λ place. Acted g.W.World.reached g.W.World.replies (failing place (open_of c.args.opened.now) c.args.failed) c.args.world.now c.fail_at.new.world (open_of c.fail_at.new.opened) c.fail_at.result)
+    c.get.ensures c.fail_at.ensures.acted

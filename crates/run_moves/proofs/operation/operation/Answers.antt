@@ -1,4 +1,4 @@
-use Rattle.std.proofs.Common.{◌∙◌, ap}
+use Rattle.std.proofs.Common.{◌∙◌, ap, sym}
 use Rattle.page_code.specs.declared.instr.Instr.TheVariants as instr
 use Rattle.page_code.specs.declared.op.Op.TheVariants as op
 use Rattle.page_code.specs.declared.operands.PropertyMode.TheVariants as mode
@@ -16,5 +16,5 @@ returns-then-is_quick-clause-acted g c = record {
 pub returns-in-Value-clause-acted : goal.returns-in-Value-clause-acted
 returns-in-Value-clause-acted g c =
     act_plain (seat_at c.args.at.now) c.args.at.now.cell.now.place c.args.at.now.pc (open_of c.args.opened.now) (instr.Op c.args.op.now) (instr.Op (op.SetProperty c.in-SetProperty.name (mode.Value c.in-Value.property c.in-Value.place)))
-    c.args.world.now c.set_value.new.world (open_of c.set_value.new.opened) c.set_value.result (ap instr.Op (c.in-SetProperty.is ∙ ap (op.SetProperty c.in-SetProperty.name) c.in-Value.is))
+    c.args.world.now c.set_value.new.world (open_of c.set_value.new.opened) c.set_value.result (ap instr.Op (c.in-SetProperty.is ∙ ap (op.SetProperty c.in-SetProperty.name) (sym c.get.ensures ∙ c.in-Value.is)))
     (λ serving. c.set_value.ensures.acted serving)

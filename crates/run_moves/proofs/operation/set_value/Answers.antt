@@ -14,8 +14,8 @@ pub returns-in-Err-replaced-clause-acted : goal.returns-in-Err-replaced-clause-a
 returns-in-Err-replaced-clause-acted g c = λ serving.
     let seat = seat_at c.args.at.now in
     unlike c.args.at.now.cell.now.place c.args.setting.now.place.now c.args.setting.now.name.now c.args.setting.now.property.now (datum_of c.in-Some.value) serving seat c.args.at.now.pc (open_of c.args.opened.now) c.pop.new.self c.in-Some.ensures c.args.world.now
-    c.find_property.new.world c.fail-in-Err-replaced.new.world c.in-Ok.found c.in-Err-replaced.failed (open_of c.fail-in-Err-replaced.new.opened) c.fail-in-Err-replaced.result c.in-Ok.ensures.does c.in-Err-replaced.ensures
-    c.fail-in-Err-replaced.ensures.acted c.fail-in-Err-replaced.ensures.short
+    c.find_property.new.world c.fail_at.new.world c.in-Ok.found c.in-Err-replaced.failed (open_of c.fail_at.new.opened) c.fail_at.result c.in-Ok.ensures.does c.in-Err-replaced.ensures
+    c.fail_at.ensures.acted c.fail_at.ensures.short
 
 pub returns-clause-acted : goal.returns-clause-acted
 returns-clause-acted g c = λ serving.

@@ -1,6 +1,7 @@
-use Rattle.std.proofs.Common.{◌+◌, length, refl, subst, arith}
+use Rattle.std.proofs.Common.{◌+◌, ◌≤◌, length, refl, subst, sym, arith}
 use Rattle.std.proofs.lemmas.List.{length-map}
 use Rattle.page_code.specs.declared.instr.Instr.TheVariants as instr
+use Rattle.run_moves.specs.Acted.{Acted}
 use Rattle.run_moves.specs.Opened.{catch_of, open_of}
 use Rattle.run_moves.specs.At.{seat_at}
 use Rattle.run_moves.proofs.Acts.{acted_on}
@@ -72,7 +73,9 @@ jump_null-requires g c =
 pub returns-in-Ensure-clause-acted : goal.returns-in-Ensure-clause-acted
 returns-in-Ensure-clause-acted g c =
     act_plain (seat_at c.args.at.now) c.args.at.now.cell.now.place c.args.at.now.pc (open_of c.args.opened.now) c.args.at.now.cell.now.instr (instr.Ensure c.in-Ensure.variable c.in-Ensure.bean c.in-Ensure.size) c.args.world.now c.ensure.new.world (open_of c.ensure.new.opened) c.ensure.result c.in-Ensure.is
-    (λ serving. c.ensure.ensures.acted)
+    (λ serving. subst
+    (λ bean. Acted g.W.World.reached g.W.World.replies (λ s. act serving (seat_at c.args.at.now) c.args.at.now.cell.now.place c.args.at.now.pc s (open_of c.args.opened.now) (instr.Ensure c.in-Ensure.variable bean c.in-Ensure.size)) c.args.world.now c.ensure.new.world (open_of c.ensure.new.opened) c.ensure.result)
+    c.get.ensures c.ensure.ensures.acted)
 
 pub ensure-requires : goal.ensure-requires
 ensure-requires g c =
@@ -82,12 +85,18 @@ ensure-requires g c =
 pub returns-in-LoopStart-clause-acted : goal.returns-in-LoopStart-clause-acted
 returns-in-LoopStart-clause-acted g c =
     act_plain (seat_at c.args.at.now) c.args.at.now.cell.now.place c.args.at.now.pc (open_of c.args.opened.now) c.args.at.now.cell.now.instr (instr.LoopStart c.in-LoopStart.kind) c.args.world.now c.loop_start.new.world (open_of c.loop_start.new.opened) c.loop_start.result c.in-LoopStart.is
-    (λ serving. c.loop_start.ensures.acted)
+    (λ serving. subst
+    (λ kind. Acted g.W.World.reached g.W.World.replies (λ s. act serving (seat_at c.args.at.now) c.args.at.now.cell.now.place c.args.at.now.pc s (open_of c.args.opened.now) (instr.LoopStart kind)) c.args.world.now c.loop_start.new.world (open_of c.loop_start.new.opened) c.loop_start.result)
+    c.get-in-LoopStart.ensures c.loop_start.ensures.acted)
 
 pub loop_start-requires : goal.loop_start-requires
 loop_start-requires g c =
     let finds = subst (Finds (length (code_of (seat_at c.args.at.now))) c.args.at.now.pc (g.W.World.kept c.args.world.now) (open_of c.args.opened.now)) c.in-LoopStart.is c.requires.finds in
-    record { covered = c.requires.covered; within = omega (arith, finds.1, c.requires.within); filled = finds.0 }
+    record {
+      covered = c.requires.covered;
+      within = omega (arith, finds.1, c.requires.within);
+      filled = subst (λ kind. length kind.names ≤ length c.args.opened.now.stack) (sym c.get-in-LoopStart.ensures) finds.0;
+    }
 
 pub returns-in-LoopNext-clause-acted : goal.returns-in-LoopNext-clause-acted
 returns-in-LoopNext-clause-acted g c =
