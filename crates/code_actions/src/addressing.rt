@@ -12,8 +12,9 @@ ghost use Rattle.code_lowering.specs.Lowering.{url_put};
 
 use crate::calls::import;
 use crate::evaluations::Evaluations;
+use crate::joining::{arranged_before, joined};
 use crate::variables::sets;
-use code_forms::{arranged, call, leave, operation};
+use code_forms::{call, leave, operation};
 use page_acts::Variable;
 use page_code::{CallOut, Code, Leave, Op, Shape, values_of_address};
 use pg_text::{Listed, Place, Text};
@@ -69,9 +70,8 @@ impl<'a> Addressing<'a> {
             ≡ addressing_code self.now ground.now place.now names.now params.count params.code) }
     {
         let count = params.count;
-        let mut code = self.address(alloc, ground, place, names, params)?;
-        code.join(self.behind(alloc, ground, place, count)?)?;
-        Ok(code)
+        let address = self.address(alloc, ground, place, names, params)?;
+        joined(address, self.behind(alloc, ground, place, count)?)
     }
 
     // The code of the address.
@@ -127,10 +127,9 @@ fn url(
     ensures { IfOk result (λ code. code
         ≡ url_code ground.now place.now address.now names.now params.count params.code) }
 {
-    let mut code = arranged(alloc, ground, place, &[address], names)?;
-    code.join(params.code)?;
-    code.join(operation(alloc, ground, place, Op::Url(params.count))?)?;
-    Ok(code)
+    let Params { count, code } = params;
+    let address = arranged_before(alloc, ground, place, &[address], names, code)?;
+    joined(address, operation(alloc, ground, place, Op::Url(count))?)
 }
 
 // The code of a page's address, behind the values of the attributes, with params, whose code has
@@ -144,9 +143,7 @@ fn page(
 ) -> Result<Code, AllocError>
     ensures { IfOk result (λ code. code ≡ page_address_code ground.now place.now names.now params) }
 {
-    let mut code = arranged(alloc, ground, place, &["page"], names)?;
-    code.join(params)?;
-    Ok(code)
+    arranged_before(alloc, ground, place, &["page"], names, params)
 }
 
 // The code of `c:url` behind its url: it is written, or set as a variable where one is given.

@@ -6,6 +6,7 @@ ghost use Rattle.page_code.specs.Shapes.{cell};
 ghost use Rattle.page_code.specs.declared.instr.Instr.TheVariants as instr;
 ghost use Rattle.page_code.specs.declared.op.Op.TheVariants as op;
 ghost use Rattle.page_code.specs.declared.operands.Coercion.TheVariants as coercion;
+ghost use Rattle.page_code.specs.declared.operands.PropertyMode.TheVariants as mode;
 ghost use Rattle.code_forms.specs.Codes.{arranged_code, form_code};
 ghost use Rattle.code_forms.specs.Forms.{both, does};
 ghost use Rattle.code_lowering.specs.Expressions.{coerces, constant};
@@ -14,12 +15,14 @@ ghost use Rattle.pg_value.specs.Attrs.{entry_at};
 ghost use Rattle.pg_value.specs.Datum.{text};
 ghost use Rattle.pg_value.specs.Value.{value_of};
 
+use crate::joining::{arranged_before, joined};
 use crate::names::has;
+use crate::outputs::put_as_text;
 use crate::variables::{name_of, scoped};
-use code_expressions::{coercion, constant};
-use code_forms::{arranged, ensured, operation};
+use code_expressions::constant;
+use code_forms::{ensured, operation};
 use page_acts::Property;
-use page_code::{Bean, Code, Coercion, Op, PropertyMode, Shape, Shared};
+use page_code::{Bean, Code, Op, PropertyMode, Shape, Shared};
 use pg_text::{Listed, Place, Text};
 use pg_value::{Attrs, Scope, Value};
 use std::alloc::{AllocError, Global};
@@ -79,11 +82,23 @@ pub fn get_property(
         (both (does (op.GetProperty name.now) place.now) (both (coerces coercion.Text place.now)
         (does op.Put place.now))))) }
 {
-    let mut code = constant(alloc, ground, place, Value::Text(property.copy()?))?;
-    code.join(operation(alloc, ground, place, Op::GetProperty(name_of(name)?))?)?;
-    code.join(coercion(alloc, ground, place, Coercion::Text)?)?;
-    code.join(operation(alloc, ground, place, Op::Put)?)?;
-    Ok(code)
+    let property = constant(alloc, ground, place, Value::Text(property.copy()?))?;
+    joined(property, got_and_put(alloc, ground, place, name)?)
+}
+
+// The code that writes the property of a bean whose name stands on top.
+fn got_and_put(
+    alloc: Global,
+    ground: &Shape,
+    place: &Place,
+    name: &Text,
+) -> Result<Code, AllocError>
+    ensures { IfOk result (λ code. code ≡ form_code ground.now
+        (both (does (op.GetProperty name.now) place.now) (both (coerces coercion.Text place.now)
+        (does op.Put place.now)))) }
+{
+    let got = operation(alloc, ground, place, Op::GetProperty(name_of(name)?))?;
+    joined(got, put_as_text(alloc, ground, place)?)
 }
 
 /// `jsp:setProperty`, apart from its attributes. The faults of its value stand at a place of their
@@ -107,35 +122,51 @@ pub fn set_property(
         (property_form place.now action.now.name.now (property_of action.now.property.now)
         action.now.value_place.now (has (codes "value") names.now) names.now)) }
 {
-    let name = name_of(action.name)?;
     match action.property {
         Property::Every => {
-            let op = Op::SetProperty(name, Shared::new(alloc, PropertyMode::Parameters)?);
+            let op = setting(alloc, action.name, PropertyMode::Parameters)?;
             arranged_for(alloc, ground, place, op, &[], names)
         }
         Property::One {
             property,
             parameter,
         } => {
-            let property = property.copy()?;
             if has(names.as_slice(), "value") {
-                let place_of_value = action.value_place.copy()?;
-                let mode = PropertyMode::Value {
-                    property,
-                    place: place_of_value,
-                };
-                let op = Op::SetProperty(name, Shared::new(alloc, mode)?);
+                let op = setting(alloc, action.name, by_value(property, action.value_place)?)?;
                 arranged_for(alloc, ground, place, op, &["value"], names)
             } else {
-                let mode = PropertyMode::Parameter {
-                    property,
-                    parameter: parameter.copy()?,
-                };
-                let op = Op::SetProperty(name, Shared::new(alloc, mode)?);
+                let op = setting(alloc, action.name, by_parameter(property, parameter)?)?;
                 arranged_for(alloc, ground, place, op, &[], names)
             }
         }
     }
+}
+
+// A property is set to a value, whose faults stand at this place.
+fn by_value(property: &Text, place: &Place) -> Result<PropertyMode, AllocError>
+    ensures { IfOk result (λ made. made ≡ mode.Value property.now place.now) }
+{
+    Ok(PropertyMode::Value {
+        property: property.copy()?,
+        place: place.copy()?,
+    })
+}
+
+// A property is set to a parameter of the request.
+fn by_parameter(property: &Text, parameter: &Text) -> Result<PropertyMode, AllocError>
+    ensures { IfOk result (λ made. made ≡ mode.Parameter property.now parameter.now) }
+{
+    Ok(PropertyMode::Parameter {
+        property: property.copy()?,
+        parameter: parameter.copy()?,
+    })
+}
+
+/// The operation that sets properties of the bean with this name.
+pub(crate) fn setting(alloc: Global, name: &Text, mode: PropertyMode) -> Result<Op, AllocError>
+    ensures { IfOk result (λ made. made ≡ op.SetProperty name.now mode) }
+{
+    Ok(Op::SetProperty(name_of(name)?, Shared::new(alloc, mode)?))
 }
 
 // The code of an operation on these of the values.
@@ -150,7 +181,6 @@ fn arranged_for(
     ensures { IfOk result (λ code. code ≡ arranged_code ground.now place.now
         (map (λ name. name.now) wanted.now) names.now 0 ++ form_code ground.now (does op place.now)) }
 {
-    let mut code = arranged(alloc, ground, place, wanted, names)?;
-    code.join(operation(alloc, ground, place, op)?)?;
-    Ok(code)
+    let behind = operation(alloc, ground, place, op)?;
+    arranged_before(alloc, ground, place, wanted, names, behind)
 }

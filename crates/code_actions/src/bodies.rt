@@ -1,17 +1,24 @@
 // Values that an attribute or a body gives.
-ghost use Rattle.std.specs.Prelude.{◌≡◌, IfOk, codes};
+ghost use Rattle.std.specs.Prelude.{◌≡◌, true, IfOk, codes};
 ghost use Rattle.code_actions.specs.Bodies.{value_or_body_code, with_value_or_body_code};
 ghost use Rattle.code_actions.specs.Enclosing.{entry_by, set_by};
+ghost use Rattle.code_expressions.specs.Values.{kept_code};
 ghost use Rattle.page_acts.specs.Views.{variable_of};
 ghost use Rattle.page_code.specs.Shapes.{keeping, up};
+ghost use Rattle.page_code.specs.declared.op.Op.TheVariants as op;
+ghost use Rattle.page_code.specs.declared.operands.PropertyMode.TheVariants as mode;
+ghost use Rattle.code_forms.specs.Codes.{form_code};
+ghost use Rattle.code_forms.specs.Forms.{does};
 ghost use Rattle.code_lowering.specs.Lowering.{has};
 
+use crate::beans::setting;
+use crate::joining::{arranged_before, joined};
 use crate::names::has;
-use crate::variables::{name_of, sets_or_removes};
+use crate::variables::sets_or_removes;
 use code_expressions::kept;
 use code_forms::{arranged, operation};
 use page_acts::Variable;
-use page_code::{Code, Op, PropertyMode, Shape, Shared};
+use page_code::{Code, PropertyMode, Shape};
 use pg_text::{Listed, Place, Text};
 use std::alloc::{AllocError, Global};
 
@@ -33,9 +40,8 @@ pub(crate) fn set(
 ) -> Result<Code, AllocError>
     ensures { IfOk result (λ code. code ≡ set_by ground.now place.now (variable_of variable.now) names.now body) }
 {
-    let mut code = value_or_body(alloc, ground, place, names, body)?;
-    code.join(sets_or_removes(alloc, ground, place, variable)?)?;
-    Ok(code)
+    let value = value_or_body(alloc, ground, place, names, body)?;
+    joined(value, sets_or_removes(alloc, ground, place, variable)?)
 }
 
 /// The code of `c:set` of an entry of the record that a variable holds, behind the values of its
@@ -50,10 +56,22 @@ pub(crate) fn set_entry(
 ) -> Result<Code, AllocError>
     ensures { IfOk result (λ code. code ≡ entry_by ground.now place.now target.now names.now body) }
 {
-    let mut code = with_value_or_body(alloc, ground, place, "property", names, body)?;
-    let op = Op::SetProperty(name_of(target)?, Shared::new(alloc, PropertyMode::Entry)?);
-    code.join(operation(alloc, ground, place, op)?)?;
-    Ok(code)
+    let value = with_value_or_body(alloc, ground, place, "property", names, body)?;
+    joined(value, sets_entry(alloc, ground, place, target)?)
+}
+
+// The code that sets the entry of the record in a variable.
+fn sets_entry(
+    alloc: Global,
+    ground: &Shape,
+    place: &Place,
+    target: &Text,
+) -> Result<Code, AllocError>
+    ensures { IfOk result (λ code. code ≡ form_code ground.now
+        (does (op.SetProperty target.now mode.Entry) place.now)) }
+{
+    let op = setting(alloc, target, PropertyMode::Entry)?;
+    operation(alloc, ground, place, op)
 }
 
 /// The code of the name and the value of a param, behind the values of its attributes.
@@ -84,9 +102,8 @@ fn value_or_body(
     if has(names.as_slice(), "value") {
         return arranged(alloc, ground, place, &["value"], names);
     }
-    let mut code = arranged(alloc, ground, place, &[], names)?;
-    code.join(kept(alloc, ground, place, true, body)?)?;
-    Ok(code)
+    let text = kept(alloc, ground, place, true, body)?;
+    arranged_before(alloc, ground, place, &[], names, text)
 }
 
 // The same above the value of another attribute.
@@ -104,7 +121,13 @@ fn with_value_or_body(
     if has(names.as_slice(), "value") {
         return arranged(alloc, ground, place, &[first, "value"], names);
     }
-    let mut code = arranged(alloc, ground, place, &[first], names)?;
-    code.join(kept(alloc, &ground.up(1)?, place, true, body)?)?;
-    Ok(code)
+    let text = kept_above(alloc, ground, place, body)?;
+    arranged_before(alloc, ground, place, &[first], names, text)
+}
+
+// The code of the trimmed text of the body of a param, above the param's name.
+fn kept_above(alloc: Global, ground: &Shape, place: &Place, body: Code) -> Result<Code, AllocError>
+    ensures { IfOk result (λ code. code ≡ kept_code (up 1 ground.now) place.now true body) }
+{
+    kept(alloc, &ground.up(1)?, place, true, body)
 }

@@ -5,8 +5,10 @@ ghost use Rattle.page_acts.specs.Views.{variable_of};
 ghost use Rattle.code_forms.specs.Codes.{catch_code, form_code};
 ghost use Rattle.code_lowering.specs.Lowering.{keeps_fault};
 
+use crate::joining::{arranged_before, joined};
+use crate::parting::chosen_above;
 use crate::variables::{keeps_fault, sets_given};
-use code_forms::{arranged, caught, chosen};
+use code_forms::caught;
 use page_acts::Variable;
 use page_code::{Code, Shape};
 use pg_text::{Listed, Place, Text};
@@ -24,9 +26,8 @@ fn tested(
 ) -> Result<Code, AllocError>
     ensures { IfOk result (λ code. code ≡ tested_by ground.now place.now names.now first second) }
 {
-    let mut code = arranged(alloc, ground, place, &["test"], names)?;
-    code.join(chosen(alloc, &ground.up(1)?, &ground.up(0)?, place, first, second)?)?;
-    Ok(code)
+    let parts = chosen_above(alloc, ground, 1, place, first, second)?;
+    arranged_before(alloc, ground, place, &["test"], names, parts)
 }
 
 /// The code of `c:if`, behind the values of its attributes. The test's value is kept in the
@@ -42,8 +43,7 @@ pub(crate) fn tested_once(
     ensures { IfOk result (λ code. code ≡ if_by ground.now place.now (option_map variable_of variable.now)
         names.now body) }
 {
-    let mut first = sets_given(alloc, ground, place, variable, true)?;
-    first.join(body)?;
+    let first = joined(sets_given(alloc, ground, place, variable, true)?, body)?;
     let second = sets_given(alloc, ground, place, variable, false)?;
     tested(alloc, ground, place, names, first, second)
 }

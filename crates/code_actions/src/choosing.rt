@@ -1,7 +1,11 @@
 // The branches of a choice.
-ghost use Rattle.std.specs.Prelude.{◌≡◌, ◌+◌, ◌++◌, IfOk};
+ghost use Rattle.std.specs.Prelude.{◌≡◌, ◌+◌, ◌++◌, [], ◌∷◌, false, IfOk, OnOk, codes};
 ghost use Rattle.code_actions.specs.Choosing.{before, size_before, when_code};
+ghost use Rattle.page_code.specs.Shapes.{cell, up};
+ghost use Rattle.page_code.specs.declared.instr.Instr.TheVariants as instr;
+ghost use Rattle.code_forms.specs.Codes.{arranged_code};
 
+use crate::joining::joined;
 use code_forms::arranged;
 use page_code::{Code, Instr, Shape};
 use pg_text::{Listed, Place, Text};
@@ -30,17 +34,44 @@ pub fn when(
       place = place.now;
     }) }
 {
-    let Some(size) = body.len().checked_add(1) else {
-        return Err(AllocError);
-    };
-    let mut code = values;
-    code.join(arranged(alloc, ground, place, &["test"], names)?)?;
-    code.put(&ground.up(1)?, place, Instr::JumpIf(false, size))?;
-    code.join(body)?;
+    let behind = test_and_body(alloc, ground, place, names, body)?;
     Ok(TestedBranch {
-        code,
+        code: joined(values, behind)?,
         place: place.copy()?,
     })
+}
+
+// The code of a branch behind the values of its attributes.
+fn test_and_body(
+    alloc: Global,
+    ground: &Shape,
+    place: &Place,
+    names: &Listed<Text>,
+    body: Code,
+) -> Result<Code, AllocError>
+    ensures { IfOk result (λ code. code ≡ when_code ground.now place.now names.now body) }
+{
+    joined(test(alloc, ground, place, names, body.len())?, body)
+}
+
+// The code of a test, behind the values of the attributes: where it is false, it passes over so
+// many cells and the one behind them.
+fn test(
+    alloc: Global,
+    ground: &Shape,
+    place: &Place,
+    names: &Listed<Text>,
+    count: usize,
+) -> Result<Code, AllocError>
+    ensures { IfOk result (λ code. code ≡ arranged_code ground.now place.now (codes "test" ∷ []) names.now 0
+        ++ cell (up 1 ground.now) place.now (instr.JumpIf false (count + 1)) ∷ []) }
+{
+    let Some(size) = count.checked_add(1) else {
+        return Err(AllocError);
+    };
+    let mut code = arranged(alloc, ground, place, &["test"], names)?;
+    code.put(&ground.up(1)?, place, Instr::JumpIf(false, size))?;
+    Ok(code)
 }
 
 /// The code of a choice: of branches in order the first whose test is true, and where none is, the
@@ -59,11 +90,28 @@ pub fn choice(
     for when in whens {
         left -= when.code.len();
         left -= 1;
-        code.join(when.code)?;
-        code.put(&after, &when.place, Instr::Jump(left))?;
+        add_branch(&mut code, &after, when, left)?;
     }
-    code.join(last)?;
-    Ok(code)
+    joined(code, last)
+}
+
+// Adds a branch, and behind it a jump over so many cells. Where memory runs out, its code may stand
+// without the jump.
+fn add_branch(
+    code: &mut Code,
+    after: &Shape,
+    branch: TestedBranch,
+    over: usize,
+) -> Result<(), AllocError>
+    ensures { OnOk result (code.new ≡ (code.old ++ branch.code)
+        ++ cell after.now branch.place (instr.Jump over) ∷ []) }
+{
+    let TestedBranch {
+        code: tested,
+        place,
+    } = branch;
+    code.join(tested)?;
+    code.put(after, &place, Instr::Jump(over))
 }
 
 // How many cells these branches have before so many others.

@@ -11,9 +11,11 @@ mod choices;
 mod choosing;
 mod enclosing;
 mod evaluations;
+mod joining;
 mod loops;
 mod names;
 mod outputs;
+mod parting;
 mod tags;
 mod variables;
 

@@ -14,9 +14,11 @@ ghost use Rattle.code_lowering.specs.Expressions.{coerces, value_form};
 ghost use Rattle.code_lowering.specs.Lowering.{has, out_wanted};
 ghost use Rattle.el_reader.specs.El.{tree_of};
 
+use crate::joining::joined;
 use crate::names::has;
+use crate::parting::{chosen_above, where_null_above};
 use code_expressions::{coercion, kept, value};
-use code_forms::{arranged, chosen, operation, swapped, where_null};
+use code_forms::{arranged, operation, swapped};
 use el_reader::El;
 use page_code::{Code, Coercion, Op, Shape};
 use pg_text::{Listed, Place, Text};
@@ -39,10 +41,17 @@ pub fn shown(alloc: Global, ground: &Shape, place: &Place, el: &El) -> Result<Co
     ensures { IfOk result (λ code. code ≡ form_code ground.now (both (value_form place.now (tree_of el.now))
         (both (coerces coercion.Text place.now) (does op.Put place.now)))) }
 {
-    let mut code = value(alloc, ground, place, el)?;
-    code.join(coercion(alloc, ground, place, Coercion::Text)?)?;
-    code.join(operation(alloc, ground, place, Op::Put)?)?;
-    Ok(code)
+    let shown = value(alloc, ground, place, el)?;
+    joined(shown, put_as_text(alloc, ground, place)?)
+}
+
+/// The code that writes the value on top as text.
+pub(crate) fn put_as_text(alloc: Global, ground: &Shape, place: &Place) -> Result<Code, AllocError>
+    ensures { IfOk result (λ code. code ≡ form_code ground.now (both (coerces coercion.Text place.now)
+        (does op.Put place.now))) }
+{
+    let text = coercion(alloc, ground, place, Coercion::Text)?;
+    joined(text, operation(alloc, ground, place, Op::Put)?)
 }
 
 /// What stands open in the body of `c:out`, whose attributes with a value have these names.
@@ -68,9 +77,11 @@ pub(crate) fn out(
 {
     let default = has(names.as_slice(), "default");
     let escape = has(names.as_slice(), "escapeXml");
-    let mut code = wanted(alloc, ground, place, default, escape, names)?;
-    code.join(written(alloc, ground, place, default, escape, body)?)?;
-    Ok(code)
+    let behind = written(alloc, ground, place, default, escape, body)?;
+    joined(
+        wanted(alloc, ground, place, default, escape, names)?,
+        behind,
+    )
 }
 
 // The code that brings those values above the others that the action takes.
@@ -111,47 +122,60 @@ fn written(
     ensures { IfOk result (λ code. code ≡ out_code ground.now place.now default escape body) }
 {
     match (default, escape) {
-        (true, true) => or_default(alloc, ground, place, true, &ground.up(3)?),
-        (true, false) => or_default(alloc, ground, place, false, &ground.up(2)?),
-        (false, true) => or_body(alloc, ground, place, true, &ground.up(2)?, body),
-        (false, false) => or_body(alloc, ground, place, false, &ground.up(1)?, body),
+        (true, true) => or_default(alloc, ground, 3, place, true),
+        (true, false) => or_default(alloc, ground, 2, place, false),
+        (false, true) => or_body(alloc, ground, 2, place, true, body),
+        (false, false) => or_body(alloc, ground, 1, place, false, body),
     }
 }
 
-// The code that writes the value, or where that is null the default.
+// The code that writes the value, or where that is null the default; of so many values.
 fn or_default(
     alloc: Global,
     ground: &Shape,
+    taken: usize,
     place: &Place,
     escape: bool,
-    before: &Shape,
 ) -> Result<Code, AllocError>
     ensures { IfOk result (λ code. code
-        ≡ either_code before.now (up 0 ground.now) place.now instr.JumpNull
+        ≡ either_code (up taken ground.now) (up 0 ground.now) place.now instr.JumpNull
         (value_code (up 1 ground.now) place.now escape ++ form_code ground.now (does op.Pop place.now))
         (default_code ground.now place.now escape)) }
 {
     let absent = default_text(alloc, ground, place, escape)?;
-    let mut present = value_text(alloc, &ground.up(1)?, place, escape)?;
-    present.join(operation(alloc, ground, place, Op::Pop)?)?;
-    where_null(alloc, before, &ground.up(0)?, place, absent, present)
+    let present = value_alone(alloc, ground, place, escape)?;
+    where_null_above(alloc, ground, taken, place, absent, present)
 }
 
-// The code that writes the value, or where that is null the body.
-fn or_body(
+// The code that writes the value, and takes the default away, which stands below it.
+fn value_alone(
     alloc: Global,
     ground: &Shape,
     place: &Place,
     escape: bool,
-    before: &Shape,
+) -> Result<Code, AllocError>
+    ensures { IfOk result (λ code. code ≡ value_code (up 1 ground.now) place.now escape
+        ++ form_code ground.now (does op.Pop place.now)) }
+{
+    let value = value_text(alloc, &ground.up(1)?, place, escape)?;
+    joined(value, operation(alloc, ground, place, Op::Pop)?)
+}
+
+// The code that writes the value, or where that is null the body; of so many values.
+fn or_body(
+    alloc: Global,
+    ground: &Shape,
+    taken: usize,
+    place: &Place,
+    escape: bool,
     body: Code,
 ) -> Result<Code, AllocError>
-    ensures { IfOk result (λ code. code ≡ either_code before.now (up 0 ground.now) place.now instr.JumpNull
-        (value_code ground.now place.now escape) (body_code ground.now place.now escape body)) }
+    ensures { IfOk result (λ code. code ≡ either_code (up taken ground.now) (up 0 ground.now) place.now
+        instr.JumpNull (value_code ground.now place.now escape) (body_code ground.now place.now escape body)) }
 {
     let absent = body_text(alloc, ground, place, escape, body)?;
     let present = value_text(alloc, ground, place, escape)?;
-    where_null(alloc, before, &ground.up(0)?, place, absent, present)
+    where_null_above(alloc, ground, taken, place, absent, present)
 }
 
 // The code that writes the default.
@@ -182,9 +206,8 @@ fn value_text(
     if !escape {
         return operation(alloc, ground, place, Op::PutEscaped);
     }
-    let mut code = swapped(alloc, ground, place)?;
-    code.join(chosen_put(alloc, ground, place)?)?;
-    Ok(code)
+    let swap = swapped(alloc, ground, place)?;
+    joined(swap, chosen_put(alloc, ground, place)?)
 }
 
 // The code that writes the trimmed text of the body.
@@ -216,9 +239,8 @@ fn kept_and_put(
     ensures { IfOk result (λ code. code ≡ kept_code below.now place.now true body
         ++ value_code ground.now place.now escape) }
 {
-    let mut code = kept(alloc, below, place, true, body)?;
-    code.join(value_text(alloc, ground, place, escape)?)?;
-    Ok(code)
+    let text = kept(alloc, below, place, true, body)?;
+    joined(text, value_text(alloc, ground, place, escape)?)
 }
 
 // The code that writes a text, escaped where the truth value on top says so.
@@ -227,5 +249,5 @@ fn chosen_put(alloc: Global, ground: &Shape, place: &Place) -> Result<Code, Allo
 {
     let escaped = operation(alloc, ground, place, Op::PutEscaped)?;
     let plain = operation(alloc, ground, place, Op::Put)?;
-    chosen(alloc, &ground.up(2)?, &ground.up(0)?, place, escaped, plain)
+    chosen_above(alloc, ground, 2, place, escaped, plain)
 }

@@ -9,8 +9,10 @@ ghost use Rattle.code_lowering.specs.Lowering.{sets_or_removes};
 ghost use Rattle.pg_value.specs.Datum.{truth};
 ghost use Rattle.pg_value.specs.declared.scope.Scope.TheVariants as scope;
 
+use crate::joining::joined;
+use crate::parting::where_null_above;
 use code_expressions::constant;
-use code_forms::{operation, where_null};
+use code_forms::operation;
 use page_acts::Variable;
 use page_code::{Code, Name, Op, ScopedName, Shape};
 use pg_text::{Place, Text};
@@ -77,9 +79,8 @@ pub(crate) fn sets_given(
 {
     match variable {
         Some(variable) => {
-            let mut code = constant(alloc, ground, place, Value::Bool(value))?;
-            code.join(sets(alloc, ground, place, variable)?)?;
-            Ok(code)
+            let value = constant(alloc, ground, place, Value::Bool(value))?;
+            joined(value, sets(alloc, ground, place, variable)?)
         }
         None => Ok(Code::new(alloc)),
     }
@@ -123,14 +124,7 @@ pub(crate) fn sets_or_removes(
         None => {
             let absent = removes_all(alloc, ground, place, &variable.name)?;
             let present = sets_in_page(alloc, ground, place, &variable.name)?;
-            where_null(
-                alloc,
-                &ground.up(1)?,
-                &ground.up(0)?,
-                place,
-                absent,
-                present,
-            )
+            where_null_above(alloc, ground, 1, place, absent, present)
         }
     }
 }
