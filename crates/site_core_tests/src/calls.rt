@@ -8,7 +8,7 @@ ghost use Rattle.site_core_tests.specs.Roll.{is_roll};
 use crate::line::{entry_text, file_text, outcome_text};
 use crate::script::{Line, Question, asked, number, op_of, pass_of, path_of, picture, words};
 use crate::word::Word;
-use pg_text::{BadPath, Failure};
+use pg_text::{BadPath, Failure, Path};
 use site_core::{Act, Given, Site};
 use site_words::{Acted, Compiled, Op, Refusal};
 use std::alloc::{AllocError, Global};
@@ -73,12 +73,22 @@ fn answer(alloc: Global, site: &mut Site<Word>, line: &Line) -> Result<String, F
         Question::Count => Ok(count_text(alloc, site)?),
         Question::Entry(place) => Ok(entry_at(alloc, site, place)?),
         Question::File(path) => file(alloc, site, pass_of(line), path),
-        Question::Operation => {
-            let op = op_of(alloc, line)?;
-            let outcome = step(alloc, site, pass_of(line), op)?;
-            Ok(outcome_text(alloc, &outcome)?)
-        }
+        Question::Operation => operation(alloc, site, line),
     }
+}
+
+fn operation(
+    alloc: Global,
+    site: &mut Site<Word>,
+    line: &Line,
+) -> Result<String, Failure<BadPath>> {
+    let op = op_of(alloc, line)?;
+    Ok(done(alloc, site, pass_of(line), op)?)
+}
+
+fn done(alloc: Global, site: &mut Site<Word>, pass: u8, op: Op) -> Result<String, AllocError> {
+    let outcome = step(alloc, site, pass, op)?;
+    outcome_text(alloc, &outcome)
 }
 
 fn count_text(alloc: Global, site: &Site<Word>) -> Result<String, AllocError> {
@@ -101,8 +111,18 @@ fn file(
     path: &str,
 ) -> Result<String, Failure<BadPath>> {
     let path = path_of(alloc, path)?;
-    let outcome = step(alloc, site, pass, picture(alloc, "-")?)?;
-    Ok(file_text(alloc, &outcome, &path)?)
+    Ok(file_at(alloc, site, pass, &path)?)
+}
+
+fn file_at(
+    alloc: Global,
+    site: &mut Site<Word>,
+    pass: u8,
+    path: &Path,
+) -> Result<String, AllocError> {
+    let picture = picture(alloc, "-")?;
+    let outcome = step(alloc, site, pass, picture)?;
+    file_text(alloc, &outcome, path)
 }
 
 /// One operation of a pass, with a value for an Offer. None where it doesn't meet the condition of

@@ -16,7 +16,7 @@ pub fn played(
     script: &str,
 ) -> Result<String, Failure<BadPath>> {
     match opened(alloc, limit, passes) {
-        Ok(site) => on_site(alloc, site, sessions, script),
+        Ok(mut site) => on_site(alloc, &mut site, sessions, script),
         Err(Failure::NoMemory) => Err(Failure::NoMemory),
         Err(Failure::Fault(_)) => Ok(unsound(alloc)?),
     }
@@ -24,12 +24,12 @@ pub fn played(
 
 fn on_site(
     alloc: Global,
-    mut site: Site<Word>,
+    site: &mut Site<Word>,
     sessions: u64,
     script: &str,
 ) -> Result<String, Failure<BadPath>> {
-    make_sessions(alloc, &mut site, sessions)?;
-    told(alloc, &mut site, script)
+    make_sessions(alloc, site, sessions)?;
+    told(alloc, site, script)
 }
 
 // So many requests, each of which makes a session and ends.
@@ -51,8 +51,13 @@ pub fn session_id(alloc: Global, last: u8, number: u64) -> Result<String, AllocE
     let mut seed = [0; 32];
     seed[31] = last;
     match seeded(alloc, seed, AMPLE, 1) {
-        Ok(site) => Ok(String::from_str(alloc, site.session_id(number)?.as_str())?),
+        Ok(site) => id_on(alloc, &site, number),
         Err(Failure::NoMemory) => Err(AllocError),
         Err(Failure::Fault(_)) => unsound(alloc),
     }
+}
+
+fn id_on(alloc: Global, site: &Site<Word>, number: u64) -> Result<String, AllocError> {
+    let id = site.session_id(number)?;
+    String::from_str(alloc, id.as_str())
 }

@@ -103,10 +103,21 @@ fn publish(alloc: Global, line: &Line) -> Result<Op, Failure<BadPath>> {
 
 /// Edits that put a file with this path and so many bytes.
 pub fn put(alloc: Global, path: &str, bytes: usize) -> Result<Edits, Failure<BadPath>> {
-    let text = "x".repeat(alloc, bytes)?;
     let path = resolve(alloc, None, path)?;
+    let text = text_of(alloc, bytes)?;
+    Ok(alone(alloc, Edit::Put(path, text))?)
+}
+
+// A text of so many bytes.
+fn text_of(alloc: Global, bytes: usize) -> Result<FileText, AllocError> {
+    let text = "x".repeat(alloc, bytes)?;
+    FileText::copy_of(alloc, text.as_str())
+}
+
+// Edits of one.
+fn alone(alloc: Global, edit: Edit) -> Result<Edits, AllocError> {
     let mut edits = Edits::new(alloc);
-    edits.push(Edit::Put(path, FileText::copy_of(alloc, text.as_str())?))?;
+    edits.push(edit)?;
     Ok(edits)
 }
 
