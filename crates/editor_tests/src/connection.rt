@@ -29,17 +29,18 @@ impl Editing {
         })
     }
 
-    /// The lines, and behind them what each message is answered: its status and lines.
-    pub fn told(
+    /// Adds to the lines what each message is answered: its status and lines.
+    pub fn tell(
         &mut self,
         alloc: Global,
-        mut lines: String,
+        lines: &mut String,
         said: &[Said<'_>],
-    ) -> Result<String, AllocError> {
+    ) -> Result<(), AllocError> {
         for one in said {
-            lines.push_str(self.answered(alloc, one)?.as_str())?;
+            let line = self.answered(alloc, one)?;
+            lines.push_str(line.as_str())?;
         }
-        Ok(lines)
+        Ok(())
     }
 
     fn answered(&mut self, alloc: Global, said: &Said<'_>) -> Result<String, AllocError> {

@@ -8,7 +8,7 @@ use site_core_tests::AMPLE;
 pub struct Talk<'a> {
     pub limit: u64,
     /// What is said first, again and again; of its answers the last is told.
-    pub often: Often<'a>,
+    pub often: Option<Often<'a>>,
     pub said: &'a [Said<'a>],
     pub told: &'a str,
 }
@@ -22,17 +22,11 @@ pub struct Often<'a> {
     pub times: u32,
 }
 
-const NEVER: Often<'static> = Often {
-    method: "",
-    size: 0,
-    times: 0,
-};
-
 pub const TALKS: [Talk<'static>; 10] = [
     // Files are put and deleted.
     Talk {
         limit: AMPLE,
-        often: NEVER,
+        often: None,
         said: &[
             Said("PUT", "/_editor/files/a.jsp", b"hi"),
             Said("PUT", "/_editor/files/a.jsp", b""),
@@ -44,7 +38,7 @@ pub const TALKS: [Talk<'static>; 10] = [
     // A path stands for itself.
     Talk {
         limit: AMPLE,
-        often: NEVER,
+        often: None,
         said: &[
             Said("PUT", "/_editor/files/", b""),
             Said("PUT", "/_editor/files/a/../b", b""),
@@ -59,7 +53,7 @@ pub const TALKS: [Talk<'static>; 10] = [
     // Faults of a draft come in their order.
     Talk {
         limit: AMPLE,
-        often: NEVER,
+        often: None,
         said: &[
             Said("PUT", "/_editor/files/..?", b"\xff"),
             Said("PATCH", "/_editor/files/..", b"\xff"),
@@ -72,7 +66,7 @@ pub const TALKS: [Talk<'static>; 10] = [
     // A draft is published, and then empty.
     Talk {
         limit: AMPLE,
-        often: NEVER,
+        often: None,
         said: &[
             Said("PUT", "/_editor/files/a.jsp", b"hi"),
             Said("POST", "/_editor/publish", b""),
@@ -84,7 +78,7 @@ pub const TALKS: [Talk<'static>; 10] = [
     // A base has to be the latest version.
     Talk {
         limit: AMPLE,
-        often: NEVER,
+        often: None,
         said: &[
             Said("PUT", "/_editor/files/a.jsp", b"hi"),
             Said("POST", "/_editor/publish?base=1", b""),
@@ -98,7 +92,7 @@ pub const TALKS: [Talk<'static>; 10] = [
     // What no editor takes is a bad message.
     Talk {
         limit: AMPLE,
-        often: NEVER,
+        often: None,
         said: &[
             Said("POST", "/_editor/publish?base=x", b""),
             Said("POST", "/_editor/publish?base=", b""),
@@ -114,7 +108,7 @@ pub const TALKS: [Talk<'static>; 10] = [
     // A full journal leaves the draft.
     Talk {
         limit: 200,
-        often: NEVER,
+        often: None,
         said: &[
             Said("POST", "/_editor/publish", b""),
             Said("PUT", "/_editor/files/a.jsp", b"0123456789"),
@@ -129,11 +123,11 @@ pub const TALKS: [Talk<'static>; 10] = [
     // A draft has at most 1,024 edits.
     Talk {
         limit: AMPLE,
-        often: Often {
+        often: Some(Often {
             method: "DELETE",
             size: 0,
             times: 1_024,
-        },
+        }),
         said: &[
             Said("DELETE", "/_editor/files/a", b""),
             Said("PUT", "/_editor/files/a", b"\xff"),
@@ -145,11 +139,11 @@ pub const TALKS: [Talk<'static>; 10] = [
     // A draft has at most 16,777,216 bytes.
     Talk {
         limit: AMPLE,
-        often: Often {
+        often: Some(Often {
             method: "PUT",
             size: 2_097_152,
             times: 8,
-        },
+        }),
         said: &[
             Said("PUT", "/_editor/files/a", b"x"),
             Said("PUT", "/_editor/files/a", b""),
@@ -159,11 +153,11 @@ pub const TALKS: [Talk<'static>; 10] = [
     // A tree that is too large leaves the draft.
     Talk {
         limit: AMPLE,
-        often: Often {
+        often: Some(Often {
             method: "PUT",
             size: 1_048_577,
             times: 1,
-        },
+        }),
         said: &[
             Said("POST", "/_editor/publish?base=1", b""),
             Said("POST", "/_editor/publish", b""),

@@ -6,12 +6,17 @@ use source_tree::TreeFault;
 use std::alloc::{AllocError, Global};
 use std::test::Fail;
 
-// The names of some paths.
-fn names_of(alloc: Global, paths: &[&str]) -> Result<Names, Failure<BadPath>> {
+fn add(alloc: Global, names: &mut Names, path: &str) -> Result<(), Failure<BadPath>> {
+    let path = resolve(alloc, None, path)?;
+    names.insert(path)?;
+    Ok(())
+}
+
+// Names of two files, given in the other order.
+fn two_names(alloc: Global) -> Result<Names, Failure<BadPath>> {
     let mut names = Names::empty(alloc);
-    for path in paths {
-        names.insert(resolve(alloc, None, path)?)?;
-    }
+    add(alloc, &mut names, "/p2.jsp")?;
+    add(alloc, &mut names, "/p1.jsp")?;
     Ok(names)
 }
 
@@ -20,11 +25,11 @@ fn published(alloc: Global, dirty: Names) -> Result<String, AllocError> {
     status_line(alloc, &Ok(EditorAnswer::Published(published)))
 }
 
+const DIRTY: &str = "200 OK: version 12\n/p1.jsp\n/p2.jsp\n";
+
 #[test]
 fn dirty_paths_stand_on_lines_of_their_own(rt: HostRuntime) -> Result<(), Fail> {
-    let dirty = names_of(rt.alloc(), &["/p2.jsp", "/p1.jsp"])?;
-    let lines = "200 OK: version 12\n/p1.jsp\n/p2.jsp\n";
-    assert_eq!(rt; published(rt.alloc(), dirty)?.as_str(), lines);
+    assert!(rt; published(rt.alloc(), two_names(rt.alloc())?)?.as_str() == DIRTY);
     Ok(())
 }
 

@@ -3,6 +3,8 @@ use crate::connection::{Editing, status_line};
 use crate::message::{Said, request};
 use crate::talks::{Often, TALKS, Talk};
 use http_in::Request;
+use pg_text::Failure;
+use site_core_tests::Unsound;
 use std::alloc::{AllocError, Global};
 use std::test::Fail;
 
@@ -25,25 +27,34 @@ fn first_line(
     editing: &mut Editing,
     often: &Often<'_>,
 ) -> Result<String, AllocError> {
-    if often.times == 0 {
-        return Ok(String::new(alloc));
-    }
     let body = "x".repeat(alloc, often.size)?;
     let said = Said(often.method, "/_editor/files/a", body.as_bytes());
     let request = request(alloc, &said)?;
     last(alloc, editing, &request, often.times)
 }
 
-fn told_of(alloc: Global, mut editing: Editing, talk: &Talk<'_>) -> Result<String, AllocError> {
-    let first = first_line(alloc, &mut editing, &talk.often)?;
-    editing.told(alloc, first, talk.said)
+fn told_by(
+    alloc: Global,
+    editing: &mut Editing,
+    talk: &Talk<'_>,
+) -> Result<String, Failure<Unsound>> {
+    let mut lines = match &talk.often {
+        Some(often) => first_line(alloc, editing, often)?,
+        None => String::new(alloc),
+    };
+    editing.tell(alloc, &mut lines, talk.said)?;
+    Ok(lines)
+}
+
+fn told_of(alloc: Global, talk: &Talk<'_>) -> Result<String, Failure<Unsound>> {
+    let mut editing = Editing::open(alloc, talk.limit)?;
+    told_by(alloc, &mut editing, talk)
 }
 
 #[test]
 fn editors_are_answered(rt: HostRuntime) -> Result<(), Fail> {
     for talk in &TALKS {
-        let editing = Editing::open(rt.alloc(), talk.limit)?;
-        assert_eq!(rt; told_of(rt.alloc(), editing, talk)?.as_str(), talk.told);
+        assert_eq!(rt; told_of(rt.alloc(), talk)?.as_str(), talk.told);
     }
     Ok(())
 }
