@@ -28,10 +28,10 @@ pub(crate) fn page_of(alloc: Global, root: &Root, found: Found) -> Result<Page, 
 {
     Ok(Page {
         path: root.path.copy()?,
-        nodes: root_nodes(alloc, root)?,
         settings: root.settings.copy()?,
-        tags: tag_files(alloc, &found.tags)?,
         beans: beans_in_order(alloc, found.beans)?,
+        tags: tag_files(alloc, &found.tags)?,
+        nodes: root_nodes(alloc, root)?,
     })
 }
 

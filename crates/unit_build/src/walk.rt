@@ -4,11 +4,12 @@ ghost use Rattle.jstl_tags.specs.Elements.{opened_of};
 ghost use Rattle.unit_source.specs.Files.{text_in};
 ghost use Rattle.unit_source.specs.InPlace.{flat};
 ghost use Rattle.unit_source.specs.Placed.{in_place, root_view};
+ghost use Rattle.unit_build.specs.Elements.{outermost};
 ghost use Rattle.unit_build.specs.Made.{here_made, kind_made};
 ghost use Rattle.unit_build.specs.MadeSteps.{step_made};
 ghost use Rattle.unit_build.specs.ReadFound.{IsRead, state_in};
 ghost use Rattle.unit_build.specs.ReadSteps.{left_out, left_out_still, start_step, step_met};
-ghost use Rattle.unit_build.specs.ReadSteps.{steps_met};
+ghost use Rattle.unit_build.specs.ReadSteps.{steps_met, steps_of};
 ghost use Rattle.unit_build.specs.ReadWalk.{IsOwn, IsPageMet};
 ghost use Rattle.unit_build.specs.Walk.{met_within};
 
@@ -137,8 +138,25 @@ fn read_root(alloc: Global, root: &Root, deep: usize, found: &mut Found) -> Resu
         return Ok(());
     }
     let mut course = Course::new(alloc, root)?;
+    take_course(alloc, &mut course, deep - 1, found)
+}
+
+// Takes the steps of a page or a tag file whose course has just begun.
+#[cycle(walk)]
+fn take_course(
+    alloc: Global,
+    course: &mut Course,
+    deep: usize,
+    found: &mut Found,
+) -> Result<(), AllocError>
+    requires { IsOwn course.now }
+    ensures { OnOk result (IsRead found.old found.new (state_in course.new.before found.new)
+        (steps_met (text_in found.old.site) (root_view course.old.root)
+        (met_within deep (text_in found.old.site)) 0 (steps_of (root_view course.old.root).directives outermost
+        (root_view course.old.root).nodes) (state_in course.old.before found.old))) }
+{
     let steps = course.root.steps(alloc)?;
-    take_steps(alloc, &mut course, &steps, deep - 1, found)
+    take_steps(alloc, course, &steps, deep, found)
 }
 
 /// Reads a page, and the tag files and the beans that it uses. It goes no deeper than 257 tag files

@@ -1,4 +1,4 @@
-use Rattle.std.proofs.Common.{◌≡◌, ◌<◌, ◌≤◌, ◌-◌, ◌+◌, ◌∙◌, ap, arith, drop, length, map, rules, subst, sym, zero}
+use Rattle.std.proofs.Common.{◌≡◌, ◌<◌, ◌≤◌, ◌-◌, ◌+◌, ◌∙◌, ap, arith, drop, length, map, refl, rules, subst, sym, zero}
 use Rattle.std.specs.Option.{option_map}
 use Rattle.jstl_tags.specs.Elements.{opened_of}
 use Rattle.unit_source.specs.declared.root.Root.{Root as Kept}
@@ -68,6 +68,19 @@ take_steps-loop-step-preserved t c =
           }
     ]
 
+pub take_course-returns : goal.take_course-returns
+take_course-returns t c =
+    let old = c.args.found.now in
+    let files = text_in old.site in
+    let course = c.args.course.now in
+    let root = root_view course.root in
+    let new = c.take_steps.new.found in
+    let after = state_in c.take_steps.new.course.before new in
+    let lent : map step_made c.deref.result.now ≡ map step_made c.in_ok-steps.steps.items = search rules in
+    let steps : map step_made c.deref.result.now ≡ steps_of root.directives outermost root.nodes = lent ∙ c.in_ok-steps.ensures in
+    on_ok c.take_steps.result c.take_steps.ensures
+    (λ is. subst (λ all. IsRead old new after (steps_met files root (met_within c.args.deep files) zero all (state_in course.before old))) steps is)
+
 pub read_root-returns : goal.read_root-returns
 read_root-returns t c =
     let old = c.args.found.now in
@@ -75,15 +88,13 @@ read_root-returns t c =
     let root = root_view c.args.root.now in
     let less = c.args.deep - 1 in
     let course = c.in_ok-course.course in
-    let new = c.take_steps.new.found in
-    let after = state_in c.take_steps.new.course.before new in
-    let lent : map step_made c.deref.result.now ≡ map step_made c.in_ok-steps.steps.items = search rules in
-    let steps : map step_made c.deref.result.now ≡ steps_of root.directives outermost root.nodes =
-    lent ∙ c.in_ok-steps.ensures ∙ ap (λ (r : Kept). steps_of (root_view r).directives outermost (root_view r).nodes) c.in_ok-course.ensures.root in
-    on_ok c.take_steps.result c.take_steps.ensures
-    (λ is before. read_within before c.take_steps.new.course.before c.args.deep less root (map step_made c.deref.result.now) (omega arith) steps
-    (subst (λ b. IsRead old new after (steps_met files root (met_within less files) zero (map step_made c.deref.result.now) (state_in b old))) c.in_ok-course.ensures.before
-    (subst (λ (r : Kept). IsRead old new after (steps_met files (root_view r) (met_within less files) zero (map step_made c.deref.result.now) (state_in course.before old))) c.in_ok-course.ensures.root is)))
+    let new = c.take_course.new.found in
+    let after = state_in c.take_course.new.course.before new in
+    let all = steps_of root.directives outermost root.nodes in
+    on_ok c.take_course.result c.take_course.ensures
+    (λ is before. read_within before c.take_course.new.course.before c.args.deep less root all (omega arith) refl
+    (subst (λ b. IsRead old new after (steps_met files root (met_within less files) zero all (state_in b old))) c.in_ok-course.ensures.before
+    (subst (λ (r : Kept). IsRead old new after (steps_met files (root_view r) (met_within less files) zero (steps_of (root_view r).directives outermost (root_view r).nodes) (state_in course.before old))) c.in_ok-course.ensures.root is)))
 
 pub take_start-returns-in-Some : goal.take_start-returns-in-Some
 take_start-returns-in-Some t c =

@@ -9,16 +9,19 @@ use Rattle.unit_build.specs.Walk.{met_within}
 use Rattle.unit_build.proofs.walk.+walk.Given as goal
 
 abbrev pub decreases-read_root : goal.decreases-read_root
-decreases-read_root l = 4 * l.deep
+decreases-read_root l = 5 * l.deep
 
 abbrev pub decreases-take_start : goal.decreases-take_start
-decreases-take_start l = 4 * l.deep + 1
+decreases-take_start l = 5 * l.deep + 1
 
 abbrev pub decreases-take_step : goal.decreases-take_step
-decreases-take_step l = 4 * l.deep + 2
+decreases-take_step l = 5 * l.deep + 2
 
 abbrev pub decreases-take_steps : goal.decreases-take_steps
-decreases-take_steps l = 4 * l.deep + 3
+decreases-take_steps l = 5 * l.deep + 3
+
+abbrev pub decreases-take_course : goal.decreases-take_course
+decreases-take_course l = 5 * l.deep + 4
 
 abbrev pub invariant-take_steps-loop-step : goal.invariant-take_steps-loop-step
 invariant-take_steps-loop-step l = record {
