@@ -27,6 +27,7 @@ use Rattle.page_code.proofs.operands.LoopKind.TheSendSync as kind
 use Rattle.page_code.proofs.operands.PropertyMode.TheSendSync as mode
 use Rattle.page_code.proofs.operands.ScopedName.TheSendSync as scoped
 use Rattle.page_code.proofs.shape.Shape.TheSendSync as shape
+use Rattle.page_code.proofs.shared.Shared.TheSendSync as shared
 use Rattle.page_code.specs.contracts.bean.Bean as Bean
 use Rattle.page_code.specs.contracts.bean.Bean.TheInside as BeanInside
 use Rattle.page_code.specs.contracts.code.Cell as Cell
@@ -49,20 +50,26 @@ value_send = search (crosses, knot.crosses, sendable) depth 60 fits 20000
 bean_send : IsSend (Bean.the_field).row
 bean_send = view_send _ _ _ _ _ (recorded_send (BeanInside.the_field).row _ _ (BeanInside.the_type).to_one (struct_send (S.shape BeanInside.the_type) (value_send, tt)))
 
+value_sync : IsSync (Value.the_field).row
+value_sync = search (crosses, knot.crosses, sendable) depth 60 fits 20000
+
+bean_sync : IsSync (Bean.the_field).row
+bean_sync = view_sync _ _ _ _ _ (recorded_sync (BeanInside.the_field).row _ _ (BeanInside.the_type).to_one (struct_sync (S.shape BeanInside.the_type) (value_sync, tt)))
+
 each_op_send : EachSend (E.variants Op.the_type)
-each_op_send = ((search (text.the_send, crosses, sendable), tt), (tt, (tt, ((search sendable, tt), ((value_send, tt), ((name.the_send, tt), ((implicit.the_field_send, tt), (tt, ((header.the_field_send, tt), ((scope.the_field_send, tt), ((unary.the_field_send, tt), ((binary.the_field_send, tt), ((coercion.the_field_send, tt), ((search sendable, tt), ((search sendable, tt), ((search sendable, tt), ((function.the_field_send, tt), ((search sendable, tt), (tt, ((scoped.the_field_send, tt), ((scoped.the_field_send, tt), ((name.the_send, tt), ((name.the_send, (mode.the_field_send, tt)), ((name.the_send, tt), tt))))))))))))))))))))))))
+each_op_send = ((search (text.the_send, crosses, sendable), tt), (tt, (tt, ((search sendable, tt), ((value_send, tt), ((name.the_send, tt), ((implicit.the_field_send, tt), (tt, ((header.the_field_send, tt), ((scope.the_field_send, tt), ((unary.the_field_send, tt), ((binary.the_field_send, tt), ((coercion.the_field_send, tt), ((search sendable, tt), ((search sendable, tt), ((search sendable, tt), ((function.the_field_send, tt), ((search sendable, tt), (tt, ((scoped.the_field_send, tt), ((scoped.the_field_send, tt), ((name.the_send, tt), ((name.the_send, (search (shared.the_send, mode.the_field_send, mode.the_field_sync, crosses, sendable), tt)), ((name.the_send, tt), tt))))))))))))))))))))))))
 
 op_send : IsSend (Op.the_field).row
 op_send = enum_send (E.shape Op.the_type) each_op_send
 
 each_instr_send : EachSend (E.variants Instr.the_type)
-each_instr_send = ((op_send, tt), ((search sendable, tt), (tt, (tt, ((search sendable, tt), ((search sendable, (search sendable, tt)), ((search sendable, tt), ((scoped.the_field_send, (bean_send, (search sendable, tt))), ((kind.the_field_send, tt), ((search sendable, tt), ((search sendable, tt), (tt, ((out.the_field_send, tt), ((leave.the_field_send, tt), tt))))))))))))))
+each_instr_send = ((op_send, tt), ((search sendable, tt), (tt, (tt, ((search sendable, tt), ((search sendable, (search sendable, tt)), ((search sendable, tt), ((scoped.the_field_send, (search (shared.the_send, bean_send, bean_sync, crosses, sendable), (search sendable, tt))), ((search (shared.the_send, kind.the_field_send, kind.the_field_sync, crosses, sendable), tt), ((search sendable, tt), ((search sendable, tt), (tt, ((out.the_field_send, tt), ((leave.the_field_send, tt), tt))))))))))))))
 
 instr_send : IsSend (Instr.the_field).row
 instr_send = enum_send (E.shape Instr.the_type) each_instr_send
 
 cell_send : IsSend Cell.the_row
-cell_send = recorded_send (Cell.the_field).row _ _ (Cell.the_type).to_one (struct_send (S.shape Cell.the_type) (instr_send, (place.the_field_send, (shape.the_field_send, tt))))
+cell_send = recorded_send (Cell.the_field).row _ _ (Cell.the_type).to_one (struct_send (S.shape Cell.the_type) (instr_send, (search (shared.the_send, place.the_field_send, place.the_field_sync, crosses, sendable), (search (shared.the_send, shape.the_field_send, shape.the_field_sync, crosses, sendable), tt))))
 
 code_send : IsSend (Code.the_field).row
 code_send = view_send _ _ _ _ _ (recorded_send (CodeInside.the_field).row _ _ (CodeInside.the_type).to_one (struct_send (S.shape CodeInside.the_type) (search (cell_send, crosses, sendable), tt)))
@@ -79,26 +86,20 @@ program_send = recorded_send (Program.the_field).row _ _ (Program.the_type).to_o
 
 -- by many threads
 
-value_sync : IsSync (Value.the_field).row
-value_sync = search (crosses, knot.crosses, sendable) depth 60 fits 20000
-
-bean_sync : IsSync (Bean.the_field).row
-bean_sync = view_sync _ _ _ _ _ (recorded_sync (BeanInside.the_field).row _ _ (BeanInside.the_type).to_one (struct_sync (S.shape BeanInside.the_type) (value_sync, tt)))
-
 each_op_sync : EachSync (E.variants Op.the_type)
-each_op_sync = ((search (text.the_sync, crosses, sendable), tt), (tt, (tt, ((search sendable, tt), ((value_sync, tt), ((name.the_sync, tt), ((implicit.the_field_sync, tt), (tt, ((header.the_field_sync, tt), ((scope.the_field_sync, tt), ((unary.the_field_sync, tt), ((binary.the_field_sync, tt), ((coercion.the_field_sync, tt), ((search sendable, tt), ((search sendable, tt), ((search sendable, tt), ((function.the_field_sync, tt), ((search sendable, tt), (tt, ((scoped.the_field_sync, tt), ((scoped.the_field_sync, tt), ((name.the_sync, tt), ((name.the_sync, (mode.the_field_sync, tt)), ((name.the_sync, tt), tt))))))))))))))))))))))))
+each_op_sync = ((search (text.the_sync, crosses, sendable), tt), (tt, (tt, ((search sendable, tt), ((value_sync, tt), ((name.the_sync, tt), ((implicit.the_field_sync, tt), (tt, ((header.the_field_sync, tt), ((scope.the_field_sync, tt), ((unary.the_field_sync, tt), ((binary.the_field_sync, tt), ((coercion.the_field_sync, tt), ((search sendable, tt), ((search sendable, tt), ((search sendable, tt), ((function.the_field_sync, tt), ((search sendable, tt), (tt, ((scoped.the_field_sync, tt), ((scoped.the_field_sync, tt), ((name.the_sync, tt), ((name.the_sync, (search (shared.the_sync, mode.the_field_send, mode.the_field_sync, crosses, sendable), tt)), ((name.the_sync, tt), tt))))))))))))))))))))))))
 
 op_sync : IsSync (Op.the_field).row
 op_sync = enum_sync (E.shape Op.the_type) each_op_sync
 
 each_instr_sync : EachSync (E.variants Instr.the_type)
-each_instr_sync = ((op_sync, tt), ((search sendable, tt), (tt, (tt, ((search sendable, tt), ((search sendable, (search sendable, tt)), ((search sendable, tt), ((scoped.the_field_sync, (bean_sync, (search sendable, tt))), ((kind.the_field_sync, tt), ((search sendable, tt), ((search sendable, tt), (tt, ((out.the_field_sync, tt), ((leave.the_field_sync, tt), tt))))))))))))))
+each_instr_sync = ((op_sync, tt), ((search sendable, tt), (tt, (tt, ((search sendable, tt), ((search sendable, (search sendable, tt)), ((search sendable, tt), ((scoped.the_field_sync, (search (shared.the_sync, bean_send, bean_sync, crosses, sendable), (search sendable, tt))), ((search (shared.the_sync, kind.the_field_send, kind.the_field_sync, crosses, sendable), tt), ((search sendable, tt), ((search sendable, tt), (tt, ((out.the_field_sync, tt), ((leave.the_field_sync, tt), tt))))))))))))))
 
 instr_sync : IsSync (Instr.the_field).row
 instr_sync = enum_sync (E.shape Instr.the_type) each_instr_sync
 
 cell_sync : IsSync Cell.the_row
-cell_sync = recorded_sync (Cell.the_field).row _ _ (Cell.the_type).to_one (struct_sync (S.shape Cell.the_type) (instr_sync, (place.the_field_sync, (shape.the_field_sync, tt))))
+cell_sync = recorded_sync (Cell.the_field).row _ _ (Cell.the_type).to_one (struct_sync (S.shape Cell.the_type) (instr_sync, (search (shared.the_sync, place.the_field_send, place.the_field_sync, crosses, sendable), (search (shared.the_sync, shape.the_field_send, shape.the_field_sync, crosses, sendable), tt))))
 
 code_sync : IsSync (Code.the_field).row
 code_sync = view_sync _ _ _ _ _ (recorded_sync (CodeInside.the_field).row _ _ (CodeInside.the_type).to_one (struct_sync (S.shape CodeInside.the_type) (search (cell_sync, crosses, sendable), tt)))
