@@ -75,7 +75,7 @@ pub(crate) fn run_code<'a, W: World>(
         };
         match quick(alloc, seat, op, &mut opened, world) {
             Ok(()) => pc += 1,
-            Err(failed) => match fail(alloc, failed, cell.place.get(), &mut opened, world) {
+            Err(failed) => match fail(alloc, failed, &cell.place, &mut opened, world) {
                 Flow::Go(to) => pc = to,
                 Flow::Over(end) => return end,
             },

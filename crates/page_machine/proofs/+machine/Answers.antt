@@ -15,7 +15,7 @@ use Rattle.page_machine.proofs.Looping.{begins_at, behind_turn, call_as, cell_at
 use Rattle.page_machine.proofs.PageCalls.{import_stepped, include_failed_is, include_stepped, include_unflushed, included_run_grows, page_failed, path_failed, path_on, path_page, ran_page}
 use Rattle.page_machine.proofs.TagCalls.{call_with, deeper_none, entered_grows, entered_move, tag_code_fits, tag_deep, tag_failed, tag_gone, tag_made, tag_short}
 use Rattle.page_machine.specs.Pages.{include_found, included_run}
-use Rattle.page_machine.specs.Turn.{SeatHolds}
+use Rattle.page_machine.specs.Turn.{CallBegins, SeatHolds}
 use Rattle.page_meaning.specs.Attributes.{table_of}
 use Rattle.page_meaning.specs.Exports.{exports_of}
 use Rattle.page_meaning.specs.Meaning.{flush_if}
@@ -25,7 +25,7 @@ use Rattle.page_meaning.specs.Went.{Raised, Well}
 use Rattle.page_table.specs.Act.{act, called_out, move_of, with_stack}
 use Rattle.page_table.specs.Calls.{given_called}
 use Rattle.page_table.specs.Checked.{SeatFits, TagsFit}
-use Rattle.page_table.specs.Finds.{Finds}
+use Rattle.page_table.specs.Finds.{CallFinds, Finds}
 use Rattle.page_table.specs.Landing.{thrown}
 use Rattle.page_table.specs.Move.{On}
 use Rattle.page_table.specs.Pages.{include_path, included}
@@ -260,10 +260,17 @@ turn::turn-returns-in_default-clause-stepped g t c =
 
 -- a call
 
+pub turn::call_out-tag_call-requires : goal.turn::call_out-tag_call-requires
+turn::call_out-tag_call-requires g t c κs within =
+    let is : c.args.what.now ≡ call.Tag c.get.result.now = c.in-Tag.is ∙ ap call.Tag (sym c.get.ensures) in
+    let begins = subst (CallBegins (code_of (seat_at c.args.at.now)) (c.args.at.now.pc + 1)) is c.requires.begins in
+    let finds = subst (CallFinds (length (code_of (seat_at c.args.at.now))) (c.args.at.now.pc + 1) (open_of c.args.opened.now)) is c.requires.finds in
+    search rules
+
 pub turn::call_out-returns-in-Tag-clause-stepped : goal.turn::call_out-returns-in-Tag-clause-stepped
 turn::call_out-returns-in-Tag-clause-stepped g t c =
-    call_as (seat_at c.args.at.now) c.args.at.now.cell.now.place (c.args.at.now.pc + 1) (open_of c.args.opened.now) c.args.what.now (call.Tag c.in-Tag.call) c.args.world.now c.tag_call.new.world (open_of c.tag_call.new.opened) c.tag_call.result
-    c.in-Tag.is c.tag_call.ensures.stepped
+    call_as (seat_at c.args.at.now) c.args.at.now.cell.now.place (c.args.at.now.pc + 1) (open_of c.args.opened.now) c.args.what.now (call.Tag c.get.result.now) c.args.world.now c.tag_call.new.world (open_of c.tag_call.new.opened) c.tag_call.result
+    (c.in-Tag.is ∙ ap call.Tag (sym c.get.ensures)) c.tag_call.ensures.stepped
 
 pub turn::call_out-returns-in-Body-clause-stepped : goal.turn::call_out-returns-in-Body-clause-stepped
 turn::call_out-returns-in-Body-clause-stepped g t c =
@@ -661,8 +668,8 @@ calls::given_call-returns-in-Raised-clause-stepped g t c =
     let level : c.args.opened.now.left ≡ suc c.in-Some.left = omega (arith, c.in-Some.ensures) in
     given_thrown laws.stores_on laws.again laws.tells c.args.at.now.served.now call caller c.in-Code.pc c.in-Some.left c.frame-frame.result c.frames-frames.result c.args.world.now c.copy_out.new.world c.turn_to.new.self c.run_code.new.world c.requires.known
     c.in_default-copy_out.ensures.does c.turn_to.ensures.turned c.turn_to.ensures.replies c.frame-frame.ensures.current counted more c.args.at.now.cell.now.place (c.args.at.now.pc + 1) (open_of c.args.opened.now) name (seat_at c.args.at.now) is gives level
-    c.in-Raised.fault c.in-Raised.place c.go_back-in-Raised.new.self c.throw-in-Raised.new.world (open_of c.throw-in-Raised.new.opened) c.throw-in-Raised.result c.in-Raised.ensures.ran c.go_back-in-Raised.ensures.back
-    c.go_back-in-Raised.ensures.replies c.throw-in-Raised.ensures.acted
+    c.in-Raised.fault c.in-Raised.place c.go_back-in-Raised.new.self c.throw_at.new.world (open_of c.throw_at.new.opened) c.throw_at.result c.in-Raised.ensures.ran c.go_back-in-Raised.ensures.back
+    c.go_back-in-Raised.ensures.replies c.throw_at.ensures.acted
 
 pub calls::given_call-returns-in_default-run_code-clause-stepped : goal.calls::given_call-returns-in_default-run_code-clause-stepped
 calls::given_call-returns-in_default-run_code-clause-stepped g t c =
@@ -949,8 +956,8 @@ calls::enter_call-returns-in-Raised-clause-stepped g t c =
     let made = ap (map export_of) c.as_slice-exports.ensures.value ∙ c.in-Ok.ensures ∙ ap (exports_of entries) c.as_slice.ensures in
     entered_thrown g.W.World.replies laws.stores_on laws.again laws.tells c.args.at.now.served.now c.args.at.now.cell.now.place this next seat o tag entries exports fragments c.frame-frame.result c.frames-frames.result c.in-Some.left c.args.world.now c.push_frame_of.new.self c.run_code.new.world c.requires.known c.in-Ok-push_frame_of.ensures.ok c.push_frame_of.ensures.replies
     c.frame-frame.ensures.current c.frame-frame.ensures.there counted
-    (next + call_size this) refl level made c.as_slice-2.ensures c.in-Raised.fault c.in-Raised.place c.go_back-in-Raised.new.self c.throw-in-Raised.new.world (open_of c.throw-in-Raised.new.opened) c.throw-in-Raised.result c.in-Raised.ensures.ran
-    c.go_back-in-Raised.ensures.back c.go_back-in-Raised.ensures.replies c.throw-in-Raised.ensures.acted
+    (next + call_size this) refl level made c.as_slice-2.ensures c.in-Raised.fault c.in-Raised.place c.go_back-in-Raised.new.self c.throw_at.new.world (open_of c.throw_at.new.opened) c.throw_at.result c.in-Raised.ensures.ran
+    c.go_back-in-Raised.ensures.back c.go_back-in-Raised.ensures.replies c.throw_at.ensures.acted
 
 pub calls::enter_call-returns-clause-stepped : goal.calls::enter_call-returns-clause-stepped
 calls::enter_call-returns-clause-stepped g t c =
