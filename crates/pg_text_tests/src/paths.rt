@@ -56,33 +56,47 @@ const TEXTS_IN_SHOP: [(&str, &str); 5] = [
     ("", "Empty"),
 ];
 
-// The path of a page of the shop, copied.
-fn list(alloc: Global) -> Result<Path, Failure<BadPath>> {
-    Ok(resolve(alloc, None, "/shop/list.jsp")?.copy()?)
-}
-
-fn is_meant_in_shop(alloc: Global, text: &str, meant: &str) -> Result<bool, Failure<BadPath>> {
-    let base = list(alloc)?;
-    Ok(is_meant(&resolve(alloc, Some(&base), text), meant))
-}
-
-#[test]
-fn a_text_stands_in_the_folder_of_its_base(rt: HostRuntime) -> Result<(), Fail> {
-    for &(text, meant) in &TEXTS_IN_SHOP {
-        assert!(rt; is_meant_in_shop(rt.alloc(), text, meant)?);
+// The same in the folder of a copy of the path.
+fn is_meant_at(alloc: Global, base: &Path, text: &str, meant: &str) -> bool {
+    match base.copy() {
+        Ok(base) => is_meant(&resolve(alloc, Some(&base), text), meant),
+        Err(_) => false,
     }
-    Ok(())
 }
 
-// Whether the path of a file at the top, whose name has so many letters, is no path.
-fn is_too_long(alloc: Global, letters: usize) -> Result<bool, AllocError> {
-    let name = "a".repeat(alloc, letters)?;
-    Ok(is_meant(&resolve(alloc, None, name.as_str()), "TooLong"))
+// The same in the folder of a page of the shop.
+fn is_meant_in_shop(alloc: Global, text: &str, meant: &str) -> bool {
+    match resolve(alloc, None, "/shop/list.jsp") {
+        Ok(list) => is_meant_at(alloc, &list, text, meant),
+        Err(_) => false,
+    }
 }
 
 #[test]
-fn a_path_has_at_most_1024_bytes(rt: HostRuntime) -> Result<(), Fail> {
-    assert!(rt; !is_too_long(rt.alloc(), 1_023)? && is_too_long(rt.alloc(), 1_024)?);
+fn a_text_stands_in_the_folder_of_its_base(rt: HostRuntime) {
+    for &(text, meant) in &TEXTS_IN_SHOP {
+        assert!(rt; is_meant_in_shop(rt.alloc(), text, meant));
+    }
+}
+
+// Whether a name of so many letters stands for a path, which has a stroke before it.
+fn is_path(alloc: Global, letters: usize) -> Result<bool, AllocError> {
+    let name = "a".repeat(alloc, letters)?;
+    Ok(resolve(alloc, None, name.as_str()).is_ok())
+}
+
+const LENGTHS: [(usize, bool); 2] = [(1_023, true), (1_024, false)];
+
+#[test]
+fn a_path_has_at_most_1024_bytes(rt: HostRuntime) {
+    for &(letters, fits) in &LENGTHS {
+        assert!(rt; is_path(rt.alloc(), letters) == Ok(fits));
+    }
+}
+
+fn add(alloc: Global, names: &mut Names, path: &str) -> Result<(), Failure<BadPath>> {
+    let path = resolve(alloc, None, path)?;
+    names.insert(path)?;
     Ok(())
 }
 
@@ -90,28 +104,35 @@ fn a_path_has_at_most_1024_bytes(rt: HostRuntime) -> Result<(), Fail> {
 fn names_of(alloc: Global, paths: &[&str]) -> Result<Names, Failure<BadPath>> {
     let mut names = Names::empty(alloc);
     for path in paths {
-        names.insert(resolve(alloc, None, path)?)?;
+        add(alloc, &mut names, path)?;
     }
     Ok(names)
 }
 
 /// Whether the names are these.
 pub fn are(names: &Names, wanted: &[&str]) -> bool {
-    let mut each = names.as_slice().iter().zip(wanted);
-    names.len() == wanted.len() && each.all(|(name, wanted)| name.as_str() == *wanted)
+    for (name, wanted) in names.as_slice().iter().zip(wanted) {
+        if name.as_str() != *wanted {
+            return false;
+        }
+    }
+    names.len() == wanted.len()
 }
 
 const PATHS: [&str; 4] = ["/b", "/a/c", "/b", "/a"];
 
-#[test]
-fn names_are_distinct_and_in_order(rt: HostRuntime) -> Result<(), Fail> {
-    assert!(rt;
-        are(
-            &names_of(rt.alloc(), &PATHS)?.copy()?,
-            &["/a", "/a/c", "/b"]
-        )
-    );
-    Ok(())
+const NAMES: [&str; 3] = ["/a", "/a/c", "/b"];
+
+// Whether the path is among the names.
+fn is_among(alloc: Global, names: &Names, path: &str) -> Result<bool, Failure<BadPath>> {
+    let path = resolve(alloc, None, path)?;
+    Ok(names.contains(&path))
+}
+
+// Whether a copy has the names, each once and in order, and they themselves are found.
+fn are_distinct(alloc: Global, names: &Names) -> Result<bool, Failure<BadPath>> {
+    let are_in_order = are(&names.copy()?, &NAMES);
+    Ok(are_in_order && is_among(alloc, names, "/a/c")? && !is_among(alloc, names, "/c")?)
 }
 
 // How many names these are, whether they are none, and how many they are once they were taken out.
@@ -121,19 +142,9 @@ fn counts(names: Names) -> (usize, bool, usize) {
 }
 
 #[test]
-fn names_are_counted(rt: HostRuntime) -> Result<(), Fail> {
-    assert!(rt; counts(names_of(rt.alloc(), &PATHS)?) == (3, false, 3));
-    Ok(())
-}
-
-// Whether the path is among the names.
-fn is_among(alloc: Global, path: &str) -> Result<bool, Failure<BadPath>> {
-    let path = resolve(alloc, None, path)?;
-    Ok(names_of(alloc, &PATHS)?.contains(&path))
-}
-
-#[test]
-fn a_name_is_found(rt: HostRuntime) -> Result<(), Fail> {
-    assert!(rt; is_among(rt.alloc(), "/a/c")? && !is_among(rt.alloc(), "/c")?);
+fn names_are_distinct_in_order_and_counted(rt: HostRuntime) -> Result<(), Fail> {
+    let names = names_of(rt.alloc(), &PATHS)?;
+    assert!(rt; matches!(are_distinct(rt.alloc(), &names), Ok(true)));
+    assert!(rt; counts(names) == (3, false, 3));
     Ok(())
 }

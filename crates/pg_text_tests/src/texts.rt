@@ -35,32 +35,28 @@ fn numbers_are_read(rt: HostRuntime) {
     }
 }
 
+const BYTES: [u8; 2] = [1, 2];
+
 fn copied_bytes(alloc: Global) -> Result<Vec<u8>, AllocError> {
-    Ok(Bytes::copy_of(alloc, &[1, 2])?.copy()?.into_vec())
+    Ok(Bytes::copy_of(alloc, &BYTES)?.copy()?.into_vec())
 }
 
 #[test]
 fn a_copy_has_the_same_bytes(rt: HostRuntime) -> Result<(), Fail> {
-    assert!(rt; copied_bytes(rt.alloc())?.as_slice() == [1, 2].as_slice());
+    assert!(rt; copied_bytes(rt.alloc())?.as_slice() == BYTES.as_slice());
     Ok(())
 }
 
-fn place(alloc: Global) -> Result<Place, Failure<BadPath>> {
-    Ok(Place {
-        file: resolve(alloc, None, "/a.jsp")?,
-        byte: 6,
-        line: 1,
-        column: 7,
-    })
-}
-
-// A copy of a fault, whose place is a copy too.
-fn copied_fault(alloc: Global) -> Result<PageFault, Failure<BadPath>> {
-    let fault = PageFault {
+fn fault(alloc: Global) -> Result<PageFault, Failure<BadPath>> {
+    Ok(PageFault {
         fault: TranslationFault::ElSyntax,
-        place: place(alloc)?.copy()?,
-    };
-    Ok(fault.copy()?)
+        place: Place {
+            file: resolve(alloc, None, "/a.jsp")?,
+            byte: 6,
+            line: 1,
+            column: 7,
+        },
+    })
 }
 
 fn is_told(fault: &PageFault) -> bool {
@@ -69,9 +65,14 @@ fn is_told(fault: &PageFault) -> bool {
         && fault.fault.name() == "ElSyntax"
 }
 
+// Whether that is told by a copy of the fault.
+fn is_copied(fault: &PageFault) -> Result<bool, AllocError> {
+    Ok(is_told(&fault.copy()?))
+}
+
 #[test]
 fn a_copy_tells_the_same_fault(rt: HostRuntime) -> Result<(), Fail> {
-    assert!(rt; is_told(&copied_fault(rt.alloc())?));
+    assert!(rt; is_copied(&fault(rt.alloc())?) == Ok(true));
     Ok(())
 }
 
@@ -87,16 +88,17 @@ fn tea(alloc: Global) -> Result<Text, AllocError> {
     Text::new(String::from_str(alloc, "Tea")?)
 }
 
-// A text, to whose copy something is added, and that copy.
-fn shared(text: Text) -> Result<(Text, Text), AllocError> {
-    let more = with(text.copy()?, &["pot"])?;
-    Ok((text, more))
+// The copy of a text to which something is added, and the text.
+fn shared(alloc: Global) -> Result<(Text, Text), AllocError> {
+    let text = tea(alloc)?;
+    let copy = text.copy()?;
+    Ok((copy, with(text, &["pot"])?))
 }
 
 #[test]
 fn a_shared_text_is_changed_alone(rt: HostRuntime) -> Result<(), Fail> {
-    let (text, more) = shared(tea(rt.alloc())?)?;
-    assert!(rt; text.as_str() == "Tea" && more.as_str() == "Teapot");
+    let (copy, text) = shared(rt.alloc())?;
+    assert!(rt; copy.as_str() == "Tea" && text.as_str() == "Teapot");
     Ok(())
 }
 
@@ -137,24 +139,31 @@ fn five_characters_are_escaped(rt: HostRuntime) -> Result<(), Fail> {
     Ok(())
 }
 
+fn add(alloc: Global, listed: &mut Listed<Text>, text: &str) -> Result<(), AllocError> {
+    listed.push(Text::copy_of(alloc, text)?)
+}
+
 fn texts_of(alloc: Global, texts: &[&str]) -> Result<Listed<Text>, AllocError> {
     let mut listed = Listed::empty(alloc);
     for text in texts {
-        listed.push(Text::copy_of(alloc, text)?)?;
+        add(alloc, &mut listed, text)?;
     }
     Ok(listed)
 }
 
 // Whether these are two texts of one letter each.
 fn are_two(texts: &Listed<Text>) -> bool {
-    let all = texts.as_slice().iter().all(|text| text.len() == 1);
-    all && texts.len() == 2 && !texts.is_empty()
+    for text in texts.as_slice() {
+        if text.len() != 1 {
+            return false;
+        }
+    }
+    texts.len() == 2 && !texts.is_empty()
 }
 
-#[test]
-fn a_list_is_its_items(rt: HostRuntime) -> Result<(), Fail> {
-    assert!(rt; are_two(&texts_of(rt.alloc(), &["b", "a"])?.copy()?));
-    Ok(())
+// Whether the copy of a list has these.
+fn are_copied(texts: &Listed<Text>) -> Result<bool, AllocError> {
+    Ok(are_two(&texts.copy()?))
 }
 
 // How many items of the list are taken out, once they were taken out and made a list again.
@@ -162,8 +171,12 @@ fn taken_twice(texts: Listed<Text>) -> usize {
     Listed::new(texts.into_vec()).into_vec().len()
 }
 
+const LETTERS: [&str; 2] = ["b", "a"];
+
 #[test]
-fn the_items_of_a_list_are_taken_out(rt: HostRuntime) -> Result<(), Fail> {
-    assert!(rt; taken_twice(texts_of(rt.alloc(), &["b", "a"])?) == 2);
+fn a_list_is_its_items(rt: HostRuntime) -> Result<(), Fail> {
+    let texts = texts_of(rt.alloc(), &LETTERS)?;
+    assert!(rt; are_copied(&texts) == Ok(true));
+    assert!(rt; taken_twice(texts) == 2);
     Ok(())
 }

@@ -46,18 +46,25 @@ fn is_row(file: &File, row: &Row<'_>) -> bool {
 
 // Whether the tree has these files, in this order, and no other.
 fn has_files(tree: &Tree, rows: &[Row<'_>]) -> bool {
-    tree.len() == rows.len() && tree.iter().zip(rows).all(|(file, row)| is_row(file, row))
+    for (file, row) in tree.iter().zip(rows) {
+        if !is_row(file, row) {
+            return false;
+        }
+    }
+    tree.len() == rows.len()
 }
+
+const LINES: [&str; 4] = ["/b.jsp first", "/c.jsp c", "/a.jsp a", "/b.jsp b"];
+
+const FILES: [Row<'static>; 3] = [
+    Row("/a.jsp", "a", 1),
+    Row("/b.jsp", "b", 1),
+    Row("/c.jsp", "c", 1),
+];
 
 #[test]
 fn edits_make_a_tree(rt: HostRuntime) -> Result<(), Fail> {
-    let lines = ["/b.jsp first", "/c.jsp c", "/a.jsp a", "/b.jsp b"];
-    let files = [
-        Row("/a.jsp", "a", 1),
-        Row("/b.jsp", "b", 1),
-        Row("/c.jsp", "c", 1),
-    ];
-    assert!(rt; has_files(&tree_of(rt.alloc(), &lines)?, &files));
+    assert!(rt; has_files(&tree_of(rt.alloc(), &LINES)?, &FILES));
     Ok(())
 }
 
@@ -73,11 +80,20 @@ fn further(alloc: Global, tree: &Tree) -> Result<Tree, Fail> {
     Ok(tree.apply(&edits, 2)?)
 }
 
+const EARLIER: [&str; 3] = ["/b.jsp b", "/c.jsp c", "/a.jsp a"];
+
+const LATER: [Row<'static>; 2] = [Row("/b.jsp", "b", 1), Row("/c.jsp", "c", 2)];
+
+// Whether they make another tree, and leave this one.
+fn is_made_anew(alloc: Global) -> Result<bool, Fail> {
+    let tree = tree_of(alloc, &EARLIER)?;
+    let has_later = has_files(&further(alloc, &tree)?, &LATER);
+    Ok(has_later && tree.len() == 3)
+}
+
 #[test]
 fn edits_make_a_tree_of_another(rt: HostRuntime) -> Result<(), Fail> {
-    let tree = tree_of(rt.alloc(), &["/b.jsp b", "/c.jsp c", "/a.jsp a"])?;
-    let files = [Row("/b.jsp", "b", 1), Row("/c.jsp", "c", 2)];
-    assert!(rt; has_files(&further(rt.alloc(), &tree)?, &files) && tree.len() == 3);
+    assert!(rt; is_made_anew(rt.alloc())?);
     Ok(())
 }
 
@@ -89,12 +105,14 @@ fn has_text(tree: &Tree, path: &Path, text: &str) -> bool {
     }
 }
 
-// The same in a tree of four files, each with its path as its text.
-fn is_found(alloc: Global, path: &str, text: &str) -> Result<bool, Fail> {
+// The same of a path in writing.
+fn is_found(alloc: Global, tree: &Tree, path: &str, text: &str) -> Result<bool, Failure<BadPath>> {
     let path = resolve(alloc, None, path)?;
-    let tree = tree_of(alloc, &["/b /b", "/a/b /a/b", "/a-b /a-b", "/ab /ab"])?;
-    Ok(has_text(&tree, &path, text))
+    Ok(has_text(tree, &path, text))
 }
+
+// Files, each with its path as its text.
+const FOUR: [&str; 4] = ["/b /b", "/a/b /a/b", "/a-b /a-b", "/ab /ab"];
 
 const FOUND: [(&str, &str); 6] = [
     ("/b", "/b"),
@@ -107,51 +125,56 @@ const FOUND: [(&str, &str); 6] = [
 
 #[test]
 fn a_file_is_found_by_its_path(rt: HostRuntime) -> Result<(), Fail> {
+    let tree = tree_of(rt.alloc(), &FOUR)?;
     for &(path, text) in &FOUND {
-        assert!(rt; is_found(rt.alloc(), path, text)?);
+        assert!(rt; matches!(is_found(rt.alloc(), &tree, path, text), Ok(true)));
     }
     Ok(())
 }
 
-// The edits, and behind them so many that put a file with this text, whose name is a number.
-fn with_files(
+// Adds an edit that puts a file with this text, whose name is a number.
+fn add_file(alloc: Global, edits: &mut Edits, text: &str) -> Result<(), Failure<BadPath>> {
+    let number = edits.len();
+    let edit = put(alloc, format!(in alloc; "/{number}")?.as_str(), text)?;
+    edits.push(edit)?;
+    Ok(())
+}
+
+fn add_files(
     alloc: Global,
-    mut edits: Edits,
+    edits: &mut Edits,
     count: usize,
     text: &str,
-) -> Result<Edits, Failure<BadPath>> {
+) -> Result<(), Failure<BadPath>> {
     for _ in 0..count {
-        let number = edits.len();
-        edits.push(numbered(alloc, number, text)?)?;
+        add_file(alloc, edits, text)?;
     }
-    Ok(edits)
+    Ok(())
 }
 
-fn numbered(alloc: Global, number: usize, text: &str) -> Result<Edit, Failure<BadPath>> {
-    put(alloc, format!(in alloc; "/{number}")?.as_str(), text)
-}
-
-// The edits, and behind them so many that put a file of so many bytes.
-fn with_sized(
+// Adds so many of these edits, for files of so many bytes.
+fn add_sized(
     alloc: Global,
-    edits: Edits,
+    edits: &mut Edits,
     count: usize,
     bytes: usize,
-) -> Result<Edits, Failure<BadPath>> {
-    with_files(alloc, edits, count, "x".repeat(alloc, bytes)?.as_str())
+) -> Result<(), Failure<BadPath>> {
+    let text = "x".repeat(alloc, bytes)?;
+    add_files(alloc, edits, count, text.as_str())
 }
 
-// Edits that put so many files of so many bytes, and one more of so many.
-fn edits_for(
+// Adds edits for so many files of so many bytes, and for one more of so many.
+fn fill(
     alloc: Global,
+    edits: &mut Edits,
     count: usize,
     bytes: usize,
     more: Option<usize>,
-) -> Result<Edits, Failure<BadPath>> {
-    let edits = with_sized(alloc, Edits::new(alloc), count, bytes)?;
+) -> Result<(), Failure<BadPath>> {
+    add_sized(alloc, edits, count, bytes)?;
     match more {
-        Some(bytes) => with_sized(alloc, edits, 1, bytes),
-        None => Ok(edits),
+        Some(bytes) => add_sized(alloc, edits, 1, bytes),
+        None => Ok(()),
     }
 }
 
@@ -171,7 +194,8 @@ fn is_sized(
     more: Option<usize>,
     wanted: Result<usize, TreeFault>,
 ) -> Result<bool, Failure<BadPath>> {
-    let edits = edits_for(alloc, count, bytes, more)?;
+    let mut edits = Edits::new(alloc);
+    fill(alloc, &mut edits, count, bytes, more)?;
     Ok(is_made(&Tree::new(alloc).apply(&edits, 0), wanted))
 }
 
@@ -191,11 +215,10 @@ const SIZES: [Limits; 5] = [
 ];
 
 #[test]
-fn trees_have_limits(rt: HostRuntime) -> Result<(), Fail> {
+fn trees_have_limits(rt: HostRuntime) {
     for &(count, bytes, more, wanted) in &SIZES {
-        assert!(rt; is_sized(rt.alloc(), count, bytes, more, wanted)?);
+        assert!(rt; matches!(is_sized(rt.alloc(), count, bytes, more, wanted), Ok(true)));
     }
-    Ok(())
 }
 
 // The names that the edits change, which are copied.
