@@ -2,7 +2,7 @@
 use crate::journal::{agreeing, entries, errand, hits, prepare};
 use crate::meeting::{Job, Watch};
 use crate::passes::site_after;
-use pg_text::{BadPath, Failure};
+use crate::visiting::Errand;
 use site_core::Site;
 use site_core_tests::{AMPLE, Word, opened, told};
 use std::alloc::{AllocError, Global};
@@ -27,8 +27,19 @@ pub fn worked<R: Threads + Wait + Sync>(
     watch: &Watch,
 ) -> Result<Site<Word>, Fail> {
     let errand = errand(alloc, cookie)?;
+    worked_for(rt, alloc, passes, &errand, job, watch)
+}
+
+fn worked_for<R: Threads + Wait + Sync>(
+    rt: &R,
+    alloc: Global,
+    passes: u8,
+    errand: &Errand,
+    job: Job,
+    watch: &Watch,
+) -> Result<Site<Word>, Fail> {
     let site = prepared(alloc, passes)?;
-    match site_after(rt, alloc, site, watch, &errand, job)? {
+    match site_after(rt, alloc, site, watch, errand, job)? {
         Some(site) => Ok(site),
         None => Err(Fail::new("a request was under way")),
     }
@@ -38,15 +49,15 @@ pub fn worked<R: Threads + Wait + Sync>(
 /// many of its entries a second site gives the same answers; and then a picture of the site, and
 /// one of the second.
 pub fn account(alloc: Global, mut site: Site<Word>, passes: u8) -> Result<String, Fail> {
-    let mut again = opened(alloc, AMPLE, passes)?;
-    Ok(both(alloc, &mut site, &mut again)?)
+    account_of(alloc, &mut site, passes)
 }
 
-fn both(
-    alloc: Global,
-    site: &mut Site<Word>,
-    again: &mut Site<Word>,
-) -> Result<String, Failure<BadPath>> {
+fn account_of(alloc: Global, site: &mut Site<Word>, passes: u8) -> Result<String, Fail> {
+    let mut again = opened(alloc, AMPLE, passes)?;
+    both(alloc, site, &mut again)
+}
+
+fn both(alloc: Global, site: &mut Site<Word>, again: &mut Site<Word>) -> Result<String, Fail> {
     let same = agreeing(alloc, again, site.history())?;
     let hits = hits(site.history());
     let count = site.len();

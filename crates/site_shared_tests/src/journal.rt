@@ -36,15 +36,16 @@ pub fn errand(alloc: Global, cookie: &str) -> Result<Errand, Failure<BadPath>> {
 pub fn entries(alloc: Global, history: &History, from: usize) -> Result<String, AllocError> {
     let mut lines = String::new(alloc);
     for entry in history.iter().skip(from) {
-        lines.push_str(entry_line(alloc, entry)?.as_str())?;
+        add_entry(alloc, &mut lines, entry)?;
     }
     Ok(lines)
 }
 
-fn entry_line(alloc: Global, entry: &PackedEntry) -> Result<String, AllocError> {
+fn add_entry(alloc: Global, lines: &mut String, entry: &PackedEntry) -> Result<(), AllocError> {
     let pass = entry.pass();
     let reply = replied(alloc, entry.reply())?;
-    format!(in alloc; "{pass} {reply}\n")
+    let line = format!(in alloc; "{pass} {reply}\n")?;
+    lines.push_str(line.as_str())
 }
 
 /// How many entries of the history have the answers that a site gives which does them again, one
