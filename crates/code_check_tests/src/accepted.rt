@@ -1,36 +1,36 @@
 // Codes in writing: cells between semicolons, each with what stands open before it, and its
 // instruction. What stands open is a digit for values, and k, l, t for a body that is kept, a loop
 // and a catch, in the order in which they were opened; z drops all values.
-use crate::operations::operation;
+use crate::operations::{operation, scoped};
 use code_check::CheckedCode;
 use page_code::{
-    Bean, CallBody, CallOut, Code, Fragment, Instr, Leave, LoopKind, Name, Over, ScopedName, Shape,
-    Shared, TagCall,
+    Bean, CallBody, CallOut, Code, Fragment, Instr, Leave, LoopKind, Name, Over, Shape, Shared,
+    TagCall,
 };
 use pg_text::{Listed, Place, Text, resolve};
-use pg_value::{Scope, Value};
+use pg_value::Value;
 use std::alloc::{AllocError, Global};
 use std::test::Fail;
 
 /// Whether the code can be run.
 pub fn is_accepted(alloc: Global, cells: &str) -> Result<bool, Fail> {
+    let place = place(alloc)?;
     let mut code = Code::new(alloc);
     if !cells.is_empty() {
         for cell in cells.split(';') {
-            put(alloc, &mut code, cell)?;
+            put(alloc, &mut code, &place, cell)?;
         }
     }
     Ok(CheckedCode::new(code).is_ok())
 }
 
-fn put(alloc: Global, code: &mut Code, cell: &str) -> Result<(), Fail> {
+fn put(alloc: Global, code: &mut Code, place: &Place, cell: &str) -> Result<(), Fail> {
     let Some((open, instruction)) = cell.split_once(' ') else {
         return Err(Fail::new("a cell has no instruction"));
     };
-    let place = place(alloc)?;
     let shape = shape(alloc, open)?;
     let instr = instruction_of(alloc, instruction)?;
-    code.put(&shape, &place, instr)?;
+    code.put(&shape, place, instr)?;
     Ok(())
 }
 
@@ -57,48 +57,40 @@ fn opened(shape: &Shape, letter: u8) -> Result<Shape, AllocError> {
 }
 
 fn instruction_of(alloc: Global, words: &str) -> Result<Instr, Fail> {
-    let (word, count) = match words.split_once(' ') {
-        Some((word, count)) => (word, count.parse::<usize>().unwrap_or(0)),
-        None => (words, 0),
-    };
-    if let Some(instr) = jump(word, count) {
-        return Ok(instr);
-    }
-    if let Some(instr) = opening(alloc, word, count)? {
-        return Ok(instr);
-    }
-    if let Some(what) = call(alloc, word, count)? {
-        return Ok(Instr::CallOut(what));
-    }
-    match operation(alloc, word)? {
-        Some(op) => Ok(Instr::Op(op)),
-        None => Err(Fail::new("there is no such instruction")),
+    match words.split_once(' ') {
+        Some((word, count)) => jump(alloc, word, count.parse::<usize>().unwrap_or(0)),
+        None => jump(alloc, words, 0),
     }
 }
 
-fn jump(word: &str, count: usize) -> Option<Instr> {
+// The jump of this word, or what else the word stands for.
+fn jump(alloc: Global, word: &str, count: usize) -> Result<Instr, Fail> {
     match word {
-        "Take" => Some(Instr::Take(count)),
-        "Jump" => Some(Instr::Jump(count)),
-        "JumpIf" => Some(Instr::JumpIf(true, count)),
-        "JumpNull" => Some(Instr::JumpNull(count)),
-        "End" => Some(Instr::Leave(Leave::End)),
-        "Forward" => Some(Instr::Leave(Leave::Forward(count))),
-        "Redirect" => Some(Instr::Leave(Leave::Redirect)),
-        _ => None,
+        "Take" => Ok(Instr::Take(count)),
+        "Jump" => Ok(Instr::Jump(count)),
+        "JumpIf" => Ok(Instr::JumpIf(true, count)),
+        "JumpNull" => Ok(Instr::JumpNull(count)),
+        "End" => Ok(Instr::Leave(Leave::End)),
+        "Forward" => Ok(Instr::Leave(Leave::Forward(count))),
+        "Redirect" => Ok(Instr::Leave(Leave::Redirect)),
+        _ => opening(alloc, word, count),
     }
 }
 
-fn opening(alloc: Global, word: &str, count: usize) -> Result<Option<Instr>, Fail> {
+// What opens or closes something, or else a call or an operation.
+fn opening(alloc: Global, word: &str, count: usize) -> Result<Instr, Fail> {
     match word {
-        "StartBody" => Ok(Some(Instr::StartBody)),
-        "TakeBody" => Ok(Some(Instr::TakeBody)),
-        "CatchStart" => Ok(Some(Instr::CatchStart(count))),
-        "CatchEnd" => Ok(Some(Instr::CatchEnd)),
-        "LoopStart" => Ok(Some(loop_start(alloc, count)?)),
-        "LoopNext" => Ok(Some(Instr::LoopNext(count))),
-        "Ensure" => Ok(Some(ensure(alloc, count)?)),
-        _ => Ok(None),
+        "StartBody" => Ok(Instr::StartBody),
+        "TakeBody" => Ok(Instr::TakeBody),
+        "CatchStart" => Ok(Instr::CatchStart(count)),
+        "CatchEnd" => Ok(Instr::CatchEnd),
+        "LoopStart" => loop_start(alloc, count),
+        "LoopNext" => Ok(Instr::LoopNext(count)),
+        "Ensure" => ensure(alloc, count),
+        _ => match call(alloc, word, count)? {
+            Some(what) => Ok(Instr::CallOut(what)),
+            None => Ok(Instr::Op(operation(alloc, word)?)),
+        },
     }
 }
 
@@ -115,16 +107,18 @@ fn loop_start(alloc: Global, names: usize) -> Result<Instr, Fail> {
 
 // A bean, with so many cells behind it that are passed over where it stands.
 fn ensure(alloc: Global, size: usize) -> Result<Instr, Fail> {
-    let variable = ScopedName {
-        scope: Scope::Page,
-        name: name(alloc)?,
-    };
+    let bean = bean(alloc)?;
+    let variable = scoped(alloc)?;
+    Ok(Instr::Ensure {
+        variable,
+        bean,
+        size,
+    })
+}
+
+fn bean(alloc: Global) -> Result<Shared<Bean>, Fail> {
     match Bean::new(Value::Null) {
-        Some(bean) => Ok(Instr::Ensure {
-            variable,
-            bean: Shared::new(alloc, bean)?,
-            size,
-        }),
+        Some(bean) => Ok(Shared::new(alloc, bean)?),
         None => Err(Fail::new("the value is too large")),
     }
 }
@@ -142,39 +136,44 @@ fn call(alloc: Global, word: &str, count: usize) -> Result<Option<CallOut>, Fail
     }
 }
 
-fn tag(alloc: Global, word: &str, count: usize) -> Result<Option<CallOut>, Fail> {
+// The call of a tag file with one attribute, and a fragment of so many cells.
+fn tag(alloc: Global, word: &str, size: usize) -> Result<Option<CallOut>, Fail> {
     match body_of(alloc, word)? {
-        Some(body) => Ok(Some(tag_call(alloc, body, count)?)),
+        Some(body) => Ok(Some(tag_call(alloc, body, size)?)),
         None => Ok(None),
     }
 }
 
 // What the body of a call of a tag file is.
-fn body_of(alloc: Global, word: &str) -> Result<Option<CallBody>, Fail> {
-    let body = match word {
-        "TagWithout" => CallBody::Absent,
-        "TagOfText" => CallBody::Source(text(alloc)?),
-        "TagOfOne" => CallBody::Cells(1),
-        "TagOfTwo" => CallBody::Cells(2),
-        "TagOfThree" => CallBody::Cells(3),
-        "TagOfAll" => CallBody::Cells(usize::MAX),
-        _ => return Ok(None),
-    };
-    Ok(Some(body))
+fn body_of(alloc: Global, word: &str) -> Result<Option<CallBody>, AllocError> {
+    match word {
+        "TagWithout" => Ok(Some(CallBody::Absent)),
+        "TagOfText" => Ok(Some(CallBody::Source(text(alloc)?))),
+        "TagOfOne" => Ok(Some(CallBody::Cells(1))),
+        "TagOfTwo" => Ok(Some(CallBody::Cells(2))),
+        "TagOfThree" => Ok(Some(CallBody::Cells(3))),
+        "TagOfAll" => Ok(Some(CallBody::Cells(usize::MAX))),
+        _ => Ok(None),
+    }
 }
 
-// The call of a tag file with one attribute, and a fragment of so many cells.
 fn tag_call(alloc: Global, body: CallBody, size: usize) -> Result<CallOut, Fail> {
+    let mut call = call_without(alloc, size)?;
+    call.body = body;
+    Ok(CallOut::Tag(Shared::new(alloc, call)?))
+}
+
+// Such a call without a body.
+fn call_without(alloc: Global, size: usize) -> Result<TagCall, Fail> {
     let path = resolve(alloc, None, "/WEB-INF/tags/t.tag")?;
     let names = texts(alloc, 1)?;
     let fragments = fragment(alloc, size)?;
-    let call = TagCall {
+    Ok(TagCall {
         path,
         names,
-        body,
+        body: CallBody::Absent,
         fragments,
-    };
-    Ok(CallOut::Tag(Shared::new(alloc, call)?))
+    })
 }
 
 fn fragment(alloc: Global, size: usize) -> Result<Listed<Fragment>, AllocError> {

@@ -6,83 +6,70 @@ use std::alloc::Global;
 use std::test::Fail;
 
 /// The operation of this word.
-pub fn operation(alloc: Global, word: &str) -> Result<Option<Op>, Fail> {
-    if let Some(op) = of_stack(word) {
-        return Ok(Some(op));
-    }
-    if let Some(op) = of_values(word) {
-        return Ok(Some(op));
-    }
-    if let Some(op) = of_variables(alloc, word)? {
-        return Ok(Some(op));
-    }
-    of_properties(alloc, word)
-}
-
-fn of_stack(word: &str) -> Option<Op> {
+pub fn operation(alloc: Global, word: &str) -> Result<Op, Fail> {
     match word {
-        "Push" => Some(Op::Const(Value::Null)),
-        "Pop" => Some(Op::Pop),
-        "Visit" => Some(Op::Visit(1)),
-        "Put" => Some(Op::Put),
-        "PutEscaped" => Some(Op::PutEscaped),
-        "MakeList" => Some(Op::MakeList(3)),
-        "MakeMap" => Some(Op::MakeMap(2)),
-        "Concat" => Some(Op::Concat(0)),
-        _ => None,
+        "Push" => Ok(Op::Const(Value::Null)),
+        "Pop" => Ok(Op::Pop),
+        "Visit" => Ok(Op::Visit(1)),
+        "Put" => Ok(Op::Put),
+        "PutEscaped" => Ok(Op::PutEscaped),
+        "MakeList" => Ok(Op::MakeList(3)),
+        "MakeMap" => Ok(Op::MakeMap(2)),
+        "Concat" => Ok(Op::Concat(0)),
+        _ => of_values(alloc, word),
     }
 }
 
-fn of_values(word: &str) -> Option<Op> {
+// What takes values and leaves one, or else an operation on variables or properties.
+fn of_values(alloc: Global, word: &str) -> Result<Op, Fail> {
     match word {
-        "Implicit" => Some(Op::Implicit(Implicit::Cookie)),
-        "Index" => Some(Op::Index),
-        "HeaderIndex" => Some(Op::HeaderIndex(HeaderObject::Header)),
-        "ScopeIndex" => Some(Op::ScopeIndex(Scope::Application)),
-        "Unary" => Some(Op::Unary(UnOp::Not)),
-        "Binary" => Some(Op::Binary(BinOp::Add)),
-        "Coerce" => Some(Op::Coerce(Coercion::Text)),
-        "Call" => Some(Op::Call(Function::Replace)),
-        "Url" => Some(Op::Url(1)),
-        _ => None,
+        "Implicit" => Ok(Op::Implicit(Implicit::Cookie)),
+        "Index" => Ok(Op::Index),
+        "HeaderIndex" => Ok(Op::HeaderIndex(HeaderObject::Header)),
+        "ScopeIndex" => Ok(Op::ScopeIndex(Scope::Application)),
+        "Unary" => Ok(Op::Unary(UnOp::Not)),
+        "Binary" => Ok(Op::Binary(BinOp::Add)),
+        "Coerce" => Ok(Op::Coerce(Coercion::Text)),
+        "Call" => Ok(Op::Call(Function::Replace)),
+        "Url" => Ok(Op::Url(1)),
+        _ => of_variables(alloc, word),
     }
 }
 
-fn of_variables(alloc: Global, word: &str) -> Result<Option<Op>, Fail> {
+fn of_variables(alloc: Global, word: &str) -> Result<Op, Fail> {
     match word {
-        "Write" => Ok(Some(Op::Write(text(alloc)?))),
-        "Find" => Ok(Some(Op::Find(name(alloc)?))),
-        "SetVar" => Ok(Some(Op::SetVar(scoped(alloc)?))),
-        "RemoveVar" => Ok(Some(Op::RemoveVar(scoped(alloc)?))),
-        "RemoveAll" => Ok(Some(Op::RemoveAll(name(alloc)?))),
-        _ => Ok(None),
+        "Write" => Ok(Op::Write(text(alloc)?)),
+        "Find" => Ok(Op::Find(name(alloc)?)),
+        "SetVar" => Ok(Op::SetVar(scoped(alloc)?)),
+        "RemoveVar" => Ok(Op::RemoveVar(scoped(alloc)?)),
+        "RemoveAll" => Ok(Op::RemoveAll(name(alloc)?)),
+        _ => of_properties(alloc, word),
     }
 }
 
-fn of_properties(alloc: Global, word: &str) -> Result<Option<Op>, Fail> {
-    let name = name(alloc)?;
-    if word == "GetProperty" {
-        return Ok(Some(Op::GetProperty(name)));
-    }
-    match mode_of(alloc, word)? {
-        Some(mode) => Ok(Some(Op::SetProperty(name, Shared::new(alloc, mode)?))),
-        None => Ok(None),
-    }
-}
-
-fn mode_of(alloc: Global, word: &str) -> Result<Option<PropertyMode>, Fail> {
+fn of_properties(alloc: Global, word: &str) -> Result<Op, Fail> {
     match word {
-        "SetEntry" => Ok(Some(PropertyMode::Entry)),
-        "SetProperty" => Ok(Some(PropertyMode::Value {
-            property: text(alloc)?,
-            place: place(alloc)?,
-        })),
-        "SetParameters" => Ok(Some(PropertyMode::Parameters)),
-        _ => Ok(None),
+        "GetProperty" => Ok(Op::GetProperty(name(alloc)?)),
+        "SetEntry" => set_property(alloc, PropertyMode::Entry),
+        "SetProperty" => set_property(alloc, value_mode(alloc)?),
+        "SetParameters" => set_property(alloc, PropertyMode::Parameters),
+        _ => Err(Fail::new("there is no such instruction")),
     }
 }
 
-fn scoped(alloc: Global) -> Result<ScopedName, Fail> {
+fn set_property(alloc: Global, mode: PropertyMode) -> Result<Op, Fail> {
+    let mode = Shared::new(alloc, mode)?;
+    Ok(Op::SetProperty(name(alloc)?, mode))
+}
+
+fn value_mode(alloc: Global) -> Result<PropertyMode, Fail> {
+    let property = text(alloc)?;
+    let place = place(alloc)?;
+    Ok(PropertyMode::Value { property, place })
+}
+
+/// The name in the scope of the page.
+pub fn scoped(alloc: Global) -> Result<ScopedName, Fail> {
     Ok(ScopedName {
         scope: Scope::Page,
         name: name(alloc)?,
