@@ -11,7 +11,7 @@ ghost use Rattle.unit_meaning.specs.Named.{text_of_attribute};
 ghost use Rattle.unit_meaning.specs.Shape.{jsp_node};
 ghost use Rattle.unit_nodes.specs.Views.{given_of};
 
-use crate::named::{property_in, scope_named, some_variable, text_of_attribute};
+use crate::named::{attribute_is, property_in, scope_of_bean, some_variable, text_of_attribute};
 use crate::parts::Parts;
 use crate::roles::nothing;
 use page_acts::Act;
@@ -51,9 +51,8 @@ fn include<'u>(alloc: Global, action: &'u Action, parts: Parts<'u>) -> Result<Ac
         (codes "true")) (parts_view parts.entry).attributes (parts_view parts.entry).content.params
         action.now.place) }
 {
-    let flush = text_of_attribute(alloc, action.attributes.as_slice(), "flush")?;
     Ok(Act::Include {
-        flush: flush.as_str() == "true",
+        flush: attribute_is(alloc, action.attributes.as_slice(), "flush", "true")?,
         attributes: parts.attributes,
         params: parts.params,
         place: &action.place,
@@ -81,10 +80,9 @@ fn use_bean<'u>(alloc: Global, action: &'u Action, parts: Parts<'u>) -> Result<A
         (parts_view parts.entry).content.nodes action.now.place) }
 {
     let attributes = action.attributes.as_slice();
-    let scope = text_of_attribute(alloc, attributes, "scope")?;
     Ok(Act::UseBean {
+        scope: scope_of_bean(alloc, attributes)?,
         name: text_of_attribute(alloc, attributes, "id")?,
-        scope: scope_named(scope.as_str()),
         class: text_of_attribute(alloc, attributes, "class")?,
         body: parts.body,
         place: &action.place,

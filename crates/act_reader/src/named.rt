@@ -90,6 +90,20 @@ pub(crate) fn text_of_attribute(
     }
 }
 
+/// Whether this is the text of the attribute of a name.
+pub(crate) fn attribute_is(
+    alloc: Global,
+    attributes: &[UnitAttribute],
+    wanted: &str,
+    text: &str,
+) -> Result<bool, AllocError>
+    ensures { IfOk result (λ is. is
+        ≡ bytes_eq (text_of_attribute wanted.now (map given_of attributes.now)) text.now) }
+{
+    let written = text_of_attribute(alloc, attributes, wanted)?;
+    Ok(written.as_str() == text)
+}
+
 /// The scope of a name; page scope of any other.
 pub(crate) fn scope_named(name: &str) -> Scope
     ensures { result ≡ scope_named name.now }
@@ -103,6 +117,18 @@ pub(crate) fn scope_named(name: &str) -> Scope
     } else {
         Scope::Page
     }
+}
+
+/// The scope of the bean that attributes name.
+pub(crate) fn scope_of_bean(
+    alloc: Global,
+    attributes: &[UnitAttribute],
+) -> Result<Scope, AllocError>
+    ensures { IfOk result (λ scope. scope
+        ≡ scope_named (text_of_attribute (codes "scope") (map given_of attributes.now))) }
+{
+    let name = text_of_attribute(alloc, attributes, "scope")?;
+    Ok(scope_named(name.as_str()))
 }
 
 // The scope that attributes name, where they name one.

@@ -13,7 +13,7 @@ use crate::acts_of_core::core_act;
 use crate::acts_of_jsp::jsp_act;
 use crate::call::call_act;
 use crate::contents::{Children, Content};
-use crate::named::text_of_attribute;
+use crate::named::{attribute_is, text_of_attribute};
 use crate::parts::Parts;
 use jstl_tags::CoreName;
 use page_acts::{Act, ActAttribute, ActBranch, ActParam};
@@ -135,11 +135,9 @@ fn given<'u>(
         ≡ given_if true (map given_of action.now.attributes) (acts_of body.entry.items) action.now.place others) }
 {
     let attributes = action.attributes.as_slice();
-    let name = text_of_attribute(alloc, attributes, "name")?;
-    let trim = text_of_attribute(alloc, attributes, "trim")?;
     Ok(ActAttribute::Given {
-        name,
-        trim: trim.as_str() != "false",
+        trim: !attribute_is(alloc, attributes, "trim", "false")?,
+        name: text_of_attribute(alloc, attributes, "name")?,
         body,
         place: &action.place,
     })
