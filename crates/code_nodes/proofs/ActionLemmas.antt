@@ -15,6 +15,7 @@ use Rattle.code_lowering.specs.Lowering.{attributes_form, node_form, nodes_form,
 use Rattle.page_meaning.specs.Attributes.{evaluated_names}
 use Rattle.page_meaning.specs.Page.{Page, Attributes, Nodes, Params}
 use Rattle.pg_text.specs.declared.place.Place.{Place}
+use Rattle.code_nodes.specs.Actions.{around_by, around_code, on_address_by, on_address_code}
 
 module _ (sh : Shape) (place : Place) (page : Page) (list : Attributes) where
   -- the code of the values, and their names, under these coercions
@@ -24,27 +25,26 @@ module _ (sh : Shape) (place : Place) (page : Page) (list : Attributes) where
   abbrev names_by : Evaluations → List (List ℕ)
   names_by e = evaluated_names (coercions e) list
 
-  pub enclosed_is : (a : Enclosing) (nodes : Nodes) (e : Evaluations) (names : List (List ℕ)) (values body code total : List Cell) (within : Shape)
-      → e ≡ enclosing_evaluations a → names ≡ names_by e → values ≡ values_by e → within ≡ enclosing_ground a names sh → body ≡ form_code within (nodes_form page nodes)
-      → code ≡ enclosing_code a sh place names body → total ≡ values ++ code → total ≡ form_code sh (node_form page (enclosing_node a list nodes place))
-  enclosed_is a nodes e names values body code total within e_is names_are values_are within_is body_is code_is total_is =
-      total_is
-      ∙ ap (λ cells. cells ++ code) (values_are ∙ ap values_by e_is)
-      ∙ ap (λ cells. values_by (enclosing_evaluations a) ++ cells)
-      (code_is
-      ∙ ap (λ cells. enclosing_code a sh place names cells) (body_is ∙ ap (λ s. form_code s (nodes_form page nodes)) within_is)
-      ∙ ap (λ ns. enclosing_code a sh place ns (form_code (enclosing_ground a ns sh) (nodes_form page nodes))) (names_are ∙ ap names_by e_is))
-      ∙ enclosing_is sh place page list a nodes
+  pub around_is : (a : Enclosing) (nodes : Nodes) (e : Evaluations) (names : List (List ℕ)) (within : Shape) (body : List Cell) → e ≡ enclosing_evaluations a → names ≡ names_by e
+      → within ≡ enclosing_ground a names sh → body ≡ form_code within (nodes_form page nodes) → enclosing_code a sh place names body ≡ around_code sh place page list a nodes
+  around_is a nodes e names within body e_is names_are within_is body_is =
+      ap (λ cells. enclosing_code a sh place names cells) (body_is ∙ ap (λ s. form_code s (nodes_form page nodes)) within_is)
+      ∙ ap (λ ns. around_by a ns sh place page nodes) (names_are ∙ ap names_by e_is)
 
-  pub addressed_is : (a : Addressing) (ps : Params) (e : Evaluations) (names : List (List ℕ)) (count : ℕ) (values given code total : List Cell) (above : Shape)
-      → e ≡ addressing_evaluations a → names ≡ names_by e → values ≡ values_by e → above ≡ up 1 sh → given ≡ form_code above (params_form page ps) → count ≡ param_count ps
-      → code ≡ addressing_code a sh place names count given → total ≡ values ++ code → total ≡ form_code sh (node_form page (addressing_node a list ps place))
-  addressed_is a ps e names count values given code total above e_is names_are values_are above_is given_is counted code_is total_is =
-      total_is
-      ∙ ap (λ cells. cells ++ code) (values_are ∙ ap values_by e_is)
-      ∙ ap (λ cells. values_by (addressing_evaluations a) ++ cells)
-      (code_is
-      ∙ ap (λ cells. addressing_code a sh place names count cells) (given_is ∙ ap (λ s. form_code s (params_form page ps)) above_is)
+  pub enclosed_is : (a : Enclosing) (nodes : Nodes) (e : Evaluations) (values behind : List Cell) → e ≡ enclosing_evaluations a → values ≡ values_by e
+      → behind ≡ around_code sh place page list a nodes → values ++ behind ≡ form_code sh (node_form page (enclosing_node a list nodes place))
+  enclosed_is a nodes e values behind e_is values_are behind_is =
+      ap (λ cells. cells ++ behind) (values_are ∙ ap values_by e_is) ∙ ap (λ cells. values_by (enclosing_evaluations a) ++ cells) behind_is ∙ enclosing_is sh place page list a nodes
+
+  pub on_address_is : (a : Addressing) (ps : Params) (e : Evaluations) (names : List (List ℕ)) (count : ℕ) (given : List Cell) (above : Shape) → e ≡ addressing_evaluations a
+      → names ≡ names_by e → above ≡ up 1 sh → given ≡ form_code above (params_form page ps) → count ≡ param_count ps
+      → addressing_code a sh place names count given ≡ on_address_code sh place page list a ps
+  on_address_is a ps e names count given above e_is names_are above_is given_is counted =
+      ap (λ cells. addressing_code a sh place names count cells) (given_is ∙ ap (λ s. form_code s (params_form page ps)) above_is)
       ∙ ap (λ n. addressing_code a sh place names n (form_code (up 1 sh) (params_form page ps))) counted
-      ∙ ap (λ ns. addressing_code a sh place ns (param_count ps) (form_code (up 1 sh) (params_form page ps))) (names_are ∙ ap names_by e_is))
-      ∙ addressing_is sh place page list a ps
+      ∙ ap (λ ns. on_address_by a ns sh place page ps) (names_are ∙ ap names_by e_is)
+
+  pub addressed_is : (a : Addressing) (ps : Params) (e : Evaluations) (values behind : List Cell) → e ≡ addressing_evaluations a → values ≡ values_by e
+      → behind ≡ on_address_code sh place page list a ps → values ++ behind ≡ form_code sh (node_form page (addressing_node a list ps place))
+  addressed_is a ps e values behind e_is values_are behind_is =
+      ap (λ cells. cells ++ behind) (values_are ∙ ap values_by e_is) ∙ ap (λ cells. values_by (addressing_evaluations a) ++ cells) behind_is ∙ addressing_is sh place page list a ps

@@ -33,14 +33,13 @@ module _ (page : Page) where
   params_code sh list = form_code sh (params_form page (params_of list))
 
   -- one node more
-  pub nodes_from : (sh : Shape) (total : List Cell) (acts : List Act) (i : ℕ) (x : Act) (code visited more seen made : List Cell) → i < length acts → x ≡ get_or acts i x
-      → visited ≡ code ++ seen → seen ≡ form_code sh (visits (node_visits (act_of x)) (place_of (act_of x))) → more ≡ visited ++ made → made ≡ form_code sh (node_form page (act_of x))
-      → code ++ nodes_code sh (drop i acts) ≡ total → more ++ nodes_code sh (drop (i + 1) acts) ≡ total
-  nodes_from sh total acts i x code visited more seen made lt is first seen_is second made_is whole =
-      ap (λ cells. cells ++ others) (second ∙ ap (λ cells. cells ++ made) first ∙ append_assoc code seen made)
-      ∙ append_assoc code (seen ++ made) others
-      ∙ ap (λ cells. code ++ ((cells ++ made) ++ others)) seen_is
-      ∙ ap (λ cells. code ++ ((form_code sh (visits (node_visits (act_of x)) (place_of (act_of x))) ++ cells) ++ others)) made_is
+  pub nodes_from : (sh : Shape) (total : List Cell) (acts : List Act) (i : ℕ) (x : Act) (code more made : List Cell) → i < length acts → x ≡ get_or acts i x → more ≡ code ++ made
+      → made ≡ form_code sh (visits (node_visits (act_of x)) (place_of (act_of x))) ++ form_code sh (node_form page (act_of x)) → code ++ nodes_code sh (drop i acts) ≡ total
+      → more ++ nodes_code sh (drop (i + 1) acts) ≡ total
+  nodes_from sh total acts i x code more made lt is joined made_is whole =
+      ap (λ cells. cells ++ others) joined
+      ∙ append_assoc code made others
+      ∙ ap (λ cells. code ++ (cells ++ others)) made_is
       ∙ ap (λ rest. code ++ nodes_code sh rest) (sym (next_of acts i x lt is)) ∙ whole
     where
       others : List Cell

@@ -8,8 +8,10 @@ ghost use Rattle.code_lowering.specs.Lowering.{node_form};
 ghost use Rattle.page_meaning.specs.Page.{set_property};
 ghost use Rattle.unit_meaning.specs.Shape.{page_of};
 ghost use Rattle.unit_nodes.specs.Views.{page_view};
+ghost use Rattle.code_nodes.specs.Actions.{around_code, on_address_code, property_set_code};
 
 use crate::attributes::values;
+use crate::joining::joined;
 use crate::names::{evaluated_names, value_place};
 use crate::params::params;
 use crate::position::Position;
@@ -35,13 +37,27 @@ pub(crate) fn enclosed(
         ≡ form_code at.entry.ground.now (node_form (page_of (page_view page.now))
         (enclosing_node action.now (attributes_of attributes.now) (acts_of body.now) at.entry.place.now))) }
 {
-    let evaluations = action.evaluations();
-    let names = evaluated_names(alloc, &evaluations, attributes)?;
-    let mut code = values(alloc, page, at.ground, &evaluations, attributes)?;
+    let code = values(alloc, page, at.ground, &action.evaluations(), attributes)?;
+    joined(code, around(alloc, page, at, action, attributes, body)?)
+}
+
+// The code of an action around a body, behind the values of its attributes.
+#[cycle(nodes)]
+fn around(
+    alloc: Global,
+    page: &Page,
+    at: Position,
+    action: &Enclosing,
+    attributes: &[ActAttribute],
+    body: &[Act],
+) -> Result<Code, AllocError>
+    ensures { IfOk result (λ code. code ≡ around_code at.entry.ground.now at.entry.place.now
+        (page_of (page_view page.now)) (attributes_of attributes.now) action.now (acts_of body.now)) }
+{
+    let names = evaluated_names(alloc, &action.evaluations(), attributes)?;
     let within = action.body_ground(at.ground, &names)?;
     let body = nodes(alloc, page, &within, body)?;
-    code.join(action.code(alloc, at.ground, at.place, names, body)?)?;
-    Ok(code)
+    action.code(alloc, at.ground, at.place, names, body)
 }
 
 /// The code of an action on an address with params.
@@ -58,16 +74,30 @@ pub(crate) fn addressed(
         ≡ form_code at.entry.ground.now (node_form (page_of (page_view page.now))
         (addressing_node action.now (attributes_of attributes.now) (params_of list.now) at.entry.place.now))) }
 {
-    let evaluations = action.evaluations();
-    let names = evaluated_names(alloc, &evaluations, attributes)?;
-    let mut code = values(alloc, page, at.ground, &evaluations, attributes)?;
+    let code = values(alloc, page, at.ground, &action.evaluations(), attributes)?;
+    joined(code, on_address(alloc, page, at, action, attributes, list)?)
+}
+
+// The code of an action on an address, behind the values of its attributes.
+#[cycle(nodes)]
+fn on_address(
+    alloc: Global,
+    page: &Page,
+    at: Position,
+    action: &Addressing,
+    attributes: &[ActAttribute],
+    list: &[ActParam],
+) -> Result<Code, AllocError>
+    ensures { IfOk result (λ code. code ≡ on_address_code at.entry.ground.now at.entry.place.now
+        (page_of (page_view page.now)) (attributes_of attributes.now) action.now (params_of list.now)) }
+{
     let cells = params(alloc, page, &at.ground.up(1)?, list)?;
+    let names = evaluated_names(alloc, &action.evaluations(), attributes)?;
     let given = Params {
         count: list.len(),
         code: cells,
     };
-    code.join(action.code(alloc, at.ground, at.place, &names, given)?)?;
-    Ok(code)
+    action.code(alloc, at.ground, at.place, &names, given)
 }
 
 /// The code of `jsp:setProperty`.
@@ -84,14 +114,26 @@ pub(crate) fn properties(
         ≡ form_code at.entry.ground.now (node_form (page_of (page_view page.now))
         (set_property name.now (property_of property.now) (attributes_of attributes.now) at.entry.place.now))) }
 {
-    let evaluations = Evaluations::AsTheyAre;
-    let names = evaluated_names(alloc, &evaluations, attributes)?;
-    let mut code = values(alloc, page, at.ground, &evaluations, attributes)?;
+    let code = values(alloc, page, at.ground, &Evaluations::AsTheyAre, attributes)?;
+    joined(code, property_set(alloc, at, name, property, attributes)?)
+}
+
+// The code of `jsp:setProperty`, behind the values of its attributes.
+fn property_set(
+    alloc: Global,
+    at: Position,
+    name: &Text,
+    property: &Property,
+    attributes: &[ActAttribute],
+) -> Result<Code, AllocError>
+    ensures { IfOk result (λ code. code ≡ property_set_code at.entry.ground.now at.entry.place.now
+        (attributes_of attributes.now) name.now (property_of property.now)) }
+{
+    let names = evaluated_names(alloc, &Evaluations::AsTheyAre, attributes)?;
     let action = SetProperty {
         name,
         property,
         value_place: value_place(attributes, at.place),
     };
-    code.join(set_property(alloc, at.ground, at.place, &action, &names)?)?;
-    Ok(code)
+    set_property(alloc, at.ground, at.place, &action, &names)
 }

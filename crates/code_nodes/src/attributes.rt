@@ -11,7 +11,9 @@ ghost use Rattle.unit_nodes.specs.Views.{page_view};
 ghost use Rattle.code_nodes.specs.Values.{attribute_place, behind_value, coerced_code, is_fragment};
 ghost use Rattle.code_nodes.specs.Values.{value_form};
 
+use crate::joining::joined;
 use crate::names::name_of;
+use crate::position::Position;
 use crate::tree::nodes;
 use code_actions::Evaluations;
 use code_expressions::{Evaluation, coerced, kept, parts as parts_code, visits};
@@ -41,6 +43,23 @@ pub(crate) fn values(
         above = behind(&above, evaluation)?;
     }
     Ok(code)
+}
+
+/// The same behind a visit.
+#[cycle(nodes)]
+pub(crate) fn visited_values(
+    alloc: Global,
+    page: &Page,
+    at: Position,
+    evaluations: &Evaluations,
+    list: &[ActAttribute],
+) -> Result<Code, AllocError>
+    ensures { IfOk result (λ code. code ≡ form_code at.entry.ground.now (visits 1 at.entry.place.now)
+        ++ form_code at.entry.ground.now (attributes_form (page_of (page_view page.now)) (attributes_of list.now)
+        (coercions evaluations.now))) }
+{
+    let visit = visits(alloc, at.ground, at.place, 1)?;
+    joined(visit, values(alloc, page, at.ground, evaluations, list)?)
 }
 
 // The code of the value of an attribute, coerced right behind its evaluation. Of a fragment it is
@@ -90,9 +109,8 @@ fn given(
     ensures { IfOk result (λ code. code ≡ form_code ground.now (visits 1 place.now)
         ++ kept_code ground.now place.now trim body) }
 {
-    let mut code = visits(alloc, ground, place, 1)?;
-    code.join(kept(alloc, ground, place, trim, body)?)?;
-    Ok(code)
+    let text = kept(alloc, ground, place, trim, body)?;
+    joined(visits(alloc, ground, place, 1)?, text)
 }
 
 // What stands open behind the value of an attribute.

@@ -12,6 +12,7 @@ ghost use Rattle.unit_nodes.specs.Views.{page_view, tag_view};
 ghost use Rattle.code_nodes.specs.Calls.{body_handed, is_fragment, with_fragments};
 
 use crate::attributes::values;
+use crate::joining::joined;
 use crate::names::evaluated_names;
 use crate::position::Position;
 use crate::tree::nodes;
@@ -43,12 +44,14 @@ pub(crate) fn call(
         return Ok(Code::new(alloc));
     };
     let evaluations = Evaluations::Declared(&tag.decl.attributes);
-    let names = evaluated_names(alloc, &evaluations, attributes)?;
-    let mut code = values(alloc, page, at.ground, &evaluations, attributes)?;
+    let code = values(alloc, page, at.ground, &evaluations, attributes)?;
     let down = handed(alloc, page, at.place, tag.decl.body, body)?;
     let down = with_fragments(alloc, page, &tag.decl, attributes, down)?;
-    code.join(call_tag(alloc, at.ground, at.place, path, names, down)?)?;
-    Ok(code)
+    let names = evaluated_names(alloc, &evaluations, attributes)?;
+    joined(
+        code,
+        call_tag(alloc, at.ground, at.place, path, names, down)?,
+    )
 }
 
 // The tag file at a path.

@@ -9,7 +9,8 @@ ghost use Rattle.page_meaning.specs.Page.{Branches, when};
 ghost use Rattle.unit_meaning.specs.Shape.{page_of};
 ghost use Rattle.unit_nodes.specs.Views.{page_view};
 
-use crate::attributes::values;
+use crate::attributes::visited_values;
+use crate::joining::joined;
 use crate::names::evaluated_names;
 use crate::position::Position;
 use crate::tree::nodes;
@@ -67,10 +68,9 @@ fn when(
         ≡ form_code at.entry.ground.now (branches_form (page_of (page_view page.now))
         (when (attributes_of attributes.now) (acts_of body.now) at.entry.place.now others))) }
 {
-    let names = evaluated_names(alloc, &Evaluations::Test, attributes)?;
-    let mut code = visits(alloc, at.ground, at.place, 1)?;
-    code.join(values(alloc, page, at.ground, &Evaluations::Test, attributes)?)?;
+    let code = visited_values(alloc, page, at, &Evaluations::Test, attributes)?;
     let body = nodes(alloc, page, at.ground, body)?;
+    let names = evaluated_names(alloc, &Evaluations::Test, attributes)?;
     let made = when_code(alloc, at.ground, at.place, &names, code, body)?;
     Ok(made)
 }
@@ -81,7 +81,6 @@ fn otherwise(alloc: Global, page: &Page, at: Position, body: &[Act]) -> Result<C
     ensures { IfOk result (λ code. code ≡ form_code at.entry.ground.now (visits 1 at.entry.place.now)
         ++ form_code at.entry.ground.now (nodes_form (page_of (page_view page.now)) (acts_of body.now))) }
 {
-    let mut code = visits(alloc, at.ground, at.place, 1)?;
-    code.join(nodes(alloc, page, at.ground, body)?)?;
-    Ok(code)
+    let visit = visits(alloc, at.ground, at.place, 1)?;
+    joined(visit, nodes(alloc, page, at.ground, body)?)
 }

@@ -6,6 +6,7 @@ mod actions;
 mod attributes;
 mod calls;
 mod choices;
+mod joining;
 mod names;
 mod params;
 mod position;

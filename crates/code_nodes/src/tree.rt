@@ -1,14 +1,17 @@
 // Nodes.
-ghost use Rattle.std.specs.Prelude.{◌≡◌, IfOk};
+ghost use Rattle.std.specs.Prelude.{◌≡◌, ◌++◌, IfOk};
 ghost use Rattle.page_acts.specs.Views.{act_of, acts_of};
 ghost use Rattle.code_forms.specs.Codes.{form_code};
+ghost use Rattle.code_lowering.specs.Expressions.{visits};
 ghost use Rattle.code_lowering.specs.Lowering.{node_form, node_visits, nodes_form};
+ghost use Rattle.page_meaning.specs.Page.{place_of};
 ghost use Rattle.unit_meaning.specs.Shape.{page_of};
 ghost use Rattle.unit_nodes.specs.Views.{page_view};
 
 use crate::actions::{addressed, enclosed, properties};
 use crate::calls::call;
 use crate::choices::branches as branches_code;
+use crate::joining::joined;
 use crate::position::Position;
 use code_actions::{
     Addressing, Enclosing, UseBean, catch, do_body, get_property, invoke, remove, shown, template,
@@ -28,10 +31,20 @@ pub fn nodes(alloc: Global, page: &Page, ground: &Shape, acts: &[Act]) -> Result
 {
     let mut code = Code::new(alloc);
     for act in acts {
-        code.join(visits(alloc, ground, act.place(), node_visits(act)?)?)?;
-        code.join(node(alloc, page, ground, act)?)?;
+        code.join(visited(alloc, page, ground, act)?)?;
     }
     Ok(code)
+}
+
+// The code of a node with its visits.
+#[cycle(nodes)]
+fn visited(alloc: Global, page: &Page, ground: &Shape, act: &Act) -> Result<Code, AllocError>
+    ensures { IfOk result (λ code. code
+        ≡ form_code ground.now (visits (node_visits (act_of act.now)) (place_of (act_of act.now)))
+        ++ form_code ground.now (node_form (page_of (page_view page.now)) (act_of act.now))) }
+{
+    let seen = visits(alloc, ground, act.place(), node_visits(act)?)?;
+    joined(seen, node(alloc, page, ground, act)?)
 }
 
 // How many visits stand before a node: its own, and the first ones of the expression that it shows.

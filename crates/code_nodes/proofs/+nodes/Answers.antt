@@ -1,15 +1,15 @@
 use Rattle.std.proofs.Common.{◌≡◌, ◌++◌, IfOk, OnOk, map, arith, refl, sym, ap, subst, ◌∙◌}
 use Rattle.code_actions.specs.Evaluations.{coercions}
 use Rattle.page_acts.proofs.Rows.{rows}
-use Rattle.page_acts.specs.Views.{act_of, acts_of, attributes_of, params_of}
+use Rattle.page_acts.specs.Views.{acts_of, attributes_of, params_of}
 use Rattle.page_code.specs.Shapes.{empty_shape}
 use Rattle.code_forms.specs.Codes.{form_code, handed_code}
 use Rattle.code_lowering.specs.Expressions.{visits}
-use Rattle.code_lowering.specs.Lowering.{node_visits, nodes_form}
+use Rattle.code_lowering.specs.Lowering.{nodes_form}
 use Rattle.unit_meaning.specs.Named.{part_of}
 use Rattle.unit_meaning.specs.Shape.{page_of}
 use Rattle.unit_nodes.specs.Views.{page_view, part_of as part_view}
-use Rattle.code_nodes.proofs.ActionLemmas.{addressed_is, enclosed_is}
+use Rattle.code_nodes.proofs.ActionLemmas.{addressed_is, around_is, enclosed_is, on_address_is}
 use Rattle.code_nodes.proofs.CallLemmas.{fragment_is, fragments_from, fragments_past, unless_fragment, written_is}
 use Rattle.code_nodes.proofs.ChoiceLemmas.{branches_end, branches_from, branches_past, when_is}
 use Rattle.code_nodes.proofs.ListLemmas.{all_of, nodes_code, nodes_from, param_count_is, params_code, params_from}
@@ -18,15 +18,32 @@ use Rattle.code_nodes.proofs.+nodes.Goals as goal
 
 pub actions::enclosed-returns : goal.actions::enclosed-returns
 actions::enclosed-returns t c =
-    enclosed_is c.args.at.ground.now c.args.at.place.now (page_of (page_view c.args.page.now)) (attributes_of c.args.attributes.now) c.args.action.now (acts_of c.args.body.now)
-    c.evaluations-evaluations.result c.in_ok-names.names c.in_ok-code.code c.in_ok-body.body c.in_ok-code-2.field-0 c.join.new.self c.in_ok-within.within c.evaluations-evaluations.ensures
-    c.in_ok-names.ensures c.in_ok-code.ensures c.in_ok-within.ensures c.in_ok-body.ensures c.in_ok-code-2.ensures c.in_ok-join.ensures.ok
+    subst (λ cells. IfOk c.joined.result (λ code. code ≡ cells))
+    (enclosed_is c.args.at.ground.now c.args.at.place.now (page_of (page_view c.args.page.now)) (attributes_of c.args.attributes.now) c.args.action.now (acts_of c.args.body.now)
+    c.evaluations.result c.in_ok-code.code c.in_ok-around.field-0 c.evaluations.ensures c.in_ok-code.ensures c.in_ok-around.ensures)
+    c.joined.ensures
+
+pub actions::around-returns : goal.actions::around-returns
+actions::around-returns t c =
+    subst (λ cells. IfOk c.code.result (λ code. code ≡ cells))
+    (around_is c.args.at.ground.now c.args.at.place.now (page_of (page_view c.args.page.now)) (attributes_of c.args.attributes.now) c.args.action.now (acts_of c.args.body.now)
+    c.evaluations.result c.in_ok-names.names c.in_ok-within.within c.in_ok-body.body c.evaluations.ensures c.in_ok-names.ensures c.in_ok-within.ensures c.in_ok-body.ensures)
+    c.code.ensures
 
 pub actions::addressed-returns : goal.actions::addressed-returns
 actions::addressed-returns t c =
-    addressed_is c.args.at.ground.now c.args.at.place.now (page_of (page_view c.args.page.now)) (attributes_of c.args.attributes.now) c.args.action.now (params_of c.args.list.now)
-    c.evaluations-evaluations.result c.in_ok-names.names _ c.in_ok-code.code c.in_ok-cells.cells c.in_ok-code-2.field-0 c.join.new.self c.in_ok-up.field-0 c.evaluations-evaluations.ensures
-    c.in_ok-names.ensures c.in_ok-code.ensures c.in_ok-up.ensures c.in_ok-cells.ensures (sym (param_count_is c.args.list.now)) c.in_ok-code-2.ensures c.in_ok-join.ensures.ok
+    subst (λ cells. IfOk c.joined.result (λ code. code ≡ cells))
+    (addressed_is c.args.at.ground.now c.args.at.place.now (page_of (page_view c.args.page.now)) (attributes_of c.args.attributes.now) c.args.action.now (params_of c.args.list.now)
+    c.evaluations.result c.in_ok-code.code c.in_ok-on_address.field-0 c.evaluations.ensures c.in_ok-code.ensures c.in_ok-on_address.ensures)
+    c.joined.ensures
+
+pub actions::on_address-returns : goal.actions::on_address-returns
+actions::on_address-returns t c =
+    subst (λ cells. IfOk c.code.result (λ code. code ≡ cells))
+    (on_address_is c.args.at.ground.now c.args.at.place.now (page_of (page_view c.args.page.now)) (attributes_of c.args.attributes.now) c.args.action.now (params_of c.args.list.now)
+    c.evaluations.result c.in_ok-names.names _ c.in_ok-cells.cells c.in_ok-up.field-0 c.evaluations.ensures c.in_ok-names.ensures c.in_ok-up.ensures c.in_ok-cells.ensures
+    (sym (param_count_is c.args.list.now)))
+    c.code.ensures
 
 pub attributes::values-loop-attribute-preserved : goal.attributes::values-loop-attribute-preserved
 attributes::values-loop-attribute-preserved t c =
@@ -51,10 +68,8 @@ params::params-returns t c =
 
 pub tree::nodes-loop-act-preserved : goal.tree::nodes-loop-act-preserved
 tree::nodes-loop-act-preserved t c =
-    nodes_from (page_of (page_view c.args.page.now)) c.args.ground.now _ c.args.acts.now c.loop-act.act-index c.act-item.result c.loop-act.code c.join.new.self c.join-in-loop-act.new.self
-    c.in_ok-visits.field-0 c.in_ok-node.field-0 (omega arith) c.act-item.is c.in_ok-join.ensures.ok
-    (c.in_ok-visits.ensures ∙ ap (λ n. form_code c.args.ground.now (visits n c.place.result.now)) c.in_ok-node_visits.ensures
-    ∙ ap (λ at. form_code c.args.ground.now (visits (node_visits (act_of c.act-item.result)) at)) c.place.ensures) c.in_ok-join-2.ensures.ok c.in_ok-node.ensures c.loop-act.invariant
+    nodes_from (page_of (page_view c.args.page.now)) c.args.ground.now _ c.args.acts.now c.loop-act.act-index c.act-item.result c.loop-act.code c.join.new.self c.in_ok-visited.field-0 (omega arith)
+    c.act-item.is c.in_ok-join.ensures.ok c.in_ok-visited.ensures c.loop-act.invariant
 
 pub tree::nodes-returns : goal.tree::nodes-returns
 tree::nodes-returns t c =
@@ -84,9 +99,9 @@ choices::branches-returns t c =
 pub choices::when-returns : goal.choices::when-returns
 choices::when-returns t c =
     λ others.
-    when_is (page_of (page_view c.args.page.now)) c.args.at.ground.now (attributes_of c.args.attributes.now) (acts_of c.args.body.now) c.args.at.place.now c.in_ok-names.names c.in_ok-code.code
-    c.join.new.self c.in_ok-body.body c.in_ok-made.made others c.in_ok-names.ensures c.in_ok-code.ensures
-    (c.in_ok-join.ensures.ok ∙ ap (λ cells. c.in_ok-code.code ++ cells) c.in_ok-values.ensures) c.in_ok-body.ensures c.in_ok-made.ensures
+    when_is (page_of (page_view c.args.page.now)) c.args.at.ground.now (attributes_of c.args.attributes.now) (acts_of c.args.body.now) c.args.at.place.now c.in_ok-names.names
+    (form_code c.args.at.ground.now (visits 1 c.args.at.place.now)) c.in_ok-code.code c.in_ok-body.body c.in_ok-made.made others c.in_ok-names.ensures refl c.in_ok-code.ensures
+    c.in_ok-body.ensures c.in_ok-made.ensures
 
 pub calls::with_fragments-loop-attribute-preserved : goal.calls::with_fragments-loop-attribute-preserved
 calls::with_fragments-loop-attribute-preserved t c =

@@ -40,53 +40,68 @@ invariant-calls::with_fragments-loop-attribute l =
 
 -- each part is less deep than the whole
 
-abbrev pub decreases-tree::nodes : goal.decreases-tree::nodes
-decreases-tree::nodes l = 8 * goal.size-tree::nodes l + 1
-
 abbrev pub decreases-tree::node : goal.decreases-tree::node
 decreases-tree::node l = 8 * goal.size-tree::node l
 
+abbrev pub decreases-tree::visited : goal.decreases-tree::visited
+decreases-tree::visited l = 8 * goal.size-tree::visited l + 1
+
+abbrev pub decreases-tree::nodes : goal.decreases-tree::nodes
+decreases-tree::nodes l = 8 * goal.size-tree::nodes l + 2
+
 abbrev pub decreases-attributes::value : goal.decreases-attributes::value
-decreases-attributes::value l = 8 * goal.size-attributes::value l + 2
+decreases-attributes::value l = 8 * goal.size-attributes::value l + 3
 
 abbrev pub decreases-attributes::values : goal.decreases-attributes::values
-decreases-attributes::values l = 8 * goal.size-attributes::values l + 3
+decreases-attributes::values l = 8 * goal.size-attributes::values l + 4
+
+abbrev pub decreases-attributes::visited_values : goal.decreases-attributes::visited_values
+decreases-attributes::visited_values l = 8 * goal.size-attributes::visited_values l + 5
+
+abbrev pub decreases-params::name_and_value : goal.decreases-params::name_and_value
+decreases-params::name_and_value l = 8 * goal.size-params::name_and_value l
 
 abbrev pub decreases-params::param : goal.decreases-params::param
-decreases-params::param l = 8 * goal.size-params::param l
+decreases-params::param l = 8 * goal.size-params::param l + 1
 
 abbrev pub decreases-params::params : goal.decreases-params::params
-decreases-params::params l = 8 * goal.size-params::params l + 2
+decreases-params::params l = 8 * goal.size-params::params l + 3
 
 abbrev pub decreases-choices::otherwise : goal.decreases-choices::otherwise
-decreases-choices::otherwise l = 8 * goal.size-choices::otherwise l + 2
+decreases-choices::otherwise l = 8 * goal.size-choices::otherwise l + 3
 
 abbrev pub decreases-choices::branches : goal.decreases-choices::branches
-decreases-choices::branches l = 8 * goal.size-choices::branches l + 2
+decreases-choices::branches l = 8 * goal.size-choices::branches l + 3
 
 abbrev pub decreases-calls::whole : goal.decreases-calls::whole
-decreases-calls::whole l = 8 * goal.size-calls::whole l + 2
+decreases-calls::whole l = 8 * goal.size-calls::whole l + 3
 
 abbrev pub decreases-calls::handed : goal.decreases-calls::handed
-decreases-calls::handed l = 8 * goal.size-calls::handed l + 3
+decreases-calls::handed l = 8 * goal.size-calls::handed l + 4
 
 abbrev pub decreases-calls::add_fragment : goal.decreases-calls::add_fragment
-decreases-calls::add_fragment l = 8 * goal.size-calls::add_fragment l + 3
+decreases-calls::add_fragment l = 8 * goal.size-calls::add_fragment l + 4
 
 abbrev pub decreases-calls::with_fragments : goal.decreases-calls::with_fragments
-decreases-calls::with_fragments l = 8 * goal.size-calls::with_fragments l + 4
+decreases-calls::with_fragments l = 8 * goal.size-calls::with_fragments l + 5
 
 abbrev pub decreases-actions::properties : goal.decreases-actions::properties
 decreases-actions::properties l = 8 * goal.size-actions::properties l + 5
 
+abbrev pub decreases-actions::around : goal.decreases-actions::around
+decreases-actions::around l = 8 * max (goal.size-actions::around l) (most (λ act. size-Act act) l.body.now) + 5
+
 abbrev pub decreases-actions::enclosed : goal.decreases-actions::enclosed
-decreases-actions::enclosed l = 8 * max (goal.size-actions::enclosed l) (most (λ act. size-Act act) l.body.now) + 5
+decreases-actions::enclosed l = 8 * max (goal.size-actions::enclosed l) (most (λ act. size-Act act) l.body.now) + 6
+
+abbrev pub decreases-actions::on_address : goal.decreases-actions::on_address
+decreases-actions::on_address l = 8 * max (goal.size-actions::on_address l) (most (λ made. size-ActParam made) l.list.now) + 5
 
 abbrev pub decreases-actions::addressed : goal.decreases-actions::addressed
-decreases-actions::addressed l = 8 * max (goal.size-actions::addressed l) (most (λ made. size-ActParam made) l.list.now) + 5
+decreases-actions::addressed l = 8 * max (goal.size-actions::addressed l) (most (λ made. size-ActParam made) l.list.now) + 6
 
 abbrev pub decreases-choices::when : goal.decreases-choices::when
-decreases-choices::when l = 8 * max (goal.size-choices::when l) (most (λ act. size-Act act) l.body.now) + 5
+decreases-choices::when l = 8 * max (goal.size-choices::when l) (most (λ act. size-Act act) l.body.now) + 6
 
 abbrev pub decreases-calls::call : goal.decreases-calls::call
-decreases-calls::call l = 8 * max (goal.size-calls::call l) (size-CallBody l.body.now) + 5
+decreases-calls::call l = 8 * max (goal.size-calls::call l) (size-CallBody l.body.now) + 6
