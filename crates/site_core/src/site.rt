@@ -171,13 +171,13 @@ impl<P: Compiled> Site<P> {
         ensures applies { Applies P.needs P.made self.old self.new pass act.op result }
         ensures sure { Sure self.old.opening self.old.history pass (own pass self.old.history) act.op → IsDid result }
     {
+        let Ok(()) = self.held.reserve(&mut self.history, &act.op) else {
+            return Acted::NoMemory;
+        };
+        let Ok(room) = Room::new(self.alloc, &act.op) else {
+            return Acted::NoMemory;
+        };
         let Act { op, made } = act;
-        let Ok(()) = self.held.reserve(&mut self.history, &op) else {
-            return Acted::NoMemory;
-        };
-        let Ok(room) = Room::new(self.alloc, &op) else {
-            return Acted::NoMemory;
-        };
         match self.held.act(&self.opening, &self.history, pass, &op, made) {
             Acted::Did(done) => {
                 let Done { reply, given } = done;
