@@ -6,7 +6,7 @@ use Rattle.site_state.proofs.held.Held.abandon.Goals as goal
 
 pub returns : goal.returns
 returns g c =
-    abandon_done g.P.Compiled.needs g.P.Compiled.made c.args.opening.now c.args.history.now.items (parts_of c.args.self.now) _ c.args.pass c.args.request c.args.weight c.saturating_add-self.result c.plain.result
+    abandon_done g.P.Compiled.needs g.P.Compiled.made c.args.at.opening.now c.args.at.history.now.items (parts_of c.args.self.now) _ c.args.at.pass c.args.request c.args.weight c.saturating_add-self.result c.plain.result
     c.free_as_it_was.new.sessions (map under_in c.seat.new.runs.items) c.requires.can refl
     (c.free_as_it_was.ensures ∙ ap (λ n. dropped_list n c.args.self.now.moment c.args.self.now.sessions) c.session_of-session.ensures)
     c.seat.ensures

@@ -11,7 +11,7 @@ use Rattle.site_state.proofs.held.Held.app.Goals as goal
 pub returns : goal.returns
 returns g c =
     let told : reply.App c.in-Ok.answer ≡ reply.App _ = ap (λ (a : AppReply). reply.App a) c.in-Ok.ensures in
-    app_done g.P.Compiled.needs g.P.Compiled.made c.args.opening.now c.args.history.now.items (parts_of c.args.self.now) _ c.args.pass c.args.request c.with_reply-weight.result c.saturating_add-self.result c.args.step.now c.plain.result
+    app_done g.P.Compiled.needs g.P.Compiled.made c.args.at.opening.now c.args.at.history.now.items (parts_of c.args.self.now) _ c.args.at.pass c.args.request c.with_reply-weight.result c.saturating_add-self.result c.args.step.now c.plain.result
     c.change.new.app (map under_in c.spend.new.runs.items) refl c.in-Ok-change.ensures.ok
     c.spend.ensures
     c.saturating_add-self.ensures

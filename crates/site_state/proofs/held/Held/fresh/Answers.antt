@@ -10,7 +10,7 @@ use Rattle.site_state.proofs.held.Held.fresh.Goals as goal
 
 pub returns : goal.returns
 returns g c =
-    fresh_done g.P.Compiled.needs g.P.Compiled.made c.args.opening.now c.args.history.now.items (parts_of c.args.self.now) _ c.args.pass c.args.request c.args.weight c.saturating_add-self.result
+    fresh_done g.P.Compiled.needs g.P.Compiled.made c.args.at.opening.now c.args.at.history.now.items (parts_of c.args.self.now) _ c.args.at.pass c.args.request c.args.weight c.saturating_add-self.result
     (record { reply = Made c.args.self.now.freshes; given = record { reply = Made c.args.self.now.freshes; gift = Id c.in-Ok.id } }) c.in-Ok.id
     c.add.new.self (map under_in c.freshen.new.runs.items) c.requires.can refl
     (c.in-Ok-add.ensures.ok ∙ ap (λ r. roomy (map under_in r) c.args.self.now.sessions ++ record { number = c.args.self.now.freshes; used = c.args.self.now.moment; source = Nowhere } ∷ []) c.deref.ensures.value)

@@ -14,9 +14,9 @@ use Rattle.site_state.proofs.held.Held.offer.Goals as goal
 pub returns : goal.returns
 returns g c =
     let laws : Laws g.P.Compiled.needs g.P.Compiled.made g.P.Compiled.needed = record { keeps = g.met.P.Compiled.keeps; stand = g.met.P.Compiled.stand; agreeing = g.met.P.Compiled.agreeing } in
-    let can : CanWork g.P.Compiled.needs g.P.Compiled.made c.args.opening.now c.args.history.now.items (parts_of c.args.self.now) c.args.pass (op.Offer c.args.request c.args.path.now) (Some (arc_value c.in-Some.made)) =
-    subst (λ m. CanWork g.P.Compiled.needs g.P.Compiled.made c.args.opening.now c.args.history.now.items (parts_of c.args.self.now) c.args.pass (op.Offer c.args.request c.args.path.now) (value_in m)) c.in-Some.is c.requires.can in
-    offer_done g.P.Compiled.needs g.P.Compiled.made g.P.Compiled.needed laws c.args.opening.now c.args.history.now.items (parts_of c.args.self.now) _ c.args.pass c.args.request c.args.weight c.saturating_add-self.result c.args.path.now (arc_value c.in-Some.made)
+    let can : CanWork g.P.Compiled.needs g.P.Compiled.made c.args.at.opening.now c.args.at.history.now.items (parts_of c.args.self.now) c.args.at.pass (op.Offer c.args.request c.args.path.now) (Some (arc_value c.in-Some.made)) =
+    subst (λ m. CanWork g.P.Compiled.needs g.P.Compiled.made c.args.at.opening.now c.args.at.history.now.items (parts_of c.args.self.now) c.args.at.pass (op.Offer c.args.request c.args.path.now) (value_in m)) c.in-Some.is c.requires.can in
+    offer_done g.P.Compiled.needs g.P.Compiled.made g.P.Compiled.needed laws c.args.at.opening.now c.args.at.history.now.items (parts_of c.args.self.now) _ c.args.at.pass c.args.request c.args.weight c.saturating_add-self.result c.args.path.now (arc_value c.in-Some.made)
     c.in-Ok.kept (kept_in c.keep.new.self.shelves.items) c.plain.result (map under_in c.spend.new.runs.items) can refl
     c.spend.ensures
     c.saturating_add-self.ensures c.requires.weight (c.in-Ok.ensures.ok.0 ∙ ap (λ t. agrees (g.P.Compiled.needed (arc_value c.in-Some.made)) t) c.deref.ensures, c.in-Ok.ensures.ok.1) c.plain.ensures.reply c.plain.ensures.told

@@ -26,12 +26,12 @@ returns-in-Err g c =
     subst (λ t. tree_of (after_edits c.args.edits.now (c.args.self.now.version + 1) t) ≡ Ok c.in-Ok.tree) c.deref.ensures c.in-Ok.ensures.answer in
     let no_limit : None ≡ too_large (tree_fault (after_edits c.args.edits.now (c.args.self.now.version + 1) c.args.self.now.tree.value)) =
     sym (ap (λ f. too_large f) (no_fault (after_edits c.args.edits.now (c.args.self.now.version + 1) c.args.self.now.tree.value) c.in-Ok.tree fine)) in
-    let full_is : Some c.in-Err.refusal ≡ full_of c.args.opening.now.limit c.args.self.now.weight (promised (map under_in c.args.self.now.runs.items))
+    let full_is : Some c.in-Err.refusal ≡ full_of c.args.at.opening.now.limit c.args.self.now.weight (promised (map under_in c.args.self.now.runs.items))
     (weight_with (op.Publish c.args.base c.args.edits.now) (reply.Published (c.args.self.now.version + 1) (dirty_in g.P.Compiled.needed (changed c.args.edits.now c.args.self.now.tree.value) (kept_in c.args.self.now.store.shelves.items)))) =
-    subst (λ r. Some c.in-Err.refusal ≡ full_of c.args.opening.now.limit c.args.self.now.weight (promised (map under_in r))
+    subst (λ r. Some c.in-Err.refusal ≡ full_of c.args.at.opening.now.limit c.args.self.now.weight (promised (map under_in r))
     (weight_with (op.Publish c.args.base c.args.edits.now) (reply.Published (c.args.self.now.version + 1) (dirty_in g.P.Compiled.needed (changed c.args.edits.now c.args.self.now.tree.value) (kept_in c.args.self.now.store.shelves.items)))))
     c.deref-3.ensures.value (c.in-Err.ensures.full _ claim) in
-    (publish_refusal g.P.Compiled.needs g.P.Compiled.made g.P.Compiled.needed laws c.args.opening.now c.args.history.now.items (parts_of c.args.self.now) c.args.pass c.args.base c.args.edits.now None None (Some c.in-Err.refusal) c.requires.kept c.in_default.ensures no_limit full_is, refl)
+    (publish_refusal g.P.Compiled.needs g.P.Compiled.made g.P.Compiled.needed laws c.args.at.opening.now c.args.at.history.now.items (parts_of c.args.self.now) c.args.at.pass c.args.base c.args.edits.now None None (Some c.in-Err.refusal) c.requires.kept c.in_default.ensures no_limit full_is, refl)
 
 pub returns : goal.returns
 returns g c =
@@ -45,14 +45,14 @@ returns g c =
     subst (λ t. tree_of (after_edits c.args.edits.now (c.args.self.now.version + 1) t) ≡ Ok c.in-Ok.tree) c.deref.ensures c.in-Ok.ensures.answer in
     let no_limit : None ≡ too_large (tree_fault (after_edits c.args.edits.now (c.args.self.now.version + 1) c.args.self.now.tree.value)) =
     sym (ap (λ f. too_large f) (no_fault (after_edits c.args.edits.now (c.args.self.now.version + 1) c.args.self.now.tree.value) c.in-Ok.tree fine)) in
-    let full_is : None ≡ full_of c.args.opening.now.limit c.args.self.now.weight (promised (map under_in c.args.self.now.runs.items))
+    let full_is : None ≡ full_of c.args.at.opening.now.limit c.args.self.now.weight (promised (map under_in c.args.self.now.runs.items))
     (weight_with (op.Publish c.args.base c.args.edits.now) (reply.Published (c.args.self.now.version + 1) (dirty_in g.P.Compiled.needed (changed c.args.edits.now c.args.self.now.tree.value) (kept_in c.args.self.now.store.shelves.items)))) =
-    subst (λ r. None ≡ full_of c.args.opening.now.limit c.args.self.now.weight (promised (map under_in r))
+    subst (λ r. None ≡ full_of c.args.at.opening.now.limit c.args.self.now.weight (promised (map under_in r))
     (weight_with (op.Publish c.args.base c.args.edits.now) (reply.Published (c.args.self.now.version + 1) (dirty_in g.P.Compiled.needed (changed c.args.edits.now c.args.self.now.tree.value) (kept_in c.args.self.now.store.shelves.items)))))
     c.deref-3.ensures.value (c.in-Ok-room.ensures.fits _ claim).1 in
-    publish_done g.P.Compiled.needs g.P.Compiled.made g.P.Compiled.needed laws c.args.opening.now c.args.history.now.items (parts_of c.args.self.now) _ c.args.pass c.in-Ok-room.weight c.saturating_add-self.result (c.args.self.now.version + 1)
+    publish_done g.P.Compiled.needs g.P.Compiled.made g.P.Compiled.needed laws c.args.at.opening.now c.args.at.history.now.items (parts_of c.args.self.now) _ c.args.at.pass c.in-Ok-room.weight c.saturating_add-self.result (c.args.self.now.version + 1)
     c.args.base c.args.edits.now c.in-Ok-new.tree.value (kept_in c.clear.new.self.shelves.items) _ c.requires
-    (publish_refusal g.P.Compiled.needs g.P.Compiled.made g.P.Compiled.needed laws c.args.opening.now c.args.history.now.items (parts_of c.args.self.now) c.args.pass c.args.base c.args.edits.now None None None c.requires.kept c.in_default.ensures no_limit full_is)
+    (publish_refusal g.P.Compiled.needs g.P.Compiled.made g.P.Compiled.needed laws c.args.at.opening.now c.args.at.history.now.items (parts_of c.args.self.now) c.args.at.pass c.args.base c.args.edits.now None None None c.requires.kept c.in_default.ensures no_limit full_is)
     refl refl
     (c.in-Ok-new.ensures.ok ∙ (c.in-Ok.ensures.files ∙ ap (λ t. after_edits c.args.edits.now (c.args.self.now.version + 1) t) c.deref.ensures))
     (c.clear.ensures.clean (changed c.args.edits.now c.args.self.now.tree.value) (c.in-Ok-copy.ensures ∙ c.in-Ok-dirty.ensures ∙ ap (λ n. dirty_in g.P.Compiled.needed n (kept_in c.args.self.now.store.shelves.items)) names))
