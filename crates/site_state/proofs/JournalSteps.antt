@@ -1,5 +1,8 @@
 -- A Publish and a Snapshot, by what their parts did.
-use Rattle.std.proofs.Common.{◌≡◌, ℕ, ◌+◌, ◌-◌, ◌^◌, ◌<◌, min, List, length, map, Option, Some, None, option_map, Ok, Err, refl, sym, ap, subst, ◌∙◌}
+use Rattle.std.proofs.Common.{◌≡◌, ℕ, ◌+◌, ◌-◌, ◌^◌, ◌<◌, min, List, length, map, Option, Some, None, option_map, Result, Ok, Err, refl, sym, ap, subst, ◌∙◌}
+use Rattle.pg_text.specs.declared.failure.Failure.{Failure}
+use Rattle.pg_text.specs.declared.failure.Failure.TheVariants as failure
+use Rattle.pg_text.specs.Failure.{Answers, AnswersAs}
 use Rattle.source_tree.specs.declared.edit.Edit.{Edit}
 use Rattle.source_tree.specs.declared.fault.TreeFault.{TreeFault}
 use Rattle.source_tree.specs.declared.file.File.{File}
@@ -44,6 +47,23 @@ no_fault files tree is = go (tree_fault files) is
     go : (f : Option TreeFault) → unless f files ≡ Ok tree → f ≡ None
     go None is = refl
     go (Some fault) is = absurd (cc)
+
+-- and it is the one that they make
+pub made_tree : (files : List File) (tree : List File) → tree_of files ≡ Ok tree → tree ≡ files
+made_tree files tree is = go (tree_fault files) is
+  where
+    go : (f : Option TreeFault) → unless f files ≡ Ok tree → tree ≡ files
+    go None is = cc
+    go (Some fault) is = absurd (cc)
+
+-- what was met with other words is met here too
+failed_here : {A B E : Type 0} (view : A → B) (meant other : Result B E) (failed : Failure E) → Answers meant (Err failed) → meant ≡ other → AnswersAs view other (Err failed)
+failed_here view meant other (failure.Fault fault) is same = sym same ∙ is
+failed_here view meant other failure.NoMemory is same = tt
+
+pub failed_too : {A B E : Type 0} (view : A → B) (meant other : Result B E) (result : Result A (Failure E)) (failed passed : Failure E) → result ≡ Err passed → passed ≡ failed → Answers meant (Err failed) → meant ≡ other → AnswersAs view other result
+failed_too view meant other result failed passed is same answer meant_is =
+    subst (λ r. AnswersAs view other r) (sym is) (subst (λ e. AnswersAs view other (Err e)) (sym same) (failed_here view meant other failed answer meant_is))
 
 pub is_fault : (files : List File) (fault : TreeFault) → tree_of files ≡ Err fault → tree_fault files ≡ Some fault
 is_fault files fault is = go (tree_fault files) is

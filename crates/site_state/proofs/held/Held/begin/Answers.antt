@@ -39,9 +39,9 @@ returns g c =
     let runs : map under_in c.seat.new.runs.items ≡ set (map under_in c.args.self.now.runs.items) c.args.at.pass
     (Some (record { run = record { request = c.args.self.now.begins; version = c.args.self.now.version; session = number_in c.awake-session.result; left = promise - c.args.weight }; tree = c.args.self.now.tree.value })) =
     c.seat.ensures ∙ (λ i. set (map under_in c.args.self.now.runs.items) c.args.at.pass
-    (Some (record { run = record { request = c.args.self.now.begins; version = c.args.self.now.version; session = c.number_of.ensures i; left = c.saturating_sub.ensures i }; tree = c.in-Ok-try_clone.ensures i }))) in
+    (Some (record { run = record { request = c.args.self.now.begins; version = c.args.self.now.version; session = c.number_of.ensures i; left = c.saturating_sub.ensures i }; tree = c.in-Ok.ensures i }))) in
     begin_done g.P.Compiled.needs g.P.Compiled.made c.args.at.opening.now c.args.at.history.now.items (parts_of c.args.self.now) _ c.args.at.pass c.args.weight c.saturating_add-self.result c.args.moment c.later-now.result c.args.cookie.now
-    c.session_at-found.result c.awake-session.result c.in-Ok.done c.begin_session.new.sessions (map under_in c.seat.new.runs.items) c.requires.can
+    c.session_at-found.result c.awake-session.result c.in-Ok-begun.done c.begin_session.new.sessions (map under_in c.seat.new.runs.items) c.requires.can
     (begin_refusal g.P.Compiled.needs g.P.Compiled.made c.args.at.opening.now c.args.at.history.now.items (parts_of c.args.self.now) c.args.at.pass c.args.cookie.now c.args.moment
     ∙ (ap (λ h. or_else h (full_of c.args.at.opening.now.limit c.args.self.now.weight (promised (map under_in c.args.self.now.runs.items)) promise)) (sym busy_is) ∙ sym full_is))
-    refl found c.later-now.ensures c.awake-session.ensures c.begin_session.ensures runs c.saturating_add-self.ensures c.requires.weight c.in-Ok.ensures
+    refl found c.later-now.ensures c.awake-session.ensures c.begin_session.ensures runs c.saturating_add-self.ensures c.requires.weight c.in-Ok-begun.ensures
