@@ -4,6 +4,7 @@ use Rattle.std.specs.Prelude.{slice_get, if◌then◌else◌}
 use Rattle.std.proofs.lemmas.List.{length_push}
 use Rattle.source_tree.specs.declared.file.File.{File}
 use Rattle.edges.specs.declared.acted.Acted.TheVariants.{Did, Refused}
+use Rattle.packed_entries.specs.Kinds.{stands_apart}
 use Rattle.site_words.specs.declared.words.Entry.{Entry}
 use Rattle.site_words.specs.declared.words.Op.{Op}
 use Rattle.site_words.specs.declared.words.Op.TheVariants as op
@@ -21,13 +22,14 @@ use Rattle.site_words.specs.Weights.{weight_with}
 use Rattle.site_words.proofs.Legal.{after_push, passes_len}
 use Rattle.site_words.proofs.Promise.{within}
 use Rattle.site_state.specs.declared.gift.Done.{Done}
+use Rattle.site_state.specs.declared.gift.Given.{Given}
 use Rattle.site_state.specs.Gifts.{FitsGift}
 use Rattle.site_state.specs.Parts.{Parts, state_of}
 use Rattle.site_state.specs.Sources.{AreThere}
 use Rattle.site_state.specs.Spare.{growth, is_last, open_runs}
 use Rattle.site_state.specs.Works.{AreKept, IsDone, entry_of}
 use Rattle.site_state.proofs.AttributeLemmas.{same_attributes}
-use Rattle.site_core.specs.Applies.{Replies}
+use Rattle.site_core.specs.Applies.{Applies, Replies}
 use Rattle.site_core.specs.ReadSite.{IsSite}
 use Rattle.site_core.proofs.Conditions.{CanStep, can_step, follows, not_roll, opened}
 use Rattle.site_core.proofs.Counts.{weighs, weight_is}
@@ -168,6 +170,21 @@ module _ {P : Type 0} (needs : Needs) (made : P → List File → List ℕ → T
         reply_is = given_is ∙ ap (λ (s : State). reply_to needs x s pass o) site.state;
       }
 
+  -- where the entry came to the history, the operation was done as the step says
+  pub did : (x : Opening) (history items : List Entry) (old new : Parts P) (room pass : ℕ) (o : Op) (done : Done P) (given : Given P) → IsSite needs made x history old room → IsDone needs made x history old new pass o done
+      → given ≡ done.given → items ≡ history ++ entry_of pass o done.reply ∷ [] → Applies needs made (record { opening = x; history = history }) (record { opening = x; history = items }) pass o (Did given)
+  did x history items old new room pass o done given site is given_is items_are =
+      let told : items ≡ history ++ entry_of pass o done.given.reply ∷ [] = items_are ∙ ap (λ (r : Reply). history ++ entry_of pass o r ∷ []) (sym is.same) in
+      subst (λ (g : Given P). Applies needs made (record { opening = x; history = history }) (record { opening = x; history = items }) pass o (Did g)) (sym given_is)
+      (replies x history old new room pass o done site is, λ i. record { opening = x; history = told i })
+
+  -- the site that the entry leaves
+  pub entered : (x : Opening) (history items : List Entry) (old new : Parts P) (room room' pass : ℕ) (o : Op) (done : Done P) → IsSite needs made x history old room → May x history pass (own pass history) o
+      → IsDone needs made x history old new pass o done → open_runs old.runs + growth o ≤ room → items ≡ history ++ entry_of pass o done.reply ∷ [] → room' ≡ room - 1 → IsSite needs made x items new room'
+  entered x history items old new room room' pass o done site may is spare items_are room_is =
+      subst (λ (h : List Entry). IsSite needs made x h new room') (sym items_are)
+      (subst (λ (n : ℕ). IsSite needs made x (history ++ entry_of pass o done.reply ∷ []) new n) (sym room_is) (next x history old new room pass room o done site may is spare))
+
   -- a refusal is the step's
   pub refuses : (x : Opening) (history : List Entry) (old : Parts P) (room pass : ℕ) (o : Op) (refusal : Refusal) → IsSite needs made x history old room
       → refusal_of needs x (state_of x history old) pass o ≡ Some refusal → step needs x (after needs x history) pass o ≡ Refused refusal
@@ -186,6 +203,19 @@ sure_last x history pass entries (op.Fetch request path) sure = absurd sure
 sure_last x history pass entries (op.Offer request path) sure = absurd sure
 sure_last x history pass entries (op.Snapshot cookie) sure = absurd sure
 sure_last x history pass entries op.Roll sure = absurd sure
+
+-- and its entry needs no memory of its own
+pub sure_slot : (x : Opening) (history : List Entry) (pass : ℕ) (entries : List (ℕ × Entry)) (o : Op) → Sure x history pass entries o → stands_apart o ≡ false
+sure_slot x history pass entries (op.End request attrs) sure = refl
+sure_slot x history pass entries (op.Abandon request) sure = refl
+sure_slot x history pass entries (op.Publish base edits) sure = absurd sure
+sure_slot x history pass entries (op.Begin cookie moment) sure = absurd sure
+sure_slot x history pass entries (op.App request st) sure = absurd sure
+sure_slot x history pass entries (op.Fresh request) sure = absurd sure
+sure_slot x history pass entries (op.Fetch request path) sure = absurd sure
+sure_slot x history pass entries (op.Offer request path) sure = absurd sure
+sure_slot x history pass entries (op.Snapshot cookie) sure = absurd sure
+sure_slot x history pass entries op.Roll sure = absurd sure
 
 none_open : (n : ℕ) → open_runs (replicate n None) ≡ 0
 none_open zero = refl

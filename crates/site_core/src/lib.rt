@@ -7,6 +7,7 @@ mod alone;
 mod condition;
 mod given;
 mod opening;
+mod perform;
 mod site;
 
 pub use acting::Acting;

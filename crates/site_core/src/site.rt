@@ -12,10 +12,11 @@ ghost use Rattle.site_core.specs.Lived.{first_opening};
 
 use crate::condition;
 use crate::opening::know_limit;
-use packed_entries::{History, PackedEntry, Room};
+use crate::perform::perform;
+use packed_entries::History;
 use pg_text::Text;
 use pg_value::Attrs;
-use site_state::{Act, Done, Given, Held, session_id};
+use site_state::{Act, Given, Held, session_id};
 use site_words::{Acted, Compiled, KeptSessions, Op, Opening, Refusal};
 use source_tree::Tree;
 use std::alloc::{AllocError, Global};
@@ -87,8 +88,8 @@ impl<P: Compiled> Site<P> {
         ensures { IfOk result (λ site. (site.opening ≡ opening) × (site.history ≡ [])) }
     {
         know_limit(&opening);
-        let held = Held::start(alloc, &opening)?;
         let history = History::new(alloc)?;
+        let held = Held::start(alloc, &opening)?;
         Ok(Site {
             alloc,
             opening,
@@ -171,28 +172,6 @@ impl<P: Compiled> Site<P> {
         ensures applies { Applies P.needs P.made self.old self.new pass act.op result }
         ensures sure { Sure self.old.opening self.old.history pass (own pass self.old.history) act.op → IsDid result }
     {
-        let Ok(()) = self.held.reserve(&mut self.history, &act.op) else {
-            return Acted::NoMemory;
-        };
-        let Ok(room) = Room::new(self.alloc, &act.op) else {
-            return Acted::NoMemory;
-        };
-        let Act { op, made } = act;
-        match self.held.act(&self.opening, &self.history, pass, &op, made) {
-            Acted::Did(done) => {
-                let Done { reply, given } = done;
-                let entry = PackedEntry::new(pass, op, reply, room);
-                self.history.push_reserved(entry);
-                Acted::Did(given)
-            }
-            Acted::Refused(refusal) => {
-                drop(room);
-                Acted::Refused(refusal)
-            }
-            Acted::NoMemory => {
-                drop(room);
-                Acted::NoMemory
-            }
-        }
+        perform(&self.opening, &mut self.history, &mut self.held, pass, act)
     }
 }
