@@ -5,10 +5,11 @@ use Rattle.unit_source.specs.declared.found.FoundNodes.{FoundNodes}
 use Rattle.unit_source.specs.declared.splice.InFile.{InFile}
 use Rattle.unit_source.specs.declared.steps.Step.{Step as Kept}
 use Rattle.unit_source.specs.declared.steps.Step.TheVariants as kept
+use Rattle.unit_source.specs.declared.within.Within.{Within}
 use Rattle.unit_source.specs.Files.{Files}
 use Rattle.unit_source.specs.Placed.{in_place}
 use Rattle.unit_source.specs.ReadSteps.{Step, registers, includes, Found, Taken}
-use Rattle.unit_source.specs.Splice.{Going, Inner, Spliced, include_read, spliced_within}
+use Rattle.unit_source.specs.Splice.{Enter, Going, Inner, Spliced, include_read, spliced_within}
 
 -- the names of the files that were included so far, and how it goes on
 pub record Gone : Type 0 where
@@ -40,9 +41,13 @@ step_of (kept.Includes around directive) = includes around directive
 abbrev pub found_of : FoundNodes → Found
 found_of found = record { entry = found.entry; nodes = in_place found.nodes.items }
 
+-- how a file is read within others
+abbrev pub spliced_in : Files → Within → Enter
+spliced_in files within = spliced_within within.deep files within.settings.now within.chain.now
+
 -- what the include directives of a file come to
 abbrev pub reads : Files → InFile → ℕ → Directive → Going → Inner
-reads files file = include_read (spliced_within file.deep files file.settings.now file.chain) files file.chain
+reads files file = include_read (spliced_in files file.within) files file.within.chain.now
 
 -- what steps came to, and how it goes on behind them, as the program has it
 abbrev pub taken_of : List FoundNodes → Gone → Taken

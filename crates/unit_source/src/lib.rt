@@ -25,6 +25,7 @@ mod splice;
 mod steps;
 mod volume;
 mod whole;
+mod within;
 
 pub use directive::WrittenDirective;
 pub use entry::Entry;

@@ -16,6 +16,7 @@ use crate::reading_order::borrowed;
 use crate::source_file::SourceFile;
 use crate::splice::read_file;
 use crate::volume::Volume;
+use crate::within::Within;
 use crate::{PlacedNode, WrittenDirective};
 use page_directives::settings;
 use pg_text::{Listed, Path};
@@ -80,16 +81,13 @@ pub(crate) fn read_twice(
     let first = first_reading(files, source)?;
     let settings = decided_settings(alloc, first.directives(), in_tag)?;
     let outside = Chain::empty();
+    let within = Within {
+        settings: &settings,
+        chain: &outside,
+        deep: MAX_CHAIN,
+    };
     let mut progress = Progress::new(alloc, bytes);
-    let nodes = read_file(
-        files,
-        &settings,
-        &outside,
-        MAX_CHAIN,
-        0,
-        source,
-        &mut progress,
-    )?;
+    let nodes = read_file(files, within, 0, source, &mut progress)?;
     let (first, mut names) = first.into_parts();
     push_names(&mut names, progress.names())?;
     Ok(Root {

@@ -1,11 +1,10 @@
 ghost use Rattle.std.specs.Prelude.{◌≡◌, ◌≤◌, ◌∷◌, [], true, Some, length, map, IfOk, OnOk};
 ghost use Rattle.unit_source.specs.Files.{text_in};
 ghost use Rattle.unit_source.specs.Placed.{in_place};
-ghost use Rattle.unit_source.specs.ReadSplice.{behind_file, behind_inner, found_of, reads, step_of};
-ghost use Rattle.unit_source.specs.ReadSplice.{taken_of, with_more};
+ghost use Rattle.unit_source.specs.ReadSplice.{behind_file, behind_inner, found_of, reads, spliced_in};
+ghost use Rattle.unit_source.specs.ReadSplice.{step_of, taken_of, with_more};
 ghost use Rattle.unit_source.specs.ReadSteps.{both_taken, found_in, taken};
-ghost use Rattle.unit_source.specs.Splice.{file_nodes, nodes_read, room_read, spliced_within};
-ghost use Rattle.unit_source.specs.Splice.{target_read, text_read};
+ghost use Rattle.unit_source.specs.Splice.{file_nodes, nodes_read, room_read, target_read, text_read};
 
 use crate::chain::{Chain, included_path};
 use crate::files::UnitFiles;
@@ -15,55 +14,51 @@ use crate::progress::{MAX_NESTING, Progress};
 use crate::second::read_alone;
 use crate::source_file::SourceFile;
 use crate::steps::{Step, add_steps};
+use crate::within::Within;
 use crate::{Entry, PlacedNode, WrittenDirective};
 use page_pieces::Brought;
 use pg_text::Path;
-use pg_value::PageSettings;
 use std::alloc::AllocError;
 use std::collections::VecDeque;
 
-// A file that is read: under what settings, within which files, with what its include directives
-// bring, and how many files deep reading may still go.
+// A file that is read: within what its includes are read, and what its include directives bring.
 #[derive(Drop)]
 pub(crate) struct InFile<'f> {
-    settings: &'f PageSettings,
-    chain: Chain<'f>,
+    within: Within<'f>,
     brought: Brought,
-    deep: usize,
 }
 
-// Reads a file with its includes in place, within the files of the chain and so many open elements,
-// so many files deep at most.
+// Reads a file with its includes in place, within others and so many open elements.
 #[cycle(splicing)]
 #[tactic(auto, using(crate::proofs::SpliceLemmas::file_end_nodes, crate::proofs::SpliceLemmas::file_end_gone))]
 pub(crate) fn read_file(
     files: &mut UnitFiles,
-    settings: &PageSettings,
-    chain: &Chain,
-    deep: usize,
+    within: Within,
     around: usize,
     source: &SourceFile,
     progress: &mut Progress,
 ) -> Result<Vec<PlacedNode>, AllocError>
     ensures nodes { IfOk result (λ nodes. in_place nodes.items
-        ≡ (spliced_within deep (text_in files.old) settings.now chain.now around source.now.path
-        source.now.text progress.old.going).nodes) }
+        ≡ (spliced_in (text_in files.old) within.entry around source.now.path source.now.text
+        progress.old.going).nodes) }
     ensures progress { OnOk result (progress.new
-        ≡ behind_file progress.old (spliced_within deep (text_in files.old) settings.now chain.now around
-        source.now.path source.now.text progress.old.going)) }
+        ≡ behind_file progress.old (spliced_in (text_in files.old) within.entry around source.now.path
+        source.now.text progress.old.going)) }
     ensures files { files.new ≡ files.old }
 {
     let alloc = files.alloc();
-    if deep == 0 {
+    if within.deep == 0 {
         return Ok(Vec::new(alloc));
     }
-    let longer = Chain::entered(source.path(), &*chain);
-    let alone = read_alone(files, settings, &longer, source, progress)?;
+    let longer = Chain::entered(source.path(), &*within.chain);
+    let alone = read_alone(files, within.settings, &longer, source, progress)?;
     let file = InFile {
-        settings: &*settings,
-        chain: longer,
+        within: Within {
+            settings: &*within.settings,
+            chain: &longer,
+            deep: within.deep - 1,
+        },
         brought: alone.brought,
-        deep: deep - 1,
     };
     read_nodes(files, &file, around, alone.nodes, progress)
 }
@@ -174,16 +169,15 @@ fn enter_path(
     progress: &mut Progress,
 ) -> Result<FoundNodes, AllocError>
     ensures found { IfOk result (λ found. found_of found
-        ≡ found_in (target_read (spliced_within file.now.deep (text_in files.old) file.now.settings.now
-        file.now.chain) (text_in files.old) file.now.chain around true (Some path.now) progress.old.going)) }
+        ≡ found_in (target_read (spliced_in (text_in files.old) file.now.within) (text_in files.old)
+        file.now.within.chain.now around true (Some path.now) progress.old.going)) }
     ensures progress { OnOk result (progress.new
-        ≡ behind_inner progress.old (target_read (spliced_within file.now.deep (text_in files.old)
-        file.now.settings.now file.now.chain) (text_in files.old) file.now.chain around true (Some path.now)
-        progress.old.going)) }
+        ≡ behind_inner progress.old (target_read (spliced_in (text_in files.old) file.now.within)
+        (text_in files.old) file.now.within.chain.now around true (Some path.now) progress.old.going)) }
     ensures files { files.new ≡ files.old }
 {
     let alloc = files.alloc();
-    if file.chain.contains(path) {
+    if file.within.chain.contains(path) {
         progress.push_name(path)?;
         return Ok(FoundNodes::nothing(alloc, Entry::Cycle));
     }
@@ -206,11 +200,11 @@ fn enter_source(
     progress: &mut Progress,
 ) -> Result<FoundNodes, AllocError>
     ensures found { IfOk result (λ found. found_of found
-        ≡ found_in (text_read (spliced_within file.now.deep (text_in files.old) file.now.settings.now
-        file.now.chain) around source.now.path (Some source.now.text) progress.old.going)) }
+        ≡ found_in (text_read (spliced_in (text_in files.old) file.now.within) around source.now.path
+        (Some source.now.text) progress.old.going)) }
     ensures progress { OnOk result (progress.new
-        ≡ behind_inner progress.old (text_read (spliced_within file.now.deep (text_in files.old)
-        file.now.settings.now file.now.chain) around source.now.path (Some source.now.text) progress.old.going)) }
+        ≡ behind_inner progress.old (text_read (spliced_in (text_in files.old) file.now.within) around
+        source.now.path (Some source.now.text) progress.old.going)) }
     ensures files { files.new ≡ files.old }
 {
     if around > MAX_NESTING {
@@ -230,11 +224,11 @@ fn enter_within(
     progress: &mut Progress,
 ) -> Result<FoundNodes, AllocError>
     ensures found { IfOk result (λ found. found_of found
-        ≡ found_in (room_read (spliced_within file.now.deep (text_in files.old) file.now.settings.now
-        file.now.chain) around source.now.path source.now.text progress.old.going)) }
+        ≡ found_in (room_read (spliced_in (text_in files.old) file.now.within) around source.now.path
+        source.now.text progress.old.going)) }
     ensures progress { OnOk result (progress.new
-        ≡ behind_inner progress.old (room_read (spliced_within file.now.deep (text_in files.old)
-        file.now.settings.now file.now.chain) around source.now.path source.now.text progress.old.going)) }
+        ≡ behind_inner progress.old (room_read (spliced_in (text_in files.old) file.now.within) around
+        source.now.path source.now.text progress.old.going)) }
     ensures files { files.new ≡ files.old }
 {
     let bytes = source.text().len();
@@ -245,15 +239,7 @@ fn enter_within(
     }
     progress.count_file(bytes);
     let prefixes = progress.shared_prefixes()?;
-    let nodes = read_file(
-        files,
-        file.settings,
-        &file.chain,
-        file.deep,
-        around,
-        source,
-        progress,
-    )?;
+    let nodes = read_file(files, file.within, around, source, progress)?;
     progress.set_prefixes(prefixes);
     Ok(FoundNodes {
         entry: Entry::Entered(bytes),

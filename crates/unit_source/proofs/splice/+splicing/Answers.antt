@@ -37,21 +37,21 @@ read_nodes-returns-clause-progress t c =
 pub read_file-returns-clause-nodes : goal.read_file-returns-clause-nodes
 read_file-returns-clause-nodes t c =
     let files = text_in c.args.files.now in
-    let settings = c.args.settings.now in
+    let settings = c.args.within.settings.now in
     let longer = c.entered-longer.result in
     let own = own_directives c.args.source.now.path c.args.source.now.text in
     let names = brought_names (firsts_by files longer (one_file (length c.args.source.now.text)) own) in
-    let read = include_read (spliced_within (c.args.deep - 1) files settings longer) files longer in
+    let read = include_read (spliced_within (c.args.within.deep - 1) files settings longer) files longer in
     let nodes = in_place c.in_ok-alone.alone.nodes.items in
-    let whole : spliced_within c.args.deep files settings c.args.chain.now c.args.around c.args.source.now.path c.args.source.now.text c.args.progress.now.going
+    let whole : spliced_within c.args.within.deep files settings c.args.within.chain.now c.args.around c.args.source.now.path c.args.source.now.text c.args.progress.now.going
     ≡ with_names names (nodes_read read c.in_ok-alone.alone.brought c.args.around nodes c.args.progress.now.going) =
-    file_is files settings c.args.deep (c.args.deep - 1) c.args.around c.args.chain.now longer c.args.source.now.path c.args.source.now.text c.args.progress.now.going c.in_ok-alone.alone.brought nodes
+    file_is files settings c.args.within.deep (c.args.within.deep - 1) c.args.around c.args.within.chain.now longer c.args.source.now.path c.args.source.now.text c.args.progress.now.going c.in_ok-alone.alone.brought nodes
     (omega arith) (search rules) (search rules) (search rules) in
     let going : c.read_alone.new.progress ≡ with_more names c.args.progress.now = search rules in
-    let is : (nodes_read (include_read (spliced_within (c.args.deep - 1) (text_in c.read_alone.new.files) settings longer) (text_in c.read_alone.new.files) longer)
+    let is : (nodes_read (include_read (spliced_within (c.args.within.deep - 1) (text_in c.read_alone.new.files) settings longer) (text_in c.read_alone.new.files) longer)
     c.in_ok-alone.alone.brought c.args.around nodes c.read_alone.new.progress.going).nodes
-    ≡ (spliced_within c.args.deep files settings c.args.chain.now c.args.around c.args.source.now.path c.args.source.now.text c.args.progress.now.going).nodes =
-    ap (λ f. (nodes_read (include_read (spliced_within (c.args.deep - 1) (text_in f) settings longer) (text_in f) longer) c.in_ok-alone.alone.brought c.args.around nodes c.read_alone.new.progress.going).nodes)
+    ≡ (spliced_within c.args.within.deep files settings c.args.within.chain.now c.args.around c.args.source.now.path c.args.source.now.text c.args.progress.now.going).nodes =
+    ap (λ f. (nodes_read (include_read (spliced_within (c.args.within.deep - 1) (text_in f) settings longer) (text_in f) longer) c.in_ok-alone.alone.brought c.args.around nodes c.read_alone.new.progress.going).nodes)
     c.in_ok-alone.ensures.files
     ∙ ap (λ (g : Gone). (nodes_read read c.in_ok-alone.alone.brought c.args.around nodes g.going).nodes) going
     ∙ sym (ap (λ (s : Spliced). s.nodes) whole) in
@@ -61,21 +61,21 @@ read_file-returns-clause-nodes t c =
 pub read_file-returns-clause-progress : goal.read_file-returns-clause-progress
 read_file-returns-clause-progress t c =
     let files = text_in c.args.files.now in
-    let settings = c.args.settings.now in
+    let settings = c.args.within.settings.now in
     let longer = c.entered-longer.result in
     let own = own_directives c.args.source.now.path c.args.source.now.text in
     let names = brought_names (firsts_by files longer (one_file (length c.args.source.now.text)) own) in
-    let read = include_read (spliced_within (c.args.deep - 1) files settings longer) files longer in
+    let read = include_read (spliced_within (c.args.within.deep - 1) files settings longer) files longer in
     let nodes = in_place c.in_ok-alone.alone.nodes.items in
-    let whole : spliced_within c.args.deep files settings c.args.chain.now c.args.around c.args.source.now.path c.args.source.now.text c.args.progress.now.going
+    let whole : spliced_within c.args.within.deep files settings c.args.within.chain.now c.args.around c.args.source.now.path c.args.source.now.text c.args.progress.now.going
     ≡ with_names names (nodes_read read c.in_ok-alone.alone.brought c.args.around nodes c.args.progress.now.going) =
-    file_is files settings c.args.deep (c.args.deep - 1) c.args.around c.args.chain.now longer c.args.source.now.path c.args.source.now.text c.args.progress.now.going c.in_ok-alone.alone.brought nodes
+    file_is files settings c.args.within.deep (c.args.within.deep - 1) c.args.around c.args.within.chain.now longer c.args.source.now.path c.args.source.now.text c.args.progress.now.going c.in_ok-alone.alone.brought nodes
     (omega arith) (search rules) (search rules) (search rules) in
     let going : c.read_alone.new.progress ≡ with_more names c.args.progress.now = search rules in
-    let is : behind_file c.read_alone.new.progress (nodes_read (include_read (spliced_within (c.args.deep - 1) (text_in c.read_alone.new.files) settings longer) (text_in c.read_alone.new.files) longer)
+    let is : behind_file c.read_alone.new.progress (nodes_read (include_read (spliced_within (c.args.within.deep - 1) (text_in c.read_alone.new.files) settings longer) (text_in c.read_alone.new.files) longer)
     c.in_ok-alone.alone.brought c.args.around nodes c.read_alone.new.progress.going)
-    ≡ behind_file c.args.progress.now (spliced_within c.args.deep files settings c.args.chain.now c.args.around c.args.source.now.path c.args.source.now.text c.args.progress.now.going) =
-    ap (λ f. behind_file c.read_alone.new.progress (nodes_read (include_read (spliced_within (c.args.deep - 1) (text_in f) settings longer) (text_in f) longer)
+    ≡ behind_file c.args.progress.now (spliced_within c.args.within.deep files settings c.args.within.chain.now c.args.around c.args.source.now.path c.args.source.now.text c.args.progress.now.going) =
+    ap (λ f. behind_file c.read_alone.new.progress (nodes_read (include_read (spliced_within (c.args.within.deep - 1) (text_in f) settings longer) (text_in f) longer)
     c.in_ok-alone.alone.brought c.args.around nodes c.read_alone.new.progress.going)) c.in_ok-alone.ensures.files
     ∙ ap (λ (g : Gone). behind_file g (nodes_read read c.in_ok-alone.alone.brought c.args.around nodes g.going)) going
     ∙ more_behind names c.args.progress.now (nodes_read read c.in_ok-alone.alone.brought c.args.around nodes c.args.progress.now.going)

@@ -5,28 +5,28 @@ use Rattle.unit_source.specs.ReadSteps.{both_taken, taken}
 use Rattle.unit_source.proofs.splice.+splicing.Given as goal
 
 abbrev pub decreases-read_file : goal.decreases-read_file
-decreases-read_file l = 9 * l.deep
+decreases-read_file l = 9 * l.within.deep
 
 abbrev pub decreases-read_nodes : goal.decreases-read_nodes
-decreases-read_nodes l = 9 * l.file.now.deep + 7
+decreases-read_nodes l = 9 * l.file.now.within.deep + 7
 
 abbrev pub decreases-take_steps : goal.decreases-take_steps
-decreases-take_steps l = 9 * l.file.now.deep + 6
+decreases-take_steps l = 9 * l.file.now.within.deep + 6
 
 abbrev pub decreases-take_step : goal.decreases-take_step
-decreases-take_step l = 9 * l.file.now.deep + 5
+decreases-take_step l = 9 * l.file.now.within.deep + 5
 
 abbrev pub decreases-enter : goal.decreases-enter
-decreases-enter l = 9 * l.file.now.deep + 4
+decreases-enter l = 9 * l.file.now.within.deep + 4
 
 abbrev pub decreases-enter_path : goal.decreases-enter_path
-decreases-enter_path l = 9 * l.file.now.deep + 3
+decreases-enter_path l = 9 * l.file.now.within.deep + 3
 
 abbrev pub decreases-enter_source : goal.decreases-enter_source
-decreases-enter_source l = 9 * l.file.now.deep + 2
+decreases-enter_source l = 9 * l.file.now.within.deep + 2
 
 abbrev pub decreases-enter_within : goal.decreases-enter_within
-decreases-enter_within l = 9 * l.file.now.deep + 1
+decreases-enter_within l = 9 * l.file.now.within.deep + 1
 
 abbrev pub invariant-take_steps-loop-step : goal.invariant-take_steps-loop-step
 invariant-take_steps-loop-step l = record {
