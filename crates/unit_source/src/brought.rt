@@ -1,4 +1,4 @@
-ghost use Rattle.std.specs.Prelude.{◌≡◌, ◌++◌, IfOk, OnOk};
+ghost use Rattle.std.specs.Prelude.{◌≡◌, ◌++◌, ◌∷◌, [], IfOk, OnOk};
 ghost use Rattle.unit_source.specs.Files.{text_in};
 ghost use Rattle.unit_source.specs.First.{brought_by, brought_first, brought_names, firsts_by};
 ghost use Rattle.unit_source.specs.ReadFirst.{told};
@@ -39,6 +39,33 @@ pub(crate) fn push_names(names: &mut Listed<Path>, more: &[Path]) -> Result<(), 
     Ok(())
 }
 
+// Adds what an include directive brings behind so much, and the names of the files that are read
+// for it; the answer is how much was read then.
+fn add_brought(
+    files: &mut UnitFiles,
+    chain: &Chain,
+    volume: Volume,
+    directive: &WrittenDirective,
+    brought: &mut Brought,
+    names: &mut Listed<Path>,
+) -> Result<Volume, AllocError>
+    ensures volume { IfOk result (λ behind. behind
+        ≡ (brought_first (text_in files.old) chain.now volume directive.now).volume) }
+    ensures brought { OnOk result (brought.new ≡ brought.old ++ brought_by
+        ((directive.now.place.byte, brought_first (text_in files.old) chain.now volume directive.now) ∷ [])) }
+    ensures names { OnOk result (names.new ≡ names.old
+        ++ (brought_first (text_in files.old) chain.now volume directive.now).names) }
+    ensures files { files.new ≡ files.old }
+{
+    let first = brought_first(files, chain, volume, directive)?;
+    brought.push(BroughtPrefixes {
+        byte: directive.place().byte,
+        prefixes: first.prefixes().copy()?,
+    })?;
+    push_names(names, first.names())?;
+    Ok(first.volume())
+}
+
 // The prefixes that the include directives of a file bring, whose chain, bytes and own directives
 // these are. The names of the files that are read for it are added.
 pub(crate) fn read_brought(
@@ -59,13 +86,7 @@ pub(crate) fn read_brought(
     let mut volume = Volume::one(bytes);
     for directive in own {
         if directive.name() == "include" {
-            let first = brought_first(files, chain, volume, directive)?;
-            volume = first.volume();
-            brought.push(BroughtPrefixes {
-                byte: directive.place().byte,
-                prefixes: first.prefixes().copy()?,
-            })?;
-            push_names(names, first.names())?;
+            volume = add_brought(files, chain, volume, directive, &mut brought, names)?;
         }
     }
     Ok(brought)

@@ -50,12 +50,6 @@ impl First {
         }
     }
 
-    pub fn directives(&self) -> &[WrittenDirective]
-        ensures { result.now ≡ self.now.directives }
-    {
-        self.directives.as_slice()
-    }
-
     // The prefixes that the directives register.
     pub fn prefixes(&self) -> &Prefixes
         ensures { result.now ≡ self.now.prefixes }

@@ -1,10 +1,10 @@
-ghost use Rattle.std.specs.Prelude.{◌≡◌, [], length, IfOk};
+ghost use Rattle.std.specs.Prelude.{◌≡◌, ◌++◌, [], length, IfOk, OnOk};
 ghost use Rattle.page_directives.specs.Settings.{settings_of};
 ghost use Rattle.unit_source.specs.Files.{text_in};
 ghost use Rattle.unit_source.specs.First.{first_within, most_deep};
-ghost use Rattle.unit_source.specs.Placed.{root_view};
+ghost use Rattle.unit_source.specs.Placed.{in_place, root_view};
 ghost use Rattle.unit_source.specs.ReadFirst.{told};
-ghost use Rattle.unit_source.specs.Root.{rooted};
+ghost use Rattle.unit_source.specs.Root.{rooted, second_reading};
 ghost use Rattle.unit_source.specs.Volume.{one_file};
 
 use crate::brought::push_names;
@@ -65,6 +65,32 @@ fn first_reading(files: &mut UnitFiles, source: &SourceFile) -> Result<First, Al
     Ok(first)
 }
 
+// The second reading of a file under settings: its nodes with its includes in place. The names of
+// the files that it includes are added.
+fn second_reading(
+    files: &mut UnitFiles,
+    settings: &PageSettings,
+    source: &SourceFile,
+    names: &mut Listed<Path>,
+) -> Result<Vec<PlacedNode>, AllocError>
+    ensures nodes { IfOk result (λ nodes. in_place nodes.items
+        ≡ (second_reading (text_in files.old) settings.now source.now.path source.now.text).nodes) }
+    ensures names { OnOk result (names.new ≡ names.old
+        ++ (second_reading (text_in files.old) settings.now source.now.path source.now.text).names) }
+    ensures files { files.new ≡ files.old }
+{
+    let outside = Chain::empty();
+    let within = Within {
+        settings: &*settings,
+        chain: &outside,
+        deep: MAX_CHAIN,
+    };
+    let mut progress = Progress::new(files.alloc(), source.text().len());
+    let nodes = read_file(files, within, 0, source, &mut progress)?;
+    push_names(names, progress.names())?;
+    Ok(nodes)
+}
+
 // Reads a file twice, as a page or a tag file.
 #[tactic(auto, unfolding(crate::specs::Root::rooted))]
 pub(crate) fn read_twice(
@@ -78,20 +104,13 @@ pub(crate) fn read_twice(
 {
     let alloc = files.alloc();
     let bytes = source.text().len();
+    let path = source.path().copy()?;
     let first = first_reading(files, source)?;
-    let settings = decided_settings(alloc, first.directives(), in_tag)?;
-    let outside = Chain::empty();
-    let within = Within {
-        settings: &settings,
-        chain: &outside,
-        deep: MAX_CHAIN,
-    };
-    let mut progress = Progress::new(alloc, bytes);
-    let nodes = read_file(files, within, 0, source, &mut progress)?;
     let (first, mut names) = first.into_parts();
-    push_names(&mut names, progress.names())?;
+    let settings = decided_settings(alloc, first.as_slice(), in_tag)?;
+    let nodes = second_reading(files, &settings, source, &mut names)?;
     Ok(Root {
-        path: source.path().copy()?,
+        path,
         in_tag,
         bytes,
         first,
