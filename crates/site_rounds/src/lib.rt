@@ -7,8 +7,10 @@
 
 mod handler;
 mod rounds;
+mod service;
 mod talk;
 
 pub use handler::PortHandler;
 pub use rounds::{Listeners, Talks, Worker, round};
+pub use service::Service;
 pub use talk::Talk;

@@ -9,7 +9,7 @@ ghost use Rattle.pass_course.specs.Course.{IsIdle};
 ghost use Rattle.site_rounds.specs.Ready.{IsReady, numbers_of};
 ghost use Rattle.site_rounds.specs.Served.{IsLed, IsServed};
 
-use crate::{PortHandler, Talk};
+use crate::{PortHandler, Service, Talk};
 use edges::{Accept, Clocks, Gate};
 use pages_server::{Served, three};
 use site_core::Site;
@@ -54,9 +54,7 @@ pub fn round<
     alloc: Global,
     site: Site<P>,
     gate: G,
-    talks: &Talks<T>,
-    listeners: &Listeners<A>,
-    clocks: &W,
+    service: Service<'_, T, A, W>,
 ) -> Result<Site<P>, AllocError>
     requires rest { AllRest site.opening site.history }
     ensures rest { IfOk result (λ after. AllRest after.opening after.history) }
@@ -68,12 +66,12 @@ pub fn round<
 
     // Each pass did in it what its connections did, and nothing else.
     ensures served { IfOk result (λ after. (number : ℕ) → number < site.opening.passes → IsServed
-        (λ talk. T.talked talk site.opening) talks.now (is_some listeners.now.previews) P.needs site.opening
-        number site.history after.history) }
+        (λ talk. T.talked talk site.opening) service.entry.talks.now
+        (is_some service.entry.listeners.now.previews) P.needs site.opening number site.history after.history) }
 {
     site.law();
     let (shared, passes) = start(alloc, site, gate)?;
-    let passes = served(rt, alloc, &shared, passes, talks, listeners, clocks)?;
+    let passes = served(rt, alloc, &shared, passes, service)?;
     let site = shared.close(passes);
     site.law();
     Ok(site)
@@ -93,9 +91,7 @@ fn served<
     alloc: Global,
     site: &SharedSite<P, G>,
     mut passes: SitePasses<P>,
-    talks: &Talks<T>,
-    listeners: &Listeners<A>,
-    clocks: &W,
+    service: Service<'_, T, A, W>,
 ) -> Result<SitePasses<P>, AllocError>
     requires some { 0 < length passes.items }
     requires ready { All (IsReady site.now) passes.items }
@@ -103,9 +99,11 @@ fn served<
     ensures ready { IfOk result (λ after. All (IsReady site.now) after.items) }
     ensures numbers { IfOk result (λ after. numbers_of after.items ≡ numbers_of passes.items) }
     ensures led { IfOk result (λ after. (history : List TheEntry) → All (λ pass. pass.seen ≡ history) passes.items
-        → All (λ pass. IsLed (λ talk. T.talked talk site.now.opening) talks.now (is_some listeners.now.previews)
-        site.now.opening.passes pass.number history pass.seen) after.items) }
+        → All (λ pass. IsLed (λ talk. T.talked talk site.now.opening) service.entry.talks.now
+        (is_some service.entry.listeners.now.previews) site.now.opening.passes pass.number history pass.seen)
+        after.items) }
 {
+    let listeners = service.listeners;
     let previewing = passes.split_off(passes.len() - usize::from(listeners.previews.is_some()))?;
     let editing = passes.split_off(passes.len().saturating_sub(1))?;
     let mut readers = Vec::with_capacity(alloc, passes.len())?;
@@ -115,9 +113,9 @@ fn served<
     seat(rt, site, passes, &mut readers);
     seat(rt, site, editing, &mut editors);
     seat(rt, site, previewing, &mut previews);
-    let for_readers = handler_of(site, &talks.readers, clocks);
-    let for_editors = handler_of(site, &talks.editors, clocks);
-    let for_previews = handler_of(site, &talks.previews, clocks);
+    let for_readers = handler_of(site, &service.talks.readers, service.clocks);
+    let for_editors = handler_of(site, &service.talks.editors, service.clocks);
+    let for_previews = handler_of(site, &service.talks.previews, service.clocks);
     // Where no drafts are shown, no worker is behind the third.
     let third = listeners.previews.as_ref().unwrap_or(&listeners.editors);
     let (readers, editors, previews) = three(

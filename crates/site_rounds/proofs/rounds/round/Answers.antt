@@ -29,14 +29,14 @@ pub returns-clause-served : goal.returns-clause-served
 returns-clause-served g c =
     let same = c.in_ok-shared.ensures.site in
     let x = c.in_ok-shared.shared.opening in
-    let drafts = is_some c.args.listeners.now.previews in
+    let drafts = is_some c.args.service.listeners.now.previews in
     let many = same.0 ∙ sym (ap (λ (y : Opening). y.passes) same.1) in
     let there = are_all c.in_ok-shared.shared c.in_ok-passes.passes.items c.in_ok-passes.ensures.ready (c.in_ok-passes.ensures.numbers ∙ ap numbers_of c.in_ok-shared.ensures.passes ∙ newcomer_numbers c.in_ok-shared.shared c.args.site.history) in
     let led = c.in_ok-passes.ensures.led c.args.site.history (have_seen c.in_ok-shared.shared c.args.site.history c.in_ok-shared.passes.items c.in_ok-shared.ensures.passes) in
-    subst (λ (y : Opening). (number : ℕ) → number < y.passes → IsServed (λ talk. g.T.Talk.talked talk y) c.args.talks.now drafts g.P.Compiled.needs y number c.args.site.history c.close-site.result.history) same.1
-    (λ number low. each_served (λ talk. g.T.Talk.talked talk x) c.args.talks.now drafts g.P.Compiled.needs x c.args.site.history c.close-site.result.history c.in_ok-passes.passes.items number (there.each number (omega (arith, low, many))) led c.close-site.ensures.passes)
+    subst (λ (y : Opening). (number : ℕ) → number < y.passes → IsServed (λ talk. g.T.Talk.talked talk y) c.args.service.talks.now drafts g.P.Compiled.needs y number c.args.site.history c.close-site.result.history) same.1
+    (λ number low. each_served (λ talk. g.T.Talk.talked talk x) c.args.service.talks.now drafts g.P.Compiled.needs x c.args.site.history c.close-site.result.history c.in_ok-passes.passes.items number (there.each number (omega (arith, low, many))) led c.close-site.ensures.passes)
 
 pub returns-clause-goes_on : goal.returns-clause-goes_on
 returns-clause-goes_on g c =
-    goes_on (λ talk. g.T.Talk.talked talk c.args.site.opening) c.args.talks.now (is_some c.args.listeners.now.previews) g.P.Compiled.needs c.args.site.opening 0 c.args.site.history c.close-site.result.history
+    goes_on (λ talk. g.T.Talk.talked talk c.args.site.opening) c.args.service.talks.now (is_some c.args.service.listeners.now.previews) g.P.Compiled.needs c.args.site.opening 0 c.args.site.history c.close-site.result.history
     (returns-clause-served g c 0 (passes_few c.args.site.opening c.law.ensures.sound).0)

@@ -83,8 +83,8 @@ returns-clause-numbers g c =
 
 pub returns-clause-led : goal.returns-clause-led
 returns-clause-led g c = λ history same.
-    let talks = c.args.talks.now in
-    let drafts = is_some c.args.listeners.now.previews in
+    let talks = c.args.service.talks.now in
+    let drafts = is_some c.args.service.listeners.now.previews in
     let drafts_is : bool_byte c.is_some.result ≡ bool_byte drafts = ap bool_byte c.is_some.ensures in
     let turns = c.args.site.now in
     let n = turns.opening.passes in
