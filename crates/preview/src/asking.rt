@@ -7,13 +7,13 @@ ghost use Rattle.preview_words.specs.Previewed.{ServedPreview, preview_stand};
 ghost use Rattle.site_words.specs.Answers.{IsSamePort};
 ghost use Rattle.talk_words.specs.Said.{is_editors};
 
+use crate::incoming::Incoming;
 use crate::showing::show;
 use crate::telling::tell_full;
 use compiled_pages::Made;
 use conversation::Outcome;
 use edges::{Ledger, Sink, Steps};
 use editor::Draft;
-use http_in::Request;
 use preview_words::{own_sites, pictures};
 use site_words::{Acted, Port};
 use std::alloc::Global;
@@ -23,19 +23,18 @@ pub(crate) fn ask<P: Port<Made>, K: Sink, L: Ledger>(
     alloc: Global,
     draft: &Draft,
     port: &mut P,
-    request: Request,
-    close: bool,
+    incoming: Incoming,
     sink: &mut K,
     steps: &mut Steps<L>,
 ) -> Outcome
     requires pass { P.pass port.old < (P.opening port.old).passes }
-    requires cookie { length request.cookie ≤ SESSION_ID_BYTES }
-    requires pages { is_editors request.target ≡ false }
-    requires taken { takes_method request.method ≡ true }
+    requires cookie { length incoming.request.cookie ≤ SESSION_ID_BYTES }
+    requires pages { is_editors incoming.request.target ≡ false }
+    requires taken { takes_method incoming.request.method ≡ true }
     ensures same { IsSamePort (P.pass port.old) (P.pass port.new) (P.opening port.old) (P.opening port.new)
         (P.home port.old) (P.home port.new) }
-    ensures served { ServedPreview needs_at (P.opening port.old) (P.pass port.old) close request
-        (preview_stand draft.now (P.seen port.old) steps.old)
+    ensures served { ServedPreview needs_at (P.opening port.old) (P.pass port.old) incoming.close
+        incoming.request (preview_stand draft.now (P.seen port.old) steps.old)
         (preview_stand draft.now (P.seen port.new) steps.new) (K.faults sink.old) (K.faults sink.new)
         (K.taken sink.old) (K.taken sink.new) result }
     ensures later { K.faults sink.old ≤ K.faults sink.new }
@@ -44,9 +43,11 @@ pub(crate) fn ask<P: Port<Made>, K: Sink, L: Ledger>(
     port.law();
     own_sites();
     pictures();
-    match port.snapshot(&request.cookie) {
-        Acted::Did(snapped) => show(alloc, draft, snapped, request, close, sink, steps),
-        Acted::Refused(refusal) => tell_full(alloc, &request, &refusal, close, sink),
+    match port.snapshot(&incoming.request.cookie) {
+        Acted::Did(snapped) => show(alloc, draft, snapped, incoming, sink, steps),
+        Acted::Refused(refusal) => {
+            tell_full(alloc, &incoming.request, &refusal, incoming.close, sink)
+        }
         Acted::NoMemory => Outcome::NoMemory,
     }
 }

@@ -4,6 +4,7 @@ ghost use Rattle.talk_words.specs.Said.{is_editors};
 
 use crate::asking::ask;
 use crate::editing::edit;
+use crate::incoming::Incoming;
 use crate::telling::tell;
 use compiled_pages::Made;
 use conversation::{Desk, Outcome};
@@ -82,7 +83,8 @@ impl<P: Port<Made>, L: Ledger> Desk for PreviewDesk<P, L> {
             let line = b"MethodNotAllowed";
             return tell(alloc, &request, Status::MethodNotAllowed, line, close, sink);
         }
-        ask(alloc, &self.draft, port, request, close, sink, count)
+        let incoming = Incoming { request, close };
+        ask(alloc, &self.draft, port, incoming, sink, count)
     }
 }
 

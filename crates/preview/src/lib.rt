@@ -7,6 +7,7 @@ mod command;
 mod connection;
 mod desk;
 mod editing;
+mod incoming;
 mod own;
 mod showing;
 mod telling;

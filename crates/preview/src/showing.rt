@@ -10,13 +10,13 @@ ghost use Rattle.site_words.specs.Opening.{is_sound};
 ghost use Rattle.source_tree.specs.Limits.{tree_fault};
 ghost use Rattle.source_tree.specs.declared.fault.TreeFault.{TreeFault as Reason};
 
+use crate::incoming::Incoming;
 use crate::own::{NoTime, own_site};
 use crate::telling::{tell, tell_fault};
 use conversation::Outcome;
 use dispatch::respond;
 use edges::{Ledger, Sink, Steps};
 use editor::Draft;
-use http_in::Request;
 use http_out::Status;
 use pg_text::Failure;
 use site_words::Snapped;
@@ -31,21 +31,23 @@ pub(crate) fn show<K: Sink, L: Ledger>(
     alloc: Global,
     draft: &Draft,
     snapped: Snapped,
-    request: Request,
-    close: bool,
+    incoming: Incoming,
     sink: &mut K,
     steps: &mut Steps<L>,
 ) -> Outcome
     requires runnable { IsRunnable draft.now (picture_in snapped) }
-    requires taken { takes_method request.method ≡ true }
-    ensures served { ServedShown needs_at draft.now (picture_in snapped) close request steps.old steps.new
-        (K.faults sink.old) (K.faults sink.new) (K.taken sink.old) (K.taken sink.new) result }
+    requires taken { takes_method incoming.request.method ≡ true }
+    ensures served { ServedShown needs_at draft.now (picture_in snapped) incoming.close incoming.request
+        steps.old steps.new (K.faults sink.old) (K.faults sink.new) (K.taken sink.old) (K.taken sink.new)
+        result }
     ensures later { K.faults sink.old ≤ K.faults sink.new }
     ensures failed { result ≡ Outcome.WriteFault → Rose (K.faults sink.old) (K.faults sink.new) }
 {
     match drafted(draft, &snapped) {
-        Ok(tree) => show_tree(alloc, snapped, tree, request, close, sink, steps),
-        Err(Failure::Fault(reason)) => tell_fault(alloc, &request, reason, close, sink),
+        Ok(tree) => show_tree(alloc, snapped, tree, incoming, sink, steps),
+        Err(Failure::Fault(reason)) => {
+            tell_fault(alloc, &incoming.request, reason, incoming.close, sink)
+        }
         Err(Failure::NoMemory) => Outcome::NoMemory,
     }
 }
@@ -70,24 +72,25 @@ fn show_tree<K: Sink, L: Ledger>(
     alloc: Global,
     snapped: Snapped,
     tree: Tree,
-    request: Request,
-    close: bool,
+    incoming: Incoming,
     sink: &mut K,
     steps: &mut Steps<L>,
 ) -> Outcome
     requires sound { snapped.version + 1 < 2 ^ 63
         → is_sound (own_opening tree (picture_in snapped)) ≡ true }
-    requires taken { takes_method request.method ≡ true }
-    ensures served { ServedTree needs_at tree (picture_in snapped) close request steps.old steps.new
-        (K.faults sink.old) (K.faults sink.new) (K.taken sink.old) (K.taken sink.new) result }
+    requires taken { takes_method incoming.request.method ≡ true }
+    ensures served { ServedTree needs_at tree (picture_in snapped) incoming.close incoming.request
+        steps.old steps.new (K.faults sink.old) (K.faults sink.new) (K.taken sink.old) (K.taken sink.new)
+        result }
     ensures later { K.faults sink.old ≤ K.faults sink.new }
     ensures failed { result ≡ Outcome.WriteFault → Rose (K.faults sink.old) (K.faults sink.new) }
 {
     if snapped.version > LAST_VERSION {
         let line = b"TreeTooLarge Version";
+        let Incoming { request, close } = incoming;
         return tell(alloc, &request, Status::ContentTooLarge, line, close, sink);
     }
-    run(alloc, snapped, tree, request, close, sink, steps)
+    run(alloc, snapped, tree, incoming, sink, steps)
 }
 
 // Runs a request on a site of its own, whose session it names.
@@ -95,23 +98,23 @@ fn run<K: Sink, L: Ledger>(
     alloc: Global,
     snapped: Snapped,
     tree: Tree,
-    mut request: Request,
-    close: bool,
+    incoming: Incoming,
     sink: &mut K,
     steps: &mut Steps<L>,
 ) -> Outcome
     requires version { snapped.version + 1 < 2 ^ 63 }
     requires sound { is_sound (own_opening tree (picture_in snapped)) ≡ true }
-    requires taken { takes_method request.method ≡ true }
-    ensures served { ServedRun needs_at (own_opening tree (picture_in snapped)) snapped.session close
-        request steps.old steps.new (K.faults sink.old) (K.faults sink.new) (K.taken sink.old)
-        (K.taken sink.new) result }
+    requires taken { takes_method incoming.request.method ≡ true }
+    ensures served { ServedRun needs_at (own_opening tree (picture_in snapped)) snapped.session
+        incoming.close incoming.request steps.old steps.new (K.faults sink.old) (K.faults sink.new)
+        (K.taken sink.old) (K.taken sink.new) result }
     ensures later { K.faults sink.old ≤ K.faults sink.new }
     ensures failed { result ≡ Outcome.WriteFault → Rose (K.faults sink.old) (K.faults sink.new) }
 {
     let Ok((mut port, cookie)) = own_site(alloc, snapped, tree) else {
         return Outcome::NoMemory;
     };
+    let Incoming { mut request, close } = incoming;
     request.cookie = cookie;
     respond(alloc, &mut port, &request, close, sink, &mut NoTime, steps)
 }
