@@ -8,6 +8,7 @@ ghost use Rattle.serve_words.specs.Words.{count_of, settings_asked};
 use crate::next_round::onward;
 use crate::notice::announce;
 use crate::pages::{Audience, Pages};
+use crate::platform::Platform;
 use crate::several::serve_contexts;
 use crate::threads::can_run;
 use crate::unmarked::without_rounds;
@@ -18,7 +19,7 @@ use edges::{Accept, Bind, Clocks, Failed, OpenGate, Sink};
 use pg_value::Attrs;
 use serve_words::{Asked, Settings, settings_asked};
 use site_core::{Site, start};
-use site_rounds::{Listeners, Talks, round};
+use site_rounds::{Listeners, Service, Talks, round};
 use site_words::JOURNAL_LIMIT;
 use source_tree::Tree;
 use std::alloc::{AllocError, Global};
@@ -56,53 +57,50 @@ pub fn serve<R: Threads + Wait + Sync, B: Bind, W: Clocks + Sync, J: Sink, K: Si
     if !can_run(rt, usize::from(passes_of(&settings)) - 1) {
         return 8;
     }
+    let platform = Platform { rt, alloc, clocks };
     match contexts {
-        Some(names) => among(rt, alloc, names, &settings, listeners, clocks, notices),
-        None => alone(rt, alloc, &settings, listeners, clocks, journals, notices),
+        Some(names) => among(platform, names, &settings, listeners, notices),
+        None => alone(platform, &settings, listeners, journals, notices),
     }
 }
 
 // Serves one site, round by round.
 fn alone<R: Threads + Wait + Sync, A: Accept + Sync + Drop, W: Clocks + Sync, J: Sink, K: Sink>(
-    rt: &R,
-    alloc: Global,
+    platform: Platform<'_, R, W>,
     settings: &Settings,
     listeners: Listeners<A>,
-    clocks: &W,
     journals: &mut J,
     notices: &mut K,
 ) -> u8
     requires { settings.now.workers + count_of settings.now.preview_port ≤ 63 }
     ensures { result ≡ 5 }
 {
-    let Ok(site) = site_of(alloc, settings) else {
+    let Ok(site) = site_of(platform.alloc, settings) else {
         return 5;
     };
-    announce(alloc, settings, JOURNAL_LIMIT, notices);
-    rounds(rt, alloc, site, listeners, clocks, journals)
+    announce(platform.alloc, settings, JOURNAL_LIMIT, notices);
+    rounds(platform, site, listeners, journals)
 }
 
 // Serves a site for each of these names, joined by commas.
 fn among<R: Threads + Wait + Sync, A: Accept + Sync + Drop, W: Clocks + Sync, K: Sink>(
-    rt: &R,
-    alloc: Global,
+    platform: Platform<'_, R, W>,
     names: &str,
     settings: &Settings,
     listeners: Listeners<A>,
-    clocks: &W,
     notices: &mut K,
 ) -> u8
     requires names { is_some (names_in names.now) ≡ true }
     requires few { settings.now.workers ≤ 63 }
     ensures { result ≡ 5 }
 {
-    let Ok(Some(names)) = read_names(alloc, names) else {
+    let Ok(Some(names)) = read_names(platform.alloc, names) else {
         return 5;
     };
-    announce(alloc, settings, CONTEXT_JOURNAL_LIMIT, notices);
+    announce(platform.alloc, settings, CONTEXT_JOURNAL_LIMIT, notices);
     let listeners = without_rounds(listeners);
-    for _ in rt.forever() {
-        if serve_contexts(rt, alloc, &names, settings, &listeners, clocks).is_err() {
+    for _ in platform.rt.forever() {
+        if serve_contexts(platform, &names, settings, &listeners).is_err() {
             return 5;
         }
     }
@@ -112,16 +110,15 @@ fn among<R: Threads + Wait + Sync, A: Accept + Sync + Drop, W: Clocks + Sync, K:
 // Serves one round after the other, and writes the journal of each. It ends where memory is
 // wanting. Where drafts are shown there are no rounds.
 fn rounds<R: Threads + Wait + Sync, A: Accept + Sync + Drop, W: Clocks + Sync, J: Sink>(
-    rt: &R,
-    alloc: Global,
+    platform: Platform<'_, R, W>,
     mut site: Site<Made>,
     mut listeners: Listeners<A>,
-    clocks: &W,
     journals: &mut J,
 ) -> u8
     requires { AllRest site.opening site.history }
     ensures { result ≡ 5 }
 {
+    let Platform { rt, alloc, clocks } = platform;
     let talks = Talks {
         readers: Pages {
             alloc,
@@ -137,7 +134,12 @@ fn rounds<R: Threads + Wait + Sync, A: Accept + Sync + Drop, W: Clocks + Sync, J
         },
     };
     for _ in rt.forever() {
-        match round(rt, alloc, site, OpenGate, &talks, &listeners, clocks) {
+        let service = Service {
+            talks: &talks,
+            listeners: &listeners,
+            clocks,
+        };
+        match round(rt, alloc, site, OpenGate, service) {
             Ok(after) => site = onward(alloc, after, journals),
             Err(AllocError) => return 5,
         }

@@ -45,16 +45,8 @@ impl<'a, R: Wait + Sync, W: Clocks> Handler for ContextPages<'a, R, W> {
         sink: &mut K,
     ) {
         let mut clock = self.clocks.clock();
-        talk_uncounted::<Brand, _, _, _, _>(
-            self.alloc,
-            self.names,
-            self.role,
-            token,
-            source,
-            sink,
-            &mut clock,
-            Blank::new(1),
-        );
+        let blank = Blank::new(1);
+        talk_uncounted::<Brand, _, _, _, _, _, _>(self, token, source, sink, &mut clock, blank);
     }
 }
 
@@ -77,10 +69,8 @@ pub(crate) fn pages_for<'a, R, W>(
 }
 
 // Answers a connection, without a count of what its pages read. How it ended is nobody's concern.
-fn talk_uncounted<N: Ledger, P: Port<Made>, S: Source, K: Sink, C: Clock>(
-    alloc: Global,
-    names: &ContextNames,
-    role: Role,
+fn talk_uncounted<N: Ledger, R, W, P: Port<Made>, S: Source, K: Sink, C: Clock>(
+    pages: &ContextPages<'_, R, W>,
     ports: &mut PortList<P>,
     source: &mut S,
     sink: &mut K,
@@ -90,14 +80,23 @@ fn talk_uncounted<N: Ledger, P: Port<Made>, S: Source, K: Sink, C: Clock>(
     requires name { blank.name ≡ N.name }
     requires parts { blank.parts ≡ N.parts }
     requires some { 0 < N.parts }
-    requires count { length ports.old.ports.items ≡ length names.now }
+    requires count { length ports.old.ports.items ≡ length pages.now.names.now }
     requires idle { All (λ port. IsIdle (P.opening port) (P.pass port) (P.seen port)) ports.old.ports.items }
-    ensures count { length ports.new.ports.items ≡ length names.now }
+    ensures count { length ports.new.ports.items ≡ length pages.now.names.now }
     ensures idle { All (λ port. IsIdle (P.opening port) (P.pass port) (P.seen port)) ports.new.ports.items }
     ensures number { number_of P.pass ports.new.ports.items ≡ number_of P.pass ports.old.ports.items }
-    ensures talked { IsConversedAmong names.now role P.opening P.pass P.home P.seen ports.old.ports.items
-        ports.new.ports.items }
+    ensures talked { IsConversedAmong pages.now.names.now pages.now.role P.opening P.pass P.home P.seen
+        ports.old.ports.items ports.new.ports.items }
 {
     let mut steps = Steps::<Unseen<N>>::unseen(blank);
-    talk_contexts(alloc, names, ports, role, source, sink, clock, &mut steps);
+    talk_contexts(
+        pages.alloc,
+        pages.names,
+        ports,
+        pages.role,
+        source,
+        sink,
+        clock,
+        &mut steps,
+    );
 }

@@ -10,6 +10,7 @@ mod context_pages;
 mod next_round;
 mod notice;
 mod pages;
+mod platform;
 mod several;
 mod threads;
 mod unmarked;

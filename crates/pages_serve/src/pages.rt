@@ -42,23 +42,14 @@ impl Talk<Made> for Pages {
         sink: &mut K,
         clock: &mut C,
     ) {
-        talk_uncounted::<Brand, _, _, _, _>(
-            self.alloc,
-            port,
-            self.audience,
-            source,
-            sink,
-            clock,
-            Blank::new(1),
-        );
+        talk_uncounted::<Brand, _, _, _, _>(*self, port, source, sink, clock, Blank::new(1));
     }
 }
 
 // Answers a connection, without a count of what its pages read. How it ended is nobody's concern.
 fn talk_uncounted<N: ledger::Ledger, P: Port<Made>, S: Source, K: Sink, C: Clock>(
-    alloc: Global,
+    pages: Pages,
     port: &mut P,
-    audience: Audience,
     source: &mut S,
     sink: &mut K,
     clock: &mut C,
@@ -72,9 +63,10 @@ fn talk_uncounted<N: ledger::Ledger, P: Port<Made>, S: Source, K: Sink, C: Clock
         (P.home port.old) (P.home port.new) }
     ensures idle { IsIdle (P.opening port.new) (P.pass port.new) (P.seen port.new) }
     ensures longer { IsFront (P.seen port.old) (P.seen port.new) }
-    ensures talked { HasTalked audience (P.opening port.old) (P.pass port.old) (P.seen port.old)
+    ensures talked { HasTalked pages.audience (P.opening port.old) (P.pass port.old) (P.seen port.old)
         (P.seen port.new) }
 {
+    let Pages { alloc, audience } = pages;
     let mut steps = Steps::<Unseen<N>>::unseen(blank);
     match audience {
         Audience::Readers => talk(alloc, port, Role::Reader, source, sink, clock, &mut steps),

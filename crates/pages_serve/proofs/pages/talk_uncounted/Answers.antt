@@ -38,11 +38,11 @@ returns-clause-talked g c =
     elim c.match-audience.branch [
       | in-Readers w ↦
           let new = g.P.Port.seen w.talk.new.port in
-          subst (λ port. HasTalked c.args.audience x pass old (g.P.Port.seen port)) (sym w.port-is) (subst (λ audience. HasTalked audience x pass old new) (sym w.in-Readers.is) (conversed Reader x pass old new _ _ _ _ _ _ _ _ _ _ w.talk.ensures.talk.0 _ w.talk.ensures.talk.1))
+          subst (λ port. HasTalked c.args.pages.audience x pass old (g.P.Port.seen port)) (sym w.port-is) (subst (λ audience. HasTalked audience x pass old new) (sym w.in-Readers.is) (conversed Reader x pass old new _ _ _ _ _ _ _ _ _ _ w.talk.ensures.talk.0 _ w.talk.ensures.talk.1))
       | in-Editors w ↦
           let new = g.P.Port.seen w.talk-in-Editors.new.port in
-          subst (λ port. HasTalked c.args.audience x pass old (g.P.Port.seen port)) (sym w.port-is) (subst (λ audience. HasTalked audience x pass old new) (sym w.in-Editors.is) (conversed Both x pass old new _ _ _ _ _ _ _ _ _ _ w.talk-in-Editors.ensures.talk.0 _ w.talk-in-Editors.ensures.talk.1))
+          subst (λ port. HasTalked c.args.pages.audience x pass old (g.P.Port.seen port)) (sym w.port-is) (subst (λ audience. HasTalked audience x pass old new) (sym w.in-Editors.is) (conversed Both x pass old new _ _ _ _ _ _ _ _ _ _ w.talk-in-Editors.ensures.talk.0 _ w.talk-in-Editors.ensures.talk.1))
       | in-Previews w ↦
           let new = g.P.Port.seen w.preview.new.port in
-          subst (λ port. HasTalked c.args.audience x pass old (g.P.Port.seen port)) (sym w.port-is) (subst (λ audience. HasTalked audience x pass old new) (sym w.in-Previews.is) (previewed x pass old new _ _ _ _ _ _ _ _ _ w.preview.ensures.talk))
+          subst (λ port. HasTalked c.args.pages.audience x pass old (g.P.Port.seen port)) (sym w.port-is) (subst (λ audience. HasTalked audience x pass old new) (sym w.in-Previews.is) (previewed x pass old new _ _ _ _ _ _ _ _ _ w.preview.ensures.talk))
     ]
