@@ -5,6 +5,7 @@ ghost use Rattle.edges.specs.Faults.{Rose};
 ghost use Rattle.pages_talk.specs.Play.{exit_status};
 
 use crate::connection::talk_contexts;
+use crate::first_sites::FirstSites;
 use crate::words::words_told;
 use compiled_pages::Made;
 use context_names::{ContextNames, PortList, read_names};
@@ -52,7 +53,11 @@ pub fn play_contexts<S: Source, K: Sink, C: Clock, L: Ledger>(
         Ok(None) => return 1,
         Err(AllocError) => return 5,
     };
-    match play_alone(alloc, &names, seed, source, sink, clock, steps) {
+    let sites = FirstSites {
+        names: &names,
+        seed,
+    };
+    match play_alone(alloc, sites, source, sink, clock, steps) {
         Ended::Done => 0,
         Ended::Refused(_) => 2,
         Ended::ReadFault => 3,
@@ -61,23 +66,23 @@ pub fn play_contexts<S: Source, K: Sink, C: Clock, L: Ledger>(
     }
 }
 
-// Runs one connection over contexts without files that have these names and this seed.
+// Runs one connection over the contexts with these sites.
 fn play_alone<S: Source, K: Sink, C: Clock, L: Ledger>(
     alloc: Global,
-    names: &ContextNames,
-    seed: [u8; 32],
+    sites: FirstSites,
     source: &mut S,
     sink: &mut K,
     clock: &mut C,
     steps: &mut Steps<L>,
 ) -> Ended
-    ensures talk { HasTalkedAmong names.now seed (C.moments clock.old) (C.moments clock.new) steps.old steps.new
-        (S.left source.old) (S.left source.new) (K.faults sink.old) (K.faults sink.new) (K.taken sink.old)
-        (K.taken sink.new) result }
+    ensures talk { HasTalkedAmong sites.entry.names.now sites.entry.seed (C.moments clock.old)
+        (C.moments clock.new) steps.old steps.new (S.left source.old) (S.left source.new) (K.faults sink.old)
+        (K.faults sink.new) (K.taken sink.old) (K.taken sink.new) result }
     ensures read { result ≡ Ended.ReadFault → Rose (S.faults source.old) (S.faults source.new) }
     ensures write { result ≡ Ended.WriteFault → Rose (K.faults sink.old) (K.faults sink.new) }
     ensures unfailing { S.unfailing source.old → (result ≢ Ended.ReadFault) × S.unfailing source.new }
 {
+    let FirstSites { names, seed } = sites;
     let Ok(mut ports) = ports_of(alloc, names, seed) else {
         return Ended::NoMemory;
     };

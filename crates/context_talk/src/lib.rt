@@ -5,6 +5,7 @@
 mod command;
 mod connection;
 mod desk;
+mod first_sites;
 mod words;
 
 pub use command::play_contexts;
