@@ -45,9 +45,7 @@ pub(crate) fn ask<P: Port<Made>, K: Sink, L: Ledger>(
     pictures();
     match port.snapshot(&incoming.request.cookie) {
         Acted::Did(snapped) => show(alloc, draft, snapped, incoming, sink, steps),
-        Acted::Refused(refusal) => {
-            tell_full(alloc, &incoming.request, &refusal, incoming.close, sink)
-        }
+        Acted::Refused(refusal) => tell_full(alloc, &incoming, &refusal, sink),
         Acted::NoMemory => Outcome::NoMemory,
     }
 }

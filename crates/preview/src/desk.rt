@@ -76,14 +76,14 @@ impl<P: Port<Made>, L: Ledger> Desk for PreviewDesk<P, L> {
         close: bool,
         sink: &mut K,
     ) -> Outcome {
-        if is_editors(&request) {
-            return edit(alloc, &mut self.draft, &request, close, sink);
-        }
-        if !takes_method(&request) {
-            let line = b"MethodNotAllowed";
-            return tell(alloc, &request, Status::MethodNotAllowed, line, close, sink);
-        }
         let incoming = Incoming { request, close };
+        if is_editors(&incoming.request) {
+            return edit(alloc, &mut self.draft, &incoming, sink);
+        }
+        if !takes_method(&incoming.request) {
+            let line = b"MethodNotAllowed";
+            return tell(alloc, &incoming, Status::MethodNotAllowed, line, sink);
+        }
         ask(alloc, &self.draft, port, incoming, sink, count)
     }
 }

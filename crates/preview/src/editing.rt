@@ -5,6 +5,7 @@ ghost use Rattle.editor.specs.Taking.{IsDrafted};
 ghost use Rattle.preview_words.specs.Previewed.{ServedEdited, preview_stand};
 ghost use Rattle.site_words.specs.declared.words.Entry.{Entry};
 
+use crate::incoming::Incoming;
 use crate::telling::tell_edit;
 use conversation::Outcome;
 use edges::Sink;
@@ -17,19 +18,18 @@ use std::alloc::Global;
 pub(crate) fn edit<K: Sink>(
     alloc: Global,
     draft: &mut Draft,
-    request: &Request,
-    close: bool,
+    incoming: &Incoming,
     sink: &mut K,
 ) -> Outcome
-    ensures served { (seen : List Entry) (steps : ℕ) → ServedEdited close request.now
+    ensures served { (seen : List Entry) (steps : ℕ) → ServedEdited incoming.now.close incoming.now.request
         (preview_stand draft.old seen steps) (preview_stand draft.new seen steps)
         (K.faults sink.old) (K.faults sink.new) (K.taken sink.old) (K.taken sink.new) result }
     ensures later { K.faults sink.old ≤ K.faults sink.new }
     ensures failed { result ≡ Outcome.WriteFault → Rose (K.faults sink.old) (K.faults sink.new) }
 {
-    match drafted(alloc, draft, request) {
-        Ok(answer) => tell_edit(alloc, request, &Ok(answer), close, sink),
-        Err(Failure::Fault(fault)) => tell_edit(alloc, request, &Err(fault), close, sink),
+    match drafted(alloc, draft, &incoming.request) {
+        Ok(answer) => tell_edit(alloc, incoming, &Ok(answer), sink),
+        Err(Failure::Fault(fault)) => tell_edit(alloc, incoming, &Err(fault), sink),
         Err(Failure::NoMemory) => Outcome::NoMemory,
     }
 }

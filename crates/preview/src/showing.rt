@@ -45,9 +45,7 @@ pub(crate) fn show<K: Sink, L: Ledger>(
 {
     match drafted(draft, &snapped) {
         Ok(tree) => show_tree(alloc, snapped, tree, incoming, sink, steps),
-        Err(Failure::Fault(reason)) => {
-            tell_fault(alloc, &incoming.request, reason, incoming.close, sink)
-        }
+        Err(Failure::Fault(reason)) => tell_fault(alloc, &incoming, reason, sink),
         Err(Failure::NoMemory) => Outcome::NoMemory,
     }
 }
@@ -87,8 +85,7 @@ fn show_tree<K: Sink, L: Ledger>(
 {
     if snapped.version > LAST_VERSION {
         let line = b"TreeTooLarge Version";
-        let Incoming { request, close } = incoming;
-        return tell(alloc, &request, Status::ContentTooLarge, line, close, sink);
+        return tell(alloc, &incoming, Status::ContentTooLarge, line, sink);
     }
     run(alloc, snapped, tree, incoming, sink, steps)
 }

@@ -9,6 +9,7 @@ ghost use Rattle.http_out.specs.Response.{plain};
 ghost use Rattle.site_words.specs.Answers.{IsFull};
 ghost use Rattle.talk_words.specs.Said.{told_text};
 
+use crate::incoming::Incoming;
 use conversation::Outcome;
 use edges::Sink;
 use editor::{EditorAnswer, EditorFault, fault_text};
@@ -22,19 +23,18 @@ use std::alloc::{AllocError, Global};
 /// Gives a plain answer of one line.
 pub(crate) fn tell<K: Sink>(
     alloc: Global,
-    request: &Request,
+    incoming: &Incoming,
     status: Status,
     line: &[u8],
-    close: bool,
     sink: &mut K,
 ) -> Outcome
-    ensures told { IsTold (plain status close line.now (shows_body request.now.method))
+    ensures told { IsTold (plain status incoming.now.close line.now (shows_body incoming.now.request.method))
         (K.taken sink.old) (K.taken sink.new) result }
     ensures later { K.faults sink.old ≤ K.faults sink.new }
     ensures failed { result ≡ Outcome.WriteFault → Rose (K.faults sink.old) (K.faults sink.new) }
 {
-    let shown = shows_body(request);
-    match tell_plain(alloc, sink, status, close, line, shown) {
+    let shown = shows_body(&incoming.request);
+    match tell_plain(alloc, sink, status, incoming.close, line, shown) {
         Ok(false) => Outcome::Whole,
         Ok(true) => Outcome::WriteFault,
         Err(AllocError) => Outcome::NoMemory,
@@ -44,18 +44,17 @@ pub(crate) fn tell<K: Sink>(
 /// Tells an editor what a message came to.
 pub(crate) fn tell_edit<K: Sink>(
     alloc: Global,
-    request: &Request,
+    incoming: &Incoming,
     told: &Result<EditorAnswer, EditorFault>,
-    close: bool,
     sink: &mut K,
 ) -> Outcome
-    ensures told { IsTold (told_text told.now close (shows_body request.now.method))
+    ensures told { IsTold (told_text told.now incoming.now.close (shows_body incoming.now.request.method))
         (K.taken sink.old) (K.taken sink.new) result }
     ensures later { K.faults sink.old ≤ K.faults sink.new }
     ensures failed { result ≡ Outcome.WriteFault → Rose (K.faults sink.old) (K.faults sink.new) }
 {
-    let shown = shows_body(request);
-    match tell_editor(alloc, told, close, shown, sink) {
+    let shown = shows_body(&incoming.request);
+    match tell_editor(alloc, told, incoming.close, shown, sink) {
         Ok(false) => Outcome::Whole,
         Ok(true) => Outcome::WriteFault,
         Err(AllocError) => Outcome::NoMemory,
@@ -65,23 +64,21 @@ pub(crate) fn tell_edit<K: Sink>(
 /// Tells that the journal has no room for a picture.
 pub(crate) fn tell_full<K: Sink>(
     alloc: Global,
-    request: &Request,
+    incoming: &Incoming,
     refusal: &Refusal,
-    close: bool,
     sink: &mut K,
 ) -> Outcome
     requires full { IsFull refusal.now }
     ensures told { (weight promised : ℕ) → refusal.now ≡ Refusal.JournalFull weight promised
-        → IsTold (plain Status.ServiceUnavailable close (full_line weight promised)
-        (shows_body request.now.method)) (K.taken sink.old) (K.taken sink.new) result }
+        → IsTold (plain Status.ServiceUnavailable incoming.now.close (full_line weight promised)
+        (shows_body incoming.now.request.method)) (K.taken sink.old) (K.taken sink.new) result }
     ensures later { K.faults sink.old ≤ K.faults sink.new }
     ensures failed { result ≡ Outcome.WriteFault → Rose (K.faults sink.old) (K.faults sink.new) }
 {
     let Ok(line) = line_of(alloc, refusal) else {
         return Outcome::NoMemory;
     };
-    let status = Status::ServiceUnavailable;
-    tell(alloc, request, status, &line, close, sink)
+    tell(alloc, incoming, Status::ServiceUnavailable, &line, sink)
 }
 
 // The line of a refusal that tells a full journal.
@@ -99,21 +96,20 @@ fn line_of(alloc: Global, refusal: &Refusal) -> Result<Vec<u8>, AllocError>
 /// Tells which limit the tree that a draft makes passes.
 pub(crate) fn tell_fault<K: Sink>(
     alloc: Global,
-    request: &Request,
+    incoming: &Incoming,
     reason: TreeFault,
-    close: bool,
     sink: &mut K,
 ) -> Outcome
-    ensures told { IsTold (plain Status.ContentTooLarge close (fault_text (EditorFault.TreeTooLarge reason))
-        (shows_body request.now.method)) (K.taken sink.old) (K.taken sink.new) result }
+    ensures told { IsTold (plain Status.ContentTooLarge incoming.now.close
+        (fault_text (EditorFault.TreeTooLarge reason)) (shows_body incoming.now.request.method))
+        (K.taken sink.old) (K.taken sink.new) result }
     ensures later { K.faults sink.old ≤ K.faults sink.new }
     ensures failed { result ≡ Outcome.WriteFault → Rose (K.faults sink.old) (K.faults sink.new) }
 {
     let Ok(line) = fault_text(alloc, EditorFault::TreeTooLarge(reason)) else {
         return Outcome::NoMemory;
     };
-    let status = Status::ContentTooLarge;
-    tell(alloc, request, status, &line, close, sink)
+    tell(alloc, incoming, Status::ContentTooLarge, &line, sink)
 }
 
 // Whether the response to a request shows its body.
