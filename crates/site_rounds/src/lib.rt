@@ -5,6 +5,7 @@
 //! a connection is answered, nor how many are at once.
 #![tactic(auto)]
 
+mod by_audience;
 mod handler;
 mod rounds;
 mod service;

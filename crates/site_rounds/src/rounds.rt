@@ -9,6 +9,7 @@ ghost use Rattle.pass_course.specs.Course.{IsIdle};
 ghost use Rattle.site_rounds.specs.Ready.{IsReady, numbers_of};
 ghost use Rattle.site_rounds.specs.Served.{IsLed, IsServed};
 
+use crate::by_audience::{parted, rooms};
 use crate::{PortHandler, Service, Talk};
 use edges::{Accept, Clocks, Gate};
 use pages_server::{Served, three};
@@ -90,7 +91,7 @@ fn served<
     rt: &R,
     alloc: Global,
     site: &SharedSite<P, G>,
-    mut passes: SitePasses<P>,
+    passes: SitePasses<P>,
     service: Service<'_, T, A, W>,
 ) -> Result<SitePasses<P>, AllocError>
     requires some { 0 < length passes.items }
@@ -104,15 +105,12 @@ fn served<
         after.items) }
 {
     let listeners = service.listeners;
-    let previewing = passes.split_off(passes.len() - usize::from(listeners.previews.is_some()))?;
-    let editing = passes.split_off(passes.len().saturating_sub(1))?;
-    let mut readers = Vec::with_capacity(alloc, passes.len())?;
-    let mut editors = Vec::with_capacity(alloc, editing.len())?;
-    let mut previews = Vec::with_capacity(alloc, previewing.len())?;
-    let mut after = Vec::with_capacity(alloc, passes.len() + editing.len() + previewing.len())?;
-    seat(rt, site, passes, &mut readers);
-    seat(rt, site, editing, &mut editors);
-    seat(rt, site, previewing, &mut previews);
+    let mut after = Vec::with_capacity(alloc, passes.len())?;
+    let passes = parted(passes, usize::from(listeners.previews.is_some()))?;
+    let mut workers = rooms(alloc, &passes)?;
+    seat(rt, site, passes.readers, &mut workers.readers);
+    seat(rt, site, passes.editors, &mut workers.editors);
+    seat(rt, site, passes.previews, &mut workers.previews);
     let for_readers = handler_of(site, &service.talks.readers, service.clocks);
     let for_editors = handler_of(site, &service.talks.editors, service.clocks);
     let for_previews = handler_of(site, &service.talks.previews, service.clocks);
@@ -120,9 +118,9 @@ fn served<
     let third = listeners.previews.as_ref().unwrap_or(&listeners.editors);
     let (readers, editors, previews) = three(
         rt,
-        (&listeners.readers, &for_readers, readers),
-        (&listeners.editors, &for_editors, editors),
-        (third, &for_previews, previews),
+        (&listeners.readers, &for_readers, workers.readers),
+        (&listeners.editors, &for_editors, workers.editors),
+        (third, &for_previews, workers.previews),
     );
     collect(site, readers, &mut after);
     collect(site, editors, &mut after);
