@@ -1,6 +1,6 @@
 -- The sites of contexts that start: each rests, and has as many passes as were said.
-use Rattle.std.proofs.Common.{◌≡◌, ℕ, zero, suc, ◌+◌, ◌≤◌, List, [], ◌∷◌, ◌++◌, All, drop, length, map, take, ap, arith, refl, sym, subst, ◌∙◌}
-use Rattle.std.proofs.lemmas.List.{length-append, length-map, take-append-le, take_all}
+use Rattle.std.proofs.Common.{◌≡◌, ℕ, zero, suc, ◌+◌, ◌≤◌, List, [], ◌∷◌, ◌++◌, All, length, map, ap, arith, refl, sym, subst, ◌∙◌}
+use Rattle.std.proofs.lemmas.List.{length-append, length-map}
 use Rattle.std.proofs.lemmas.List.Elements.{All-append, All-cons, All-map, All-nil, All-weaker}
 use Rattle.contexts.specs.Sites.{Rests, site_at, sites_of}
 use Rattle.context_workers.proofs.Lists.{all_of_map}
@@ -39,10 +39,6 @@ have_passes seed passes count lists same =
 pub have_enough : {X : Type 0} (least passes : ℕ) (lists : List (List X)) → least ≤ passes → All (λ own. length own ≡ passes) lists → All (λ own. least ≤ length own) lists
 have_enough least passes lists few all = All-weaker (λ own. length own ≡ passes) (λ own. least ≤ length own) (λ own is. omega arith) lists all
 
--- a list of ports to them is as long as their names
-pub as_long : {P S : Type 0} (site : P → S) (ports : List P) (sites : List S) (seed : List ℕ) (passes count : ℕ) → map site ports ≡ sites → length sites ≡ length (sites_of seed passes count) → length ports ≡ count
-as_long site ports sites seed passes count same long = sym (length-map ports site) ∙ ap length same ∙ long ∙ length_sites seed passes count
-
--- what is written back of the same length is all that stands there
-pub written_back : {X : Type 0} (n : ℕ) (new old : List X) → length new ≡ n → take n (new ++ drop (length new) old) ≡ new
-written_back n new old same = take-append-le n new (drop (length new) old) (omega arith) ∙ take_all n new (omega arith)
+-- a list of ports to sites is as long as their names, where there are as many of both
+pub as_long : {P S : Type 0} (site : P → S) (ports : List P) (sites : List S) (count : ℕ) → map site ports ≡ sites → length sites ≡ count → length ports ≡ count
+as_long site ports sites count same long = sym (length-map ports site) ∙ ap length same ∙ long
