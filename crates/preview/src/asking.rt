@@ -23,18 +23,18 @@ pub(crate) fn ask<P: Port<Made>, K: Sink, L: Ledger>(
     alloc: Global,
     draft: &Draft,
     port: &mut P,
-    incoming: Incoming,
+    incoming: &mut Incoming,
     sink: &mut K,
     steps: &mut Steps<L>,
 ) -> Outcome
     requires pass { P.pass port.old < (P.opening port.old).passes }
-    requires cookie { length incoming.request.cookie ≤ SESSION_ID_BYTES }
-    requires pages { is_editors incoming.request.target ≡ false }
-    requires taken { takes_method incoming.request.method ≡ true }
+    requires cookie { length incoming.old.request.cookie ≤ SESSION_ID_BYTES }
+    requires pages { is_editors incoming.old.request.target ≡ false }
+    requires taken { takes_method incoming.old.request.method ≡ true }
     ensures same { IsSamePort (P.pass port.old) (P.pass port.new) (P.opening port.old) (P.opening port.new)
         (P.home port.old) (P.home port.new) }
-    ensures served { ServedPreview needs_at (P.opening port.old) (P.pass port.old) incoming.close
-        incoming.request (preview_stand draft.now (P.seen port.old) steps.old)
+    ensures served { ServedPreview needs_at (P.opening port.old) (P.pass port.old) incoming.old.close
+        incoming.old.request (preview_stand draft.now (P.seen port.old) steps.old)
         (preview_stand draft.now (P.seen port.new) steps.new) (K.faults sink.old) (K.faults sink.new)
         (K.taken sink.old) (K.taken sink.new) result }
     ensures later { K.faults sink.old ≤ K.faults sink.new }
@@ -45,7 +45,7 @@ pub(crate) fn ask<P: Port<Made>, K: Sink, L: Ledger>(
     pictures();
     match port.snapshot(&incoming.request.cookie) {
         Acted::Did(snapped) => show(alloc, draft, snapped, incoming, sink, steps),
-        Acted::Refused(refusal) => tell_full(alloc, &incoming, &refusal, sink),
+        Acted::Refused(refusal) => tell_full(alloc, incoming, &refusal, sink),
         Acted::NoMemory => Outcome::NoMemory,
     }
 }

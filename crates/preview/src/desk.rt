@@ -76,7 +76,7 @@ impl<P: Port<Made>, L: Ledger> Desk for PreviewDesk<P, L> {
         close: bool,
         sink: &mut K,
     ) -> Outcome {
-        let incoming = Incoming { request, close };
+        let mut incoming = Incoming { request, close };
         if is_editors(&incoming.request) {
             return edit(alloc, &mut self.draft, &incoming, sink);
         }
@@ -84,7 +84,7 @@ impl<P: Port<Made>, L: Ledger> Desk for PreviewDesk<P, L> {
             let line = b"MethodNotAllowed";
             return tell(alloc, &incoming, Status::MethodNotAllowed, line, sink);
         }
-        ask(alloc, &self.draft, port, incoming, sink, count)
+        ask(alloc, &self.draft, port, &mut incoming, sink, count)
     }
 }
 

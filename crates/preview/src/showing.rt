@@ -26,18 +26,19 @@ use std::alloc::Global;
 /// The last version of which a preview has one behind it.
 const LAST_VERSION: u64 = (1 << 63) - 2;
 
-/// Answers a request for a page by a picture of the site and a draft.
+/// Answers a request for a page by a picture of the site and a draft. Where it is run, it names the
+/// session of the site that is its own.
 pub(crate) fn show<K: Sink, L: Ledger>(
     alloc: Global,
     draft: &Draft,
     snapped: Snapped,
-    incoming: Incoming,
+    incoming: &mut Incoming,
     sink: &mut K,
     steps: &mut Steps<L>,
 ) -> Outcome
     requires runnable { IsRunnable draft.now (picture_in snapped) }
-    requires taken { takes_method incoming.request.method ≡ true }
-    ensures served { ServedShown needs_at draft.now (picture_in snapped) incoming.close incoming.request
+    requires taken { takes_method incoming.old.request.method ≡ true }
+    ensures served { ServedShown needs_at draft.now (picture_in snapped) incoming.old.close incoming.old.request
         steps.old steps.new (K.faults sink.old) (K.faults sink.new) (K.taken sink.old) (K.taken sink.new)
         result }
     ensures later { K.faults sink.old ≤ K.faults sink.new }
@@ -45,7 +46,7 @@ pub(crate) fn show<K: Sink, L: Ledger>(
 {
     match drafted(draft, &snapped) {
         Ok(tree) => show_tree(alloc, snapped, tree, incoming, sink, steps),
-        Err(Failure::Fault(reason)) => tell_fault(alloc, &incoming, reason, sink),
+        Err(Failure::Fault(reason)) => tell_fault(alloc, incoming, reason, sink),
         Err(Failure::NoMemory) => Outcome::NoMemory,
     }
 }
@@ -70,14 +71,14 @@ fn show_tree<K: Sink, L: Ledger>(
     alloc: Global,
     snapped: Snapped,
     tree: Tree,
-    incoming: Incoming,
+    incoming: &mut Incoming,
     sink: &mut K,
     steps: &mut Steps<L>,
 ) -> Outcome
     requires sound { snapped.version + 1 < 2 ^ 63
         → is_sound (own_opening tree (picture_in snapped)) ≡ true }
-    requires taken { takes_method incoming.request.method ≡ true }
-    ensures served { ServedTree needs_at tree (picture_in snapped) incoming.close incoming.request
+    requires taken { takes_method incoming.old.request.method ≡ true }
+    ensures served { ServedTree needs_at tree (picture_in snapped) incoming.old.close incoming.old.request
         steps.old steps.new (K.faults sink.old) (K.faults sink.new) (K.taken sink.old) (K.taken sink.new)
         result }
     ensures later { K.faults sink.old ≤ K.faults sink.new }
@@ -85,7 +86,7 @@ fn show_tree<K: Sink, L: Ledger>(
 {
     if snapped.version > LAST_VERSION {
         let line = b"TreeTooLarge Version";
-        return tell(alloc, &incoming, Status::ContentTooLarge, line, sink);
+        return tell(alloc, incoming, Status::ContentTooLarge, line, sink);
     }
     run(alloc, snapped, tree, incoming, sink, steps)
 }
@@ -95,15 +96,15 @@ fn run<K: Sink, L: Ledger>(
     alloc: Global,
     snapped: Snapped,
     tree: Tree,
-    incoming: Incoming,
+    incoming: &mut Incoming,
     sink: &mut K,
     steps: &mut Steps<L>,
 ) -> Outcome
     requires version { snapped.version + 1 < 2 ^ 63 }
     requires sound { is_sound (own_opening tree (picture_in snapped)) ≡ true }
-    requires taken { takes_method incoming.request.method ≡ true }
+    requires taken { takes_method incoming.old.request.method ≡ true }
     ensures served { ServedRun needs_at (own_opening tree (picture_in snapped)) snapped.session
-        incoming.close incoming.request steps.old steps.new (K.faults sink.old) (K.faults sink.new)
+        incoming.old.close incoming.old.request steps.old steps.new (K.faults sink.old) (K.faults sink.new)
         (K.taken sink.old) (K.taken sink.new) result }
     ensures later { K.faults sink.old ≤ K.faults sink.new }
     ensures failed { result ≡ Outcome.WriteFault → Rose (K.faults sink.old) (K.faults sink.new) }
@@ -111,7 +112,14 @@ fn run<K: Sink, L: Ledger>(
     let Ok((mut port, cookie)) = own_site(alloc, snapped, tree) else {
         return Outcome::NoMemory;
     };
-    let Incoming { mut request, close } = incoming;
-    request.cookie = cookie;
-    respond(alloc, &mut port, &request, close, sink, &mut NoTime, steps)
+    incoming.request.cookie = cookie;
+    respond(
+        alloc,
+        &mut port,
+        &incoming.request,
+        incoming.close,
+        sink,
+        &mut NoTime,
+        steps,
+    )
 }

@@ -11,7 +11,7 @@ use Rattle.preview.proofs.asking.ask.Goals as goal
 
 pub snapshot-requires : goal.snapshot-requires
 snapshot-requires g c =
-    let short : nat_le (length c.args.incoming.request.cookie) most_cookie ≡ true = grind (arith, nat_tests, c.requires.cookie) in
+    let short : nat_le (length c.args.incoming.now.request.cookie) most_cookie ≡ true = grind (arith, nat_tests, c.requires.cookie) in
     record { may = (c.requires.pass, short, tt) }
 
 pub show-requires : goal.show-requires
@@ -24,24 +24,24 @@ show-requires g c =
     record {
       taken = c.requires.taken;
       runnable = runnable_by needs_at x now c.args.draft.now snapped c.own_sites.ensures c.law.ensures.sound c.in-Did.ensures.call.is_legal c.in-Did.ensures.shows
-          (c.pictures.ensures.latest needs_at x pass seen now c.args.incoming.request.cookie snapped.version snapped.session c.in-Did.ensures.call);
+          (c.pictures.ensures.latest needs_at x pass seen now c.args.incoming.now.request.cookie snapped.version snapped.session c.in-Did.ensures.call);
     }
 
 pub returns-in-Did-clause-served : goal.returns-in-Did-clause-served
 returns-in-Did-clause-served g c =
-    shown_served needs_at (g.P.Port.opening c.args.port.now) (g.P.Port.pass c.args.port.now) c.args.draft.now c.args.incoming.close c.args.incoming.request (g.P.Port.seen c.args.port.now) (g.P.Port.seen c.snapshot.new.self)
+    shown_served needs_at (g.P.Port.opening c.args.port.now) (g.P.Port.pass c.args.port.now) c.args.draft.now c.args.incoming.now.close c.args.incoming.now.request (g.P.Port.seen c.args.port.now) (g.P.Port.seen c.snapshot.new.self)
     (g.K.Sink.faults c.args.sink.now) (g.K.Sink.faults c.show.new.sink) (g.K.Sink.taken c.args.sink.now) (g.K.Sink.taken c.show.new.sink) c.show.result c.requires.pages c.requires.taken
     c.args.steps.now c.show.new.steps c.in-Did.snapped c.in-Did.ensures.call c.in-Did.ensures.shows c.show.ensures.served
 
 pub tell_full-requires : goal.tell_full-requires
 tell_full-requires g c =
-    let by = refused_full needs_at (g.P.Port.opening c.args.port.now) (g.P.Port.pass c.args.port.now) (g.P.Port.seen c.snapshot.new.self) c.args.incoming.request.cookie c.in-Refused.refusal c.in-Refused.ensures.call.1 in
+    let by = refused_full needs_at (g.P.Port.opening c.args.port.now) (g.P.Port.pass c.args.port.now) (g.P.Port.seen c.snapshot.new.self) c.args.incoming.now.request.cookie c.in-Refused.refusal c.in-Refused.ensures.call.1 in
     record { full = is_full c.in-Refused.refusal by }
 
 pub returns-in-Refused-clause-served : goal.returns-in-Refused-clause-served
 returns-in-Refused-clause-served g c =
-    let by = refused_full needs_at (g.P.Port.opening c.args.port.now) (g.P.Port.pass c.args.port.now) (g.P.Port.seen c.snapshot.new.self) c.args.incoming.request.cookie c.in-Refused.refusal c.in-Refused.ensures.call.1 in
-    refused_served needs_at (g.P.Port.opening c.args.port.now) (g.P.Port.pass c.args.port.now) c.args.draft.now c.args.incoming.close c.args.incoming.request (g.P.Port.seen c.args.port.now) (g.P.Port.seen c.snapshot.new.self)
+    let by = refused_full needs_at (g.P.Port.opening c.args.port.now) (g.P.Port.pass c.args.port.now) (g.P.Port.seen c.snapshot.new.self) c.args.incoming.now.request.cookie c.in-Refused.refusal c.in-Refused.ensures.call.1 in
+    refused_served needs_at (g.P.Port.opening c.args.port.now) (g.P.Port.pass c.args.port.now) c.args.draft.now c.args.incoming.now.close c.args.incoming.now.request (g.P.Port.seen c.args.port.now) (g.P.Port.seen c.snapshot.new.self)
     (g.K.Sink.faults c.args.sink.now) (g.K.Sink.faults c.tell_full.new.sink) (g.K.Sink.taken c.args.sink.now) (g.K.Sink.taken c.tell_full.new.sink) c.tell_full.result c.requires.pages c.requires.taken
     c.args.steps.now by.weight by.promised c.in-Refused.refusal c.in-Refused.ensures.call.0 c.in-Refused.ensures.call.1 by.is (c.tell_full.ensures.told by.weight by.promised by.is)
 
@@ -49,7 +49,7 @@ pub returns-in-NoMemory-clause-served : goal.returns-in-NoMemory-clause-served
 returns-in-NoMemory-clause-served g c =
     let x = g.P.Port.opening c.args.port.now in
     let pass = g.P.Port.pass c.args.port.now in
-    starved_silently (IsPreviewed needs_at x pass) (λ close old request text new. Leaves needs_at x pass request close old text new) c.args.incoming.close c.args.incoming.request
+    starved_silently (IsPreviewed needs_at x pass) (λ close old request text new. Leaves needs_at x pass request close old text new) c.args.incoming.now.close c.args.incoming.now.request
     (preview_stand c.args.draft.now (g.P.Port.seen c.args.port.now) c.args.steps.now) (preview_stand c.args.draft.now (g.P.Port.seen c.snapshot.new.self) c.args.steps.now) (g.K.Sink.faults c.args.sink.now) (g.K.Sink.taken c.args.sink.now)
-    (unasked needs_at x pass c.args.draft.now c.args.incoming.close c.args.incoming.request (g.P.Port.seen c.args.port.now) (g.P.Port.seen c.snapshot.new.self) (g.K.Sink.faults c.args.sink.now) (g.K.Sink.faults c.args.sink.now) (g.K.Sink.taken c.args.sink.now)
+    (unasked needs_at x pass c.args.draft.now c.args.incoming.now.close c.args.incoming.now.request (g.P.Port.seen c.args.port.now) (g.P.Port.seen c.snapshot.new.self) (g.K.Sink.faults c.args.sink.now) (g.K.Sink.faults c.args.sink.now) (g.K.Sink.taken c.args.sink.now)
     (g.K.Sink.taken c.args.sink.now) NoMemory c.requires.pages c.requires.taken c.args.steps.now c.in-NoMemory.ensures.call)

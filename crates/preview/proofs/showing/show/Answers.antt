@@ -14,16 +14,16 @@ show_tree-requires g c = record {
 
 pub returns-in-Ok-clause-served : goal.returns-in-Ok-clause-served
 returns-in-Ok-clause-served g c =
-    tree_served needs_at c.in-Ok.tree (picture_in c.args.snapped) c.args.incoming.close c.args.incoming.request c.args.steps.now c.show_tree.new.steps (g.K.Sink.faults c.args.sink.now) (g.K.Sink.faults c.show_tree.new.sink) (g.K.Sink.taken c.args.sink.now)
+    tree_served needs_at c.in-Ok.tree (picture_in c.args.snapped) c.args.incoming.now.close c.args.incoming.now.request c.args.steps.now c.show_tree.new.steps (g.K.Sink.faults c.args.sink.now) (g.K.Sink.faults c.show_tree.new.sink) (g.K.Sink.taken c.args.sink.now)
     (g.K.Sink.taken c.show_tree.new.sink) c.show_tree.result c.args.draft.now c.in-Ok.ensures.files c.in-Ok.ensures.limits c.show_tree.ensures.served
 
 pub returns-in-Err-Fault-clause-served : goal.returns-in-Err-Fault-clause-served
 returns-in-Err-Fault-clause-served g c =
-    fault_served needs_at (picture_in c.args.snapped) c.args.incoming.close c.args.incoming.request c.args.steps.now (g.K.Sink.faults c.args.sink.now) (g.K.Sink.faults c.tell_fault.new.sink) (g.K.Sink.taken c.args.sink.now)
+    fault_served needs_at (picture_in c.args.snapped) c.args.incoming.now.close c.args.incoming.now.request c.args.steps.now (g.K.Sink.faults c.args.sink.now) (g.K.Sink.faults c.tell_fault.new.sink) (g.K.Sink.taken c.args.sink.now)
     (g.K.Sink.taken c.tell_fault.new.sink) c.tell_fault.result c.args.draft.now c.in-Err-Fault.reason (c.drafted.ensures.fault c.in-Err-Fault.reason (c.in-Err-Fault.is ∙ ap Err c.in-Err-Fault.field-0-is)) c.tell_fault.ensures.told
 
 pub returns-clause-served : goal.returns-clause-served
 returns-clause-served g c =
     starved_silently (λ close steps (e : Exchange) later. Shows needs_at c.args.draft.now (picture_in c.args.snapped) e.request close steps e.text e.broken later)
-    (λ close steps request text later. Hides needs_at c.args.draft.now (picture_in c.args.snapped) request close steps text later) c.args.incoming.close c.args.incoming.request c.args.steps.now c.args.steps.now
+    (λ close steps request text later. Hides needs_at c.args.draft.now (picture_in c.args.snapped) request close steps text later) c.args.incoming.now.close c.args.incoming.now.request c.args.steps.now c.args.steps.now
     (g.K.Sink.faults c.args.sink.now) (g.K.Sink.taken c.args.sink.now) (inl (refl, refl))
