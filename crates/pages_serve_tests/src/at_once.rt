@@ -1,6 +1,11 @@
 use crate::opening::opened;
-use crate::serving::{Said, come_of};
+use crate::serving::{Said, served, wires_of};
+use crate::wires::Wire;
+use std::alloc::Global;
+use std::sync::Wait;
+use std::sync::atomic::{AtomicU64, Ordering};
 use std::test::Fail;
+use std::thread::Threads;
 
 const FILES: [(&str, &str); 1] = [("/hi.jsp", "<%@ page session=\"false\" %>Hi ${param.who}!")];
 
@@ -34,7 +39,6 @@ const NOT_FOUND: &str =
 #[derive(Clone, Copy)]
 struct Row {
     said: Said<'static>,
-    is_held: bool,
     answers: &'static [&'static str],
 }
 
@@ -47,8 +51,8 @@ const ROWS: [Row; 3] = [
             readers: &[ANN, BOB],
             editors: &[],
             previews: &[],
+            is_held: true,
         },
-        is_held: true,
         answers: &[TO_ANN, TO_BOB],
     },
     Row {
@@ -56,8 +60,8 @@ const ROWS: [Row; 3] = [
             readers: &[PUBLISH],
             editors: &[PUBLISH],
             previews: &[],
+            is_held: false,
         },
-        is_held: false,
         answers: &[NOT_FOUND, PUBLISHED],
     },
     Row {
@@ -65,28 +69,48 @@ const ROWS: [Row; 3] = [
             readers: &[ANN],
             editors: &[],
             previews: &[DRAFT],
+            is_held: false,
         },
-        is_held: false,
         answers: &[TO_ANN, SHOWN],
     },
 ];
 
 // Whether each connection was answered so, and with nothing else.
-fn are_answers(answers: &[Vec<u8>], wanted: &[&str]) -> bool {
-    for (answer, text) in answers.iter().zip(wanted.iter()) {
-        if answer.as_slice() != text.as_bytes() {
+fn are_answered<R: Wait>(rt: &R, wires: &[Wire], wanted: &[&str]) -> bool {
+    for (wire, text) in wires.iter().zip(wanted) {
+        if !wire.has_taken(rt, text.as_bytes()) {
             return false;
         }
     }
-    answers.len() == wanted.len()
+    wires.len() == wanted.len()
+}
+
+// Serves these connections on a new site.
+fn serve_new<R: Threads + Wait + Sync>(
+    rt: &R,
+    alloc: Global,
+    said: Said<'_>,
+    wires: &[Wire],
+    gave_up: &AtomicU64,
+) -> Result<(), Fail> {
+    let site = opened(alloc, &FILES, 0, 3)?;
+    served(rt, alloc, site, said, wires, gave_up)?;
+    Ok(())
+}
+
+// Whether the connections of a row are answered as it says, and the gate doesn't give up.
+fn is_answered<R: Threads + Wait + Sync>(rt: &R, alloc: Global, row: &Row) -> Result<bool, Fail> {
+    let wires = wires_of(alloc, row.said)?;
+    let gave_up = AtomicU64::new(0);
+    serve_new(rt, alloc, row.said, &wires, &gave_up)?;
+    let gave_up = gave_up.load(Ordering::SeqCst) > 0;
+    Ok(!gave_up && are_answered(rt, &wires, row.answers))
 }
 
 #[test]
 fn connections_are_answered(rt: HostRuntime) -> Result<(), Fail> {
     for row in &ROWS {
-        let site = opened(rt.alloc(), &FILES, 0, 3)?;
-        let came = come_of(&rt, rt.alloc(), site, row.said, row.is_held)?;
-        assert!(rt; !came.gave_up && are_answers(&came.answers, row.answers));
+        assert!(rt; is_answered(&rt, rt.alloc(), row)?);
     }
     Ok(())
 }

@@ -1,5 +1,4 @@
 //! What comes of connections that a site serves for one round.
-ghost use Rattle.std.specs.Prelude.{◌≡◌, IfOk};
 ghost use Rattle.site_words.specs.Invariants.{AllRest};
 
 use crate::wires::{HeldGate, Wire, WireAccept};
@@ -10,49 +9,22 @@ use site_core::Site;
 use site_rounds::{Listeners, Talks, round};
 use std::alloc::Global;
 use std::sync::Wait;
-use std::sync::atomic::{AtomicU64, Ordering};
+use std::sync::atomic::AtomicU64;
 use std::test::Fail;
 use std::thread::Threads;
 
-/// A text for each connection: to readers, to editors, and to previews.
+/// A text for each connection: to readers, to editors, and to previews; and whether the gate holds
+/// the first operation until something is written to a reader.
 #[derive(Clone, Copy)]
 pub struct Said<'a> {
     pub readers: &'a [&'a str],
     pub editors: &'a [&'a str],
     pub previews: &'a [&'a str],
+    pub is_held: bool,
 }
 
-/// The site behind the round; what was written to each connection, to readers first and for
-/// previews last; and whether the gate gave up.
-#[derive(Drop)]
-pub struct Came {
-    pub site: Site<Made>,
-    pub answers: Vec<Vec<u8>>,
-    pub gave_up: bool,
-}
-
-/// Serves each of these connections once. The gate holds the first operation until something is
-/// written to a reader, where it is to.
-pub fn come_of<R: Threads + Wait + Sync>(
-    rt: &R,
-    alloc: Global,
-    site: Site<Made>,
-    said: Said<'_>,
-    is_held: bool,
-) -> Result<Came, Fail> {
-    let wires = wires_of(alloc, said)?;
-    let gave_up = AtomicU64::new(0);
-    let site = served(rt, alloc, site, said, is_held, &wires, &gave_up)?;
-    let gave_up = gave_up.load(Ordering::SeqCst) > 0;
-    Ok(Came {
-        site,
-        answers: taken_of(alloc, wires)?,
-        gave_up,
-    })
-}
-
-// The connections, those to readers first and those for previews last.
-fn wires_of(alloc: Global, said: Said<'_>) -> Result<Vec<Wire>, Fail> {
+/// The connections, those to readers first and those for previews last.
+pub fn wires_of(alloc: Global, said: Said<'_>) -> Result<Vec<Wire>, Fail> {
     let mut wires = Vec::new(alloc);
     add_wires(alloc, &mut wires, said.readers)?;
     add_wires(alloc, &mut wires, said.editors)?;
@@ -62,34 +34,34 @@ fn wires_of(alloc: Global, said: Said<'_>) -> Result<Vec<Wire>, Fail> {
 
 fn add_wires(alloc: Global, wires: &mut Vec<Wire>, texts: &[&str]) -> Result<(), Fail> {
     for text in texts {
-        wires.push(Wire::new(alloc, text)?)?;
+        add_wire(alloc, wires, text)?;
     }
     Ok(())
 }
 
-fn taken_of(alloc: Global, wires: Vec<Wire>) -> Result<Vec<Vec<u8>>, Fail> {
-    let mut taken = Vec::new(alloc);
-    for wire in wires {
-        taken.push(wire.into_taken())?;
-    }
-    Ok(taken)
+fn add_wire(alloc: Global, wires: &mut Vec<Wire>, text: &str) -> Result<(), Fail> {
+    let wire = Wire::new(alloc, text)?;
+    wires.push(wire)?;
+    Ok(())
 }
 
-// One round over these connections.
-fn served<R: Threads + Wait + Sync>(
+/// The site behind a round that serves each of these connections once.
+pub fn served<R: Threads + Wait + Sync>(
     rt: &R,
     alloc: Global,
     site: Site<Made>,
     said: Said<'_>,
-    is_held: bool,
     wires: &[Wire],
     gave_up: &AtomicU64,
 ) -> Result<Site<Made>, Fail> {
+    if !site.at_rest() {
+        return Err(Fail::new("a request is under way"));
+    }
     let (readers, others) = wires.split_at(said.readers.len().min(wires.len()));
     let (editors, previews) = others.split_at(said.editors.len().min(others.len()));
     let gate = HeldGate {
         wires: readers,
-        passed: AtomicU64::new(if is_held { 0 } else { 1 }),
+        passed: AtomicU64::new(if said.is_held { 0 } else { 1 }),
         gave_up,
     };
     serve_once(rt, alloc, site, gate, readers, editors, previews)
@@ -104,10 +76,9 @@ fn serve_once<R: Threads + Wait + Sync>(
     readers: &[Wire],
     editors: &[Wire],
     previews: &[Wire],
-) -> Result<Site<Made>, Fail> {
-    if !site.at_rest() {
-        return Err(Fail::new("a request is under way"));
-    }
+) -> Result<Site<Made>, Fail>
+    requires rest { AllRest site.opening site.history }
+{
     let listeners = Listeners {
         readers: WireAccept::new(rt, alloc, readers),
         editors: WireAccept::new(rt, alloc, editors),
@@ -132,5 +103,8 @@ fn serve_once<R: Threads + Wait + Sync>(
         },
     };
     let clocks = StillClock { moment: 0 };
-    Ok(round(rt, alloc, site, gate, &talks, &listeners, &clocks)?)
+    match round(rt, alloc, site, gate, &talks, &listeners, &clocks) {
+        Ok(site) => Ok(site),
+        Err(failure) => Err(Fail::from(failure)),
+    }
 }

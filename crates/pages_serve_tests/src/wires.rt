@@ -26,9 +26,14 @@ impl Wire {
         })
     }
 
-    /// What was written.
-    pub fn into_taken(self) -> Vec<u8> {
-        self.taken.into_inner()
+    /// Whether this was written, and nothing else.
+    pub fn has_taken<R: Wait>(&self, rt: &R, text: &[u8]) -> bool {
+        self.taken.lock(rt).as_slice() == text
+    }
+
+    /// Whether what was written ends so.
+    pub fn ends_with<R: Wait>(&self, rt: &R, text: &[u8]) -> bool {
+        self.taken.lock(rt).as_slice().ends_with(text)
     }
 }
 
