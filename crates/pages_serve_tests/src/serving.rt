@@ -6,7 +6,7 @@ use compiled_pages::Made;
 use edges::StillClock;
 use pages_serve::{Audience, Pages};
 use site_core::Site;
-use site_rounds::{Listeners, Talks, round};
+use site_rounds::{Listeners, Service, Talks, round};
 use std::alloc::Global;
 use std::sync::Wait;
 use std::sync::atomic::AtomicU64;
@@ -103,7 +103,12 @@ fn serve_once<R: Threads + Wait + Sync>(
         },
     };
     let clocks = StillClock { moment: 0 };
-    match round(rt, alloc, site, gate, &talks, &listeners, &clocks) {
+    let service = Service {
+        talks: &talks,
+        listeners: &listeners,
+        clocks: &clocks,
+    };
+    match round(rt, alloc, site, gate, service) {
         Ok(site) => Ok(site),
         Err(failure) => Err(Fail::from(failure)),
     }
