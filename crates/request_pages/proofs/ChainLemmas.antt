@@ -1,7 +1,7 @@
 -- A page with the targets of its forwards.
 use Rattle.std.proofs.Common.{◌≡◌, ◌-◌, ◌<◌, ◌≤◌, ℕ, false, List, [], ◌++◌, sym, ap, subst, ◌∙◌, append_assoc, arith}
 use Rattle.std.specs.Arc.{arc_value}
-use Rattle.std.specs.Prelude.{Result, Ok, Err}
+use Rattle.std.specs.Prelude.{IfOk, Result, Ok, Err}
 use Rattle.http_in.specs.declared.params.Param.{Param}
 use Rattle.http_in.specs.declared.request.Request.{Request}
 use Rattle.http_out.specs.declared.status.Status.{Status}
@@ -18,7 +18,7 @@ use Rattle.request_pages.proofs.WithinLemmas.{within_none}
 use Rattle.request_pages.specs.Chained.{Chained, ChainedSo, IsEndOpen, IsProgramIn, chain_answers, params_of}
 use Rattle.request_pages.specs.Gone.{IsOpen}
 use Rattle.request_pages.specs.Played.{Played}
-use Rattle.request_pages.specs.Target.{IsTargetReply, IsWhole}
+use Rattle.request_pages.specs.Target.{IsTargetEnd, IsTargetReply, IsWhole}
 use Rattle.request_pages.specs.Within.{GoesWithin}
 use Rattle.request_pages.specs.declared.chain.ChainEnd.{ChainEnd}
 use Rattle.request_pages.specs.declared.chain.ChainEnd.TheVariants as ended
@@ -138,6 +138,13 @@ module _ (unfolds : ChainsUnfold) (grow : RunsGrowOn) (served : Served) (status 
               ∙ (ap (λ p. target_answer run status path p (given future played.after)) (pages path) ∙ told.answers run held (given future played.after))),
         );
       }
+
+  -- its target is no page: what is told of it, unless memory was wanting
+  pub chained_end : {E F : Type 0} (path : List ℕ) (more : List Param) (result : Result ChainEnd F) → ((p : List ℕ) → served.pages p ≡ paged_at tree p) → IfOk result (IsTargetEnd tree status path)
+      → Played served status page params left stands s old new depth held {E = E} (Ok (gone.Forward path more)) → Chained (chain_answers served status left page params) request tree stands s old new held result
+  chained_end path more (Ok (ended.Done r)) pages told played = chained_told path more r pages told played
+  chained_end path more (Ok (ended.Failed failure)) pages told played = absurd told
+  chained_end path more (Err f) pages told played = chained_lost path more f played
 
 -- its target is a page, which runs in its place
 pub chained_on : {E F : Type 0} → ChainsUnfold → (served : Served) (status : Status) (page : Page) (params : List Param) (left : ℕ) → left ≤ 100 → (request : Request) (tree : List File) (stood stands : State → Type 0) (s : State) (old mid new : List Answer) (depth : ℕ) (held later : Held)

@@ -7,3 +7,4 @@ pub mod Chained
 pub mod Target
 pub mod Looked
 pub mod Closed
+pub mod Instead

@@ -8,6 +8,8 @@ use Rattle.page_meaning.specs.Respond.{target_answer}
 use Rattle.page_meaning.specs.Response.{Answered}
 use Rattle.page_meaning.specs.State.{State}
 use Rattle.request_pages.specs.Gone.{reply_answer}
+use Rattle.request_pages.specs.declared.chain.ChainEnd.{ChainEnd}
+use Rattle.request_pages.specs.declared.chain.ChainEnd.TheVariants as ended
 use Rattle.request_pages.specs.declared.reply.Reply.{Reply}
 use Rattle.request_pages.specs.declared.reply.Reply.TheVariants as reply
 use Rattle.run_world.specs.declared.program.Program.{Program}
@@ -29,3 +31,8 @@ IsWhole (reply.Whole status content_type location body) = ⊤
 pub record IsTargetReply (tree : List File) (status : Status) (path : List ℕ) (r : Reply) : Type 0 where
   pub whole : IsWhole r
   pub answers : (run : Page → State → Answered) (held : Held) (s : State) → target_answer run status path (paged_at tree path) s ≡ reply_answer held r s
+
+-- a chain ends at such a target with its reply
+abbrev pub IsTargetEnd : List File → Status → List ℕ → ChainEnd → Type 0
+IsTargetEnd tree status path (ended.Done r) = IsTargetReply tree status path r
+IsTargetEnd tree status path (ended.Failed failure) = ⊥

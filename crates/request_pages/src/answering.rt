@@ -15,17 +15,16 @@ ghost use Rattle.request_pages.specs.Played.{IsFunded};
 ghost use Rattle.request_port.specs.Leading.{IsLast, Leads};
 ghost use Rattle.run_world.specs.Origin.{Origin};
 
-use crate::chain::{ChainEnd, run_chain};
-use crate::course::{Course, Way};
+use crate::chain::{Chain, ChainEnd, run_chain};
+use crate::course::Course;
 use crate::erring::run_error;
+use crate::incoming::Incoming;
 use crate::looking::look;
 use crate::reply::Reply;
 use crate::telling::{file, not_found, page_fault};
 use compiled_pages::Made;
 use edges::{Ledger, Sink};
-use http_in::Request;
 use http_out::Status;
-use page_meaning::LEVEL_LIMIT;
 use pg_text::Path;
 use request_port::RequestPort;
 use response_laws::responses;
@@ -39,14 +38,12 @@ use std::sync::Arc;
 /// with its forwards and its error page.
 pub fn answer<'a, Q: Port<Made>, L: Ledger, K: Sink>(
     alloc: Global,
-    request: &Request,
-    close: bool,
-    shown: bool,
+    incoming: Incoming,
     course: &mut Course,
     sink: &mut K,
     port: &mut RequestPort<'a, Q, L>,
 ) -> Result<Reply, AllocError>
-    requires headed { IsHeaded close shown course.old.around course.old.writer }
+    requires headed { IsHeaded incoming.close incoming.shown course.old.around course.old.writer }
     requires in_order { IsInOrder course.old.scopes course.old.around (asking_over Q.opening Q.pass Q.seen port.old) }
     requires funded { IsFunded course.old.around (asking_over Q.opening Q.pass Q.seen port.old) }
     requires begun { (course.old.around.depth ≡ 0) × (course.old.around.charge ≡ 0) ×
@@ -58,19 +55,20 @@ pub fn answer<'a, Q: Port<Made>, L: Ledger, K: Sink>(
     ensures closed { (origin : Origin) (s : State) → StandsFor origin course.old.scopes course.old.writer
         (K.taken sink.old) (K.faults sink.old) course.old.around (asking_over Q.opening Q.pass Q.seen port.old)
         s → s.writer.pieces ≡ []
-        → Closed (request_answers (served_at port.old.tree.now request.now course.old.around) request.now)
-        (Reached origin course.new.scopes course.new.writer (K.taken sink.new) (K.faults sink.new)
-        course.new.around (asking_over Q.opening Q.pass Q.seen port.new)) s
+        → Closed (request_answers (served_at port.old.tree.now incoming.entry.request.now
+        course.old.around) incoming.entry.request.now) (Reached origin course.new.scopes
+        course.new.writer (K.taken sink.new) (K.faults sink.new) course.new.around
+        (asking_over Q.opening Q.pass Q.seen port.new)) s
         (asking_over Q.opening Q.pass Q.seen port.old).answers
         (asking_over Q.opening Q.pass Q.seen port.new).answers course.new.writer result }
-    ensures headed { IsHeaded close shown course.new.around course.new.writer }
+    ensures headed { IsHeaded incoming.entry.close incoming.entry.shown course.new.around course.new.writer }
     ensures in_order { OnOk result (IsInOrder course.new.scopes course.new.around
         (asking_over Q.opening Q.pass Q.seen port.new)) }
     ensures tree { port.new.tree.now ≡ port.old.tree.now }
     ensures leads { Leads needs_at Q.pass Q.opening Q.home Q.seen port.old port.new }
 {
     responses();
-    let Some(path) = &request.path else {
+    let Some(path) = &incoming.request.path else {
         return not_found(alloc);
     };
     if is_hidden(path) {
@@ -81,9 +79,7 @@ pub fn answer<'a, Q: Port<Made>, L: Ledger, K: Sink>(
         Ok(Paged::Absent) => not_found(alloc),
         Ok(Paged::Plain(text)) => file(Status::Ok, path, &text),
         Ok(Paged::Bad(fault)) => page_fault(alloc, &fault),
-        Ok(Paged::Page(program)) => first_page(
-            alloc, program, request, close, shown, course, sink, port,
-        ),
+        Ok(Paged::Page(program)) => first_page(alloc, program, incoming, course, sink, port),
     }
 }
 
@@ -91,15 +87,13 @@ pub fn answer<'a, Q: Port<Made>, L: Ledger, K: Sink>(
 fn first_page<'a, Q: Port<Made>, L: Ledger, K: Sink>(
     alloc: Global,
     program: Arc<Program>,
-    request: &Request,
-    close: bool,
-    shown: bool,
+    incoming: Incoming,
     course: &mut Course,
     sink: &mut K,
     port: &mut RequestPort<'a, Q, L>,
 ) -> Result<Reply, AllocError>
     requires uncommitted { course.old.writer.committed ≡ false }
-    requires headed { IsHeaded close shown course.old.around course.old.writer }
+    requires headed { IsHeaded incoming.close incoming.shown course.old.around course.old.writer }
     requires in_order { IsInOrder course.old.scopes course.old.around (asking_over Q.opening Q.pass Q.seen port.old) }
     requires funded { IsFunded course.old.around (asking_over Q.opening Q.pass Q.seen port.old) }
     requires depth { course.old.around.depth ≡ 0 }
@@ -113,44 +107,28 @@ fn first_page<'a, Q: Port<Made>, L: Ledger, K: Sink>(
         (page : Page) → IsPageAt page port.old.tree.now path
         → (origin : Origin) (s : State) → StandsFor origin course.old.scopes course.old.writer
         (K.taken sink.old) (K.faults sink.old) course.old.around (asking_over Q.opening Q.pass Q.seen port.old) s
-        → Closed (first_answers (served_at port.old.tree.now request.now course.old.around)
-        page request.now.params) (Reached origin course.new.scopes course.new.writer (K.taken sink.new)
-        (K.faults sink.new) course.new.around (asking_over Q.opening Q.pass Q.seen port.new)) s
+        → Closed (first_answers (served_at port.old.tree.now incoming.entry.request.now
+        course.old.around) page incoming.entry.request.now.params) (Reached origin
+        course.new.scopes course.new.writer (K.taken sink.new) (K.faults sink.new) course.new.around
+        (asking_over Q.opening Q.pass Q.seen port.new)) s
         (asking_over Q.opening Q.pass Q.seen port.old).answers
         (asking_over Q.opening Q.pass Q.seen port.new).answers course.new.writer result }
-    ensures headed { IsHeaded close shown course.new.around course.new.writer }
+    ensures headed { IsHeaded incoming.entry.close incoming.entry.shown course.new.around course.new.writer }
     ensures in_order { OnOk result (IsInOrder course.new.scopes course.new.around
         (asking_over Q.opening Q.pass Q.seen port.new)) }
     ensures tree { port.new.tree.now ≡ port.old.tree.now }
     ensures leads { Leads needs_at Q.pass Q.opening Q.home Q.seen port.old port.new }
 {
     responses();
-    let way = Way {
-        status: Status::Ok,
-        close,
-        shown,
-    };
-    match run_chain(
-        alloc,
+    let chain = Chain {
         program,
-        request,
-        None,
-        way,
-        LEVEL_LIMIT,
-        course,
-        sink,
-        port,
-    ) {
+        own: None,
+        status: Status::Ok,
+    };
+    match run_chain(alloc, chain, incoming, course, sink, port) {
         Err(AllocError) => Err(AllocError),
         Ok(ChainEnd::Done(reply)) => Ok(reply),
-        Ok(ChainEnd::Failed(failure)) => {
-            let way = Way {
-                status: Status::InternalServerError,
-                close,
-                shown,
-            };
-            run_error(alloc, failure, request, way, course, sink, port)
-        }
+        Ok(ChainEnd::Failed(failure)) => run_error(alloc, failure, incoming, course, sink, port),
     }
 }
 

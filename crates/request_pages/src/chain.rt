@@ -1,5 +1,5 @@
 // A page with the targets of its forwards.
-ghost use Rattle.std.specs.Prelude.{◌≡◌, ◌≤◌, ◌-◌, ℕ, List, Some, false, IfOk};
+ghost use Rattle.std.specs.Prelude.{◌≡◌, ◌-◌, ℕ, List, Some, false, IfOk};
 ghost use Rattle.std.specs.Arc.{arc_value};
 ghost use Rattle.page_machine.specs.Run.{IsInOrder, StandsFor, level_limit};
 ghost use Rattle.compiled_pages.specs.Made.{IsFaultOf, IsPageAt, IsProgramOf};
@@ -10,7 +10,7 @@ ghost use Rattle.run_pages.specs.Meant.{served_at};
 ghost use Rattle.request_pages.specs.Chained.{Chained, asking_over, chain_answers, params_of};
 ghost use Rattle.request_pages.specs.Course.{IsHeaded};
 ghost use Rattle.request_pages.specs.Played.{IsFunded};
-ghost use Rattle.request_pages.specs.Target.{IsOther, IsTargetReply};
+ghost use Rattle.request_pages.specs.Target.{IsOther, IsTargetEnd, IsTargetReply};
 ghost use Rattle.request_port.specs.Leading.{IsLast, Leads};
 ghost use Rattle.run_stage.specs.Standing.{HasCharged, KeepsSession};
 ghost use Rattle.run_world.specs.Origin.{Origin};
@@ -18,6 +18,8 @@ ghost use Rattle.site_words.specs.Running.{IsPaged};
 ghost use Rattle.source_tree.specs.declared.file.File.{File};
 
 use crate::course::{Course, Way};
+use crate::incoming::Incoming;
+use crate::page_run::PageRun;
 use crate::playing::play_page;
 use crate::reply::{Gone, Reply};
 use crate::telling::{file, not_found, page_fault};
@@ -32,6 +34,15 @@ use run_world::{Program, Raise};
 use site_words::{Paged, Port};
 use std::alloc::{AllocError, Global};
 use std::sync::Arc;
+
+/// A page that runs, and in its place the target of its forward, and so on: its program, the
+/// parameters of its own where it isn't the page of the request, and the status of the response.
+#[derive(Drop)]
+pub(crate) struct Chain {
+    pub(crate) program: Arc<Program>,
+    pub(crate) own: Option<Listed<Param>>,
+    pub(crate) status: Status,
+}
 
 /// How a page and its forwards ended.
 #[derive(Drop)]
@@ -49,40 +60,36 @@ pub(crate) struct Failure {
     pub(crate) own: Option<Listed<Param>>,
 }
 
-/// Runs a page, and in its place the target of its forward. At most so many forwards come.
+/// Runs a page, and in its place the target of its forward. Each target has fewer levels left.
 pub(crate) fn run_chain<'a, Q: Port<Made>, L: Ledger, K: Sink>(
     alloc: Global,
-    program: Arc<Program>,
-    request: &Request,
-    own: Option<Listed<Param>>,
-    way: Way,
-    forwards: u32,
+    chain: Chain,
+    incoming: Incoming,
     course: &mut Course,
     sink: &mut K,
     port: &mut RequestPort<'a, Q, L>,
 ) -> Result<ChainEnd, AllocError>
     requires uncommitted { course.old.writer.committed ≡ false }
-    requires headed { IsHeaded way.close way.shown course.old.around course.old.writer }
+    requires headed { IsHeaded incoming.close incoming.shown course.old.around course.old.writer }
     requires in_order { IsInOrder course.old.scopes course.old.around (asking_over Q.opening Q.pass Q.seen port.old) }
     requires funded { IsFunded course.old.around (asking_over Q.opening Q.pass Q.seen port.old) }
     requires last { IsLast port.old.tree.now port.old.last }
-    requires levels { level_limit - course.old.around.depth ≤ forwards }
     requires known { (page : Page) × (path : List ℕ) × (origin : Origin) × (s : State) × IsProgramOf
-        (arc_value program) port.old.tree.now path × IsPageAt page port.old.tree.now path
+        (arc_value chain.program) port.old.tree.now path × IsPageAt page port.old.tree.now path
         × StandsFor origin course.old.scopes course.old.writer (K.taken sink.old) (K.faults sink.old)
         course.old.around (asking_over Q.opening Q.pass Q.seen port.old) s }
-    ensures chained { (path : List ℕ) → IsProgramOf (arc_value program) port.old.tree.now path →
+    ensures chained { (path : List ℕ) → IsProgramOf (arc_value chain.program) port.old.tree.now path →
         (page : Page) → IsPageAt page port.old.tree.now path
         → (origin : Origin) (s : State) → StandsFor origin course.old.scopes course.old.writer
         (K.taken sink.old) (K.faults sink.old) course.old.around (asking_over Q.opening Q.pass Q.seen port.old) s
-        → Chained (chain_answers (served_at port.old.tree.now request.now course.old.around) way.status
-        (level_limit - course.old.around.depth) page (params_of request.now own))
-        request.now port.old.tree.now (StandsFor origin course.new.scopes course.new.writer
-        (K.taken sink.new) (K.faults sink.new) course.new.around
-        (asking_over Q.opening Q.pass Q.seen port.new)) s
+        → Chained (chain_answers (served_at port.old.tree.now incoming.entry.request.now
+        course.old.around) chain.status (level_limit - course.old.around.depth) page
+        (params_of incoming.entry.request.now chain.own)) incoming.entry.request.now port.old.tree.now
+        (StandsFor origin course.new.scopes course.new.writer (K.taken sink.new) (K.faults sink.new)
+        course.new.around (asking_over Q.opening Q.pass Q.seen port.new)) s
         (asking_over Q.opening Q.pass Q.seen port.old).answers
         (asking_over Q.opening Q.pass Q.seen port.new).answers course.new.writer result }
-    ensures headed { IsHeaded way.close way.shown course.new.around course.new.writer }
+    ensures headed { IsHeaded incoming.entry.close incoming.entry.shown course.new.around course.new.writer }
     ensures in_order { IsInOrder course.new.scopes course.new.around (asking_over Q.opening Q.pass Q.seen port.new) }
     ensures funded { IsFunded course.new.around (asking_over Q.opening Q.pass Q.seen port.new) }
     ensures charged { HasCharged course.old.around course.new.around
@@ -93,33 +100,66 @@ pub(crate) fn run_chain<'a, Q: Port<Made>, L: Ledger, K: Sink>(
     ensures leads { Leads needs_at Q.pass Q.opening Q.home Q.seen port.old port.new }
 {
     responses();
-    let params = params_of(request, &own);
-    match play_page(alloc, &program, request, params, way, course, sink, port) {
+    let params = params_of(incoming.request, &chain.own);
+    let run = PageRun {
+        program: &*chain.program,
+        request: incoming.request,
+        params,
+    };
+    let status = chain.status;
+    let way = Way {
+        status,
+        close: incoming.close,
+        shown: incoming.shown,
+    };
+    match play_page(alloc, run, way, course, sink, port) {
         Err(AllocError) => Err(AllocError),
         Ok(Gone::Done(reply)) => Ok(ChainEnd::Done(reply)),
-        Ok(Gone::Failed(raise)) => Ok(ChainEnd::Failed(Failure {
-            raise,
-            program,
-            own,
-        })),
-        Ok(Gone::Forward(path, more)) => match port.again(&path) {
-            Err(AllocError) => Err(AllocError),
-            Ok(Paged::Page(target)) => run_chain(
-                alloc,
-                target,
-                request,
-                Some(more),
-                way,
-                forwards - 1,
-                course,
-                sink,
-                port,
-            ),
-            Ok(found) => match tell_target(alloc, way.status, &path, &found) {
-                Ok(reply) => Ok(ChainEnd::Done(reply)),
+        Ok(Gone::Failed(raise)) => Ok(ChainEnd::Failed(failed(raise, chain))),
+        Ok(Gone::Forward(path, more)) => {
+            drop(chain);
+            match port.again(&path) {
                 Err(AllocError) => Err(AllocError),
-            },
-        },
+                Ok(Paged::Page(program)) => {
+                    let next = Chain {
+                        program,
+                        own: Some(more),
+                        status,
+                    };
+                    run_chain(alloc, next, incoming, course, sink, port)
+                }
+                Ok(found) => end_at_target(alloc, status, &path, found),
+            }
+        }
+    }
+}
+
+// The fault that ended the run of a chain's page.
+fn failed(raise: Raise, chain: Chain) -> Failure
+    ensures { result ≡ record { raise = raise; program = chain.program; own = chain.own } }
+{
+    let Chain { program, own, .. } = chain;
+    Failure {
+        raise,
+        program,
+        own,
+    }
+}
+
+// How a chain ends at the path of a forward's target, where that is no page.
+fn end_at_target(
+    alloc: Global,
+    status: Status,
+    path: &Path,
+    found: Paged<Program>,
+) -> Result<ChainEnd, AllocError>
+    requires other { IsOther found }
+    ensures told { (tree : List File) → IsPaged IsProgramOf IsFaultOf tree path.now found →
+        IfOk result (λ end. IsTargetEnd tree status path.now end) }
+{
+    match tell_target(alloc, status, path, &found) {
+        Ok(reply) => Ok(ChainEnd::Done(reply)),
+        Err(AllocError) => Err(AllocError),
     }
 }
 

@@ -15,35 +15,31 @@ ghost use Rattle.request_port.specs.Leading.{IsLast, Leads};
 ghost use Rattle.run_world.specs.Origin.{Origin};
 ghost use Rattle.run_world.specs.Seats.{raise_of};
 
-use crate::chain::{ChainEnd, Failure, run_chain};
-use crate::course::{Course, Way};
-use crate::looking::{error_path, look};
+use crate::chain::{Chain, ChainEnd, Failure, run_chain};
+use crate::course::Course;
+use crate::incoming::Incoming;
+use crate::instead::{Instead, find_instead};
 use crate::reply::Reply;
-use crate::telling::{file, run_fault};
 use compiled_pages::Made;
 use edges::{Ledger, Sink};
-use http_in::Request;
 use http_out::Status;
-use page_meaning::LEVEL_LIMIT;
 use request_port::RequestPort;
 use response_laws::responses;
 use run_stage::MAX_ASKED_CHARGE;
-use site_words::{Paged, Port};
+use site_words::Port;
 use std::alloc::{AllocError, Global};
 
 /// Answers a fault: by the error page of the page whose run it ended, or by the line of the fault.
 pub(crate) fn run_error<'a, Q: Port<Made>, L: Ledger, K: Sink>(
     alloc: Global,
     failure: Failure,
-    request: &Request,
-    way: Way,
+    incoming: Incoming,
     course: &mut Course,
     sink: &mut K,
     port: &mut RequestPort<'a, Q, L>,
 ) -> Result<Reply, AllocError>
-    requires status { way.status ≡ Status.InternalServerError }
     requires uncommitted { course.old.writer.committed ≡ false }
-    requires headed { IsHeaded way.close way.shown course.old.around course.old.writer }
+    requires headed { IsHeaded incoming.close incoming.shown course.old.around course.old.writer }
     requires in_order { IsInOrder course.old.scopes course.old.around (asking_over Q.opening Q.pass Q.seen port.old) }
     requires funded { IsFunded course.old.around (asking_over Q.opening Q.pass Q.seen port.old) }
     requires charge { course.old.around.charge ≤ MAX_ASKED_CHARGE }
@@ -57,55 +53,44 @@ pub(crate) fn run_error<'a, Q: Port<Made>, L: Ledger, K: Sink>(
         → (origin : Origin) (s : State) → StandsFor origin course.old.scopes course.old.writer
         (K.taken sink.old) (K.faults sink.old) course.old.around
         (asking_over Q.opening Q.pass Q.seen port.old) s → s.writer.pieces ≡ []
-        → Closed (fault_answers (served_at port.old.tree.now request.now course.old.around) page
-        (params_of request.now failure.own) (raise_of failure.raise))
+        → Closed (fault_answers (served_at port.old.tree.now incoming.entry.request.now
+        course.old.around) page (params_of incoming.entry.request.now failure.own)
+        (raise_of failure.raise))
         (Reached origin course.new.scopes course.new.writer (K.taken sink.new) (K.faults sink.new)
         course.new.around (asking_over Q.opening Q.pass Q.seen port.new)) s
         (asking_over Q.opening Q.pass Q.seen port.old).answers
         (asking_over Q.opening Q.pass Q.seen port.new).answers course.new.writer result }
-    ensures headed { IsHeaded way.close way.shown course.new.around course.new.writer }
+    ensures headed { IsHeaded incoming.entry.close incoming.entry.shown course.new.around course.new.writer }
     ensures in_order { OnOk result (IsInOrder course.new.scopes course.new.around
         (asking_over Q.opening Q.pass Q.seen port.new)) }
     ensures tree { port.new.tree.now ≡ port.old.tree.now }
     ensures leads { Leads needs_at Q.pass Q.opening Q.home Q.seen port.old port.new }
 {
     responses();
-    let Failure {
-        raise,
-        program,
-        own,
-    } = failure;
-    let path = match error_path(alloc, &program) {
-        Err(AllocError) => return Err(AllocError),
-        Ok(None) => return run_fault(alloc, &raise),
-        Ok(Some(path)) => path,
-    };
-    match look(&path, &mut course.around, port) {
-        Err(AllocError) => Err(AllocError),
-        Ok(Paged::Absent) => run_fault(alloc, &raise),
-        Ok(Paged::Bad(_)) => run_fault(alloc, &raise),
-        Ok(Paged::Plain(text)) => file(way.status, &path, &text),
-        Ok(Paged::Page(target)) => {
-            let Ok(line) = run_fault(alloc, &raise) else {
-                return Err(AllocError);
-            };
+    match find_instead(alloc, &failure, &mut course.around, port) {
+        Instead::Told(answer) => answer,
+        Instead::Page { program, line } => {
+            let Failure {
+                raise,
+                program: failed,
+                own,
+            } = failure;
+            drop(failed);
             course.around.exception = Some(raise);
             course.around.visits = 0;
             course.around.depth = 0;
-            match run_chain(
-                alloc,
-                target,
-                request,
+            let chain = Chain {
+                program,
                 own,
-                way,
-                LEVEL_LIMIT,
-                course,
-                sink,
-                port,
-            ) {
+                status: Status::InternalServerError,
+            };
+            match run_chain(alloc, chain, incoming, course, sink, port) {
                 Err(AllocError) => Err(AllocError),
                 Ok(ChainEnd::Done(reply)) => Ok(reply),
-                Ok(ChainEnd::Failed(_)) => Ok(line),
+                Ok(ChainEnd::Failed(second)) => {
+                    drop(second);
+                    Ok(line)
+                }
             }
         }
     }

@@ -1,5 +1,5 @@
 // The run of one page from its beginning.
-ghost use Rattle.std.specs.Prelude.{◌≡◌, ◌≤◌, ◌-◌, ℕ, List, false};
+ghost use Rattle.std.specs.Prelude.{◌≡◌, ◌-◌, ℕ, List, false};
 ghost use Rattle.page_machine.specs.Run.{IsInOrder, StandsFor, level_limit};
 ghost use Rattle.compiled_pages.specs.Made.{IsPageAt, IsProgramOf, TellsPages};
 ghost use Rattle.page_meaning.specs.Page.{Page};
@@ -11,10 +11,10 @@ ghost use Rattle.run_stage.specs.Standing.{HasCharged, KeepsSession};
 ghost use Rattle.run_world.specs.Origin.{Origin};
 
 use crate::course::{Course, Way, begin_page};
+use crate::page_run::PageRun;
 use crate::reply::Gone;
 use crate::running::run_page;
 use edges::Sink;
-use http_in::{Param, Request};
 use page_meaning::{depth, parts};
 use run_world::Program;
 use site_words::AppPort;
@@ -23,9 +23,7 @@ use std::alloc::{AllocError, Global};
 /// Runs a page from its beginning. Its Fetch was charged before, and nothing was committed.
 pub(crate) fn play_page<P: AppPort<Program>, K: Sink>(
     alloc: Global,
-    program: &Program,
-    request: &Request,
-    params: &[Param],
+    run: PageRun,
     way: Way,
     course: &mut Course,
     sink: &mut K,
@@ -37,17 +35,18 @@ pub(crate) fn play_page<P: AppPort<Program>, K: Sink>(
     requires in_order { IsInOrder course.old.scopes course.old.around (P.asking port.old) }
     requires funded { IsFunded course.old.around (P.asking port.old) }
     requires stands { (page : Page) × (path : List ℕ) × (origin : Origin) × (s : State) × IsProgramOf
-        program.now (P.tree port.old) path × IsPageAt page (P.tree port.old) path
+        run.program.now (P.tree port.old) path × IsPageAt page (P.tree port.old) path
         × StandsFor origin course.old.scopes course.old.writer (K.taken sink.old) (K.faults sink.old)
         course.old.around (P.asking port.old) s }
-    ensures played { (path : List ℕ) → IsProgramOf program.now (P.tree port.old) path → (page : Page) →
-        IsPageAt page (P.tree port.old) path
+    ensures played { (path : List ℕ) → IsProgramOf run.entry.program.now (P.tree port.old) path →
+        (page : Page) → IsPageAt page (P.tree port.old) path
         → (origin : Origin) (s : State) → StandsFor origin course.old.scopes course.old.writer
         (K.taken sink.old) (K.faults sink.old) course.old.around (P.asking port.old) s
-        → Played (served_at (P.tree port.old) request.now course.old.around) way.status page params.now
-        (level_limit - course.old.around.depth) (StandsFor origin course.new.scopes course.new.writer
-        (K.taken sink.new) (K.faults sink.new) course.new.around (P.asking port.new)) s
-        (P.asking port.old).answers (P.asking port.new).answers course.new.around.depth course.new.writer result }
+        → Played (served_at (P.tree port.old) run.entry.request.now course.old.around) way.status page
+        run.entry.params.now (level_limit - course.old.around.depth) (StandsFor origin
+        course.new.scopes course.new.writer (K.taken sink.new) (K.faults sink.new) course.new.around
+        (P.asking port.new)) s (P.asking port.old).answers (P.asking port.new).answers
+        course.new.around.depth course.new.writer result }
     ensures headed { IsHeaded way.close way.shown course.new.around course.new.writer }
     ensures in_order { IsInOrder course.new.scopes course.new.around (P.asking port.new) }
     ensures funded { IsFunded course.new.around (P.asking port.new) }
@@ -59,8 +58,8 @@ pub(crate) fn play_page<P: AppPort<Program>, K: Sink>(
 {
     depth();
     parts();
-    let Ok(()) = begin_page(alloc, program, way, course) else {
+    let Ok(()) = begin_page(alloc, run.program, way, course) else {
         return Err(AllocError);
     };
-    run_page(alloc, program, request, params, course, sink, port)
+    run_page(alloc, run, course, sink, port)
 }

@@ -14,9 +14,9 @@ ghost use Rattle.run_world.specs.Origin.{Origin};
 
 use crate::body::Body;
 use crate::course::Course;
+use crate::page_run::PageRun;
 use crate::reply::{Gone, Reply};
 use edges::Sink;
-use http_in::{Param, Request};
 use http_out::Status;
 use page_machine::RunEnd;
 use page_meaning::{depth, parts};
@@ -29,9 +29,7 @@ use std::alloc::{AllocError, Global};
 /// Runs a page whose run has begun, and whose Fetch was charged before.
 pub(crate) fn run_page<P: AppPort<Program>, K: Sink>(
     alloc: Global,
-    program: &Program,
-    request: &Request,
-    params: &[Param],
+    run: PageRun,
     course: &mut Course,
     sink: &mut K,
     port: &mut P,
@@ -41,14 +39,15 @@ pub(crate) fn run_page<P: AppPort<Program>, K: Sink>(
     requires promise { RUN_PROMISE ≤ course.old.around.charge + (P.asking port.old).left }
     requires writer { (start : Option (List ℕ)) × (before : ℕ) × (written : Wrote) × Stands start before
         course.old.writer (K.taken sink.old) (K.faults sink.old) written }
-    ensures gone { (path : List ℕ) → IsProgramOf program.now (P.tree port.old) path → (page : Page) →
-        IsPageAt page (P.tree port.old) path
+    ensures gone { (path : List ℕ) → IsProgramOf run.entry.program.now (P.tree port.old) path →
+        (page : Page) → IsPageAt page (P.tree port.old) path
         → (origin : Origin) (s : State) → StandsFor origin course.old.scopes course.old.writer
         (K.taken sink.old) (K.faults sink.old) course.old.around (P.asking port.old) s
-        → PageGone (served_at (P.tree port.old) request.now course.old.around) page params.now
-        (level_limit - course.old.around.depth) (StandsFor origin course.new.scopes course.new.writer
-        (K.taken sink.new) (K.faults sink.new) course.new.around (P.asking port.new)) s
-        (P.asking port.old).answers (P.asking port.new).answers course.new.around.depth course.new.writer result }
+        → PageGone (served_at (P.tree port.old) run.entry.request.now course.old.around) page
+        run.entry.params.now (level_limit - course.old.around.depth) (StandsFor origin
+        course.new.scopes course.new.writer (K.taken sink.new) (K.faults sink.new) course.new.around
+        (P.asking port.new)) s (P.asking port.old).answers (P.asking port.new).answers
+        course.new.around.depth course.new.writer result }
     ensures in_order { IsInOrder course.new.scopes course.new.around (P.asking port.new) }
     ensures charged { HasCharged course.old.around course.new.around (P.asking port.old) (P.asking port.new) }
     ensures session { KeepsSession course.old.around course.new.around }
@@ -61,9 +60,9 @@ pub(crate) fn run_page<P: AppPort<Program>, K: Sink>(
     parts();
     let end = play(
         alloc,
-        program,
-        request,
-        params,
+        run.program,
+        run.request,
+        run.params,
         &mut course.scopes,
         &mut course.writer,
         sink,

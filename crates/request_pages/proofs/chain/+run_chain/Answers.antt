@@ -1,61 +1,56 @@
-use Rattle.std.proofs.Common.{ap, refl, rules, sym, subst, ◌∙◌, ◌≤◌, ◌-◌, ◌<◌, arith}
+use Rattle.std.proofs.Common.{ap, refl, sym, subst, ◌∙◌, ◌-◌, ◌<◌, arith}
 use Rattle.compiled_pages.proofs.PageLemmas.{paged_good}
 use Rattle.compiled_pages.specs.Made.{IsProgramOf}
 use Rattle.compiled_pages.specs.Pages.{paged_at}
 use Rattle.run_pages.specs.Meant.{served_at}
-use Rattle.request_pages.proofs.ChainLemmas.{chained_done, chained_failed, chained_lost, chained_on, chained_short, chained_told, forward_known, levels_left, none_held, same_chained}
+use Rattle.request_pages.proofs.ChainLemmas.{chained_done, chained_end, chained_failed, chained_lost, chained_on, chained_short, forward_known, levels_left, none_held, same_chained}
 use Rattle.request_pages.proofs.chain.+run_chain.Goals as goal
-use Rattle.request_pages.specs.Target.{IsTargetReply}
+use Rattle.request_pages.specs.Chained.{IsProgramIn, params_of}
+use Rattle.request_pages.specs.Target.{IsTargetEnd}
+use Rattle.request_pages.specs.declared.chain.Failure.{Failure}
 use Rattle.request_port.specs.LeadingLaws.{leads_on}
+use Rattle.std.specs.Arc.{arc_value}
 use Rattle.std.specs.Option.{option_map}
+use Rattle.std.specs.Prelude.{IfOk}
 use Rattle.run_world.specs.Seats.{raise_of}
 
 pub returns-in-Err-clause-chained : goal.returns-in-Err-clause-chained
 returns-in-Err-clause-chained g t c = λ path made page is origin s stands.
     let played = c.in-Err.ensures.played path (subst (λ p. IsProgramOf p c.args.port.now.tree.now path) (sym c.deref.ensures) made) page is origin s stands in
-    rw (sym c.params_of-params.ensures) (chained_short c.responses.ensures.unfold c.responses.ensures.grow _ c.args.way.status page _ _ (omega arith) c.args.request.now c.args.port.now.tree.now _ s _ _ _ _ c.in-Err.field-0 _ played)
+    rw (sym c.params_of-params.ensures) (chained_short c.responses.ensures.unfold c.responses.ensures.grow _ c.args.chain.status page _ _ (omega arith) c.args.incoming.request.now c.args.port.now.tree.now _ s _ _ _ _ c.in-Err.field-0 _ played)
 
 pub returns-in-Ok-Done-clause-chained : goal.returns-in-Ok-Done-clause-chained
 returns-in-Ok-Done-clause-chained g t c = λ path made page is origin s stands.
     let played = c.in-Ok-Done.ensures.played path (subst (λ p. IsProgramOf p c.args.port.now.tree.now path) (sym c.deref.ensures) made) page is origin s stands in
     rw (sym c.params_of-params.ensures)
-    (chained_done c.responses.ensures.unfold c.responses.ensures.grow _ c.args.way.status page _ _ (omega arith) c.args.request.now c.args.port.now.tree.now _ s _ _ _ _ c.in-Ok-Done.reply (rw c.in-Ok-Done.field-0-is at played))
+    (chained_done c.responses.ensures.unfold c.responses.ensures.grow _ c.args.chain.status page _ _ (omega arith) c.args.incoming.request.now c.args.port.now.tree.now _ s _ _ _ _ c.in-Ok-Done.reply (rw c.in-Ok-Done.field-0-is at played))
 
 pub returns-in-Ok-Failed-clause-chained : goal.returns-in-Ok-Failed-clause-chained
 returns-in-Ok-Failed-clause-chained g t c = λ path made page is origin s stands.
     let played = c.in-Ok-Failed.ensures.played path (subst (λ p. IsProgramOf p c.args.port.now.tree.now path) (sym c.deref.ensures) made) page is origin s stands in
     rw (sym c.params_of-params.ensures)
-    (chained_failed c.responses.ensures.unfold c.responses.ensures.grow _ c.args.way.status page _ _ (omega arith) c.args.request.now c.args.port.now.tree.now _ s _ _ _ _ c.in-Ok-Failed.raise
-    (record { raise = c.in-Ok-Failed.raise; program = c.args.program; own = c.args.own }) refl c.params_of-params.ensures (path, made, is) (rw c.in-Ok-Failed.field-0-is at played))
+    (chained_failed c.responses.ensures.unfold c.responses.ensures.grow _ c.args.chain.status page _ _ (omega arith) c.args.incoming.request.now c.args.port.now.tree.now _ s _ _ _ _ c.in-Ok-Failed.raise
+    c.failed.result (ap (λ (f : Failure). f.raise) c.failed.ensures) (c.params_of-params.ensures ∙ ap (λ (f : Failure). params_of c.args.incoming.request.now f.own) (sym c.failed.ensures))
+    (subst (λ (f : Failure). IsProgramIn (arc_value f.program) c.args.port.now.tree.now page) (sym c.failed.ensures) (path, made, is)) (rw c.in-Ok-Failed.field-0-is at played))
 
 pub returns-in-Err-again-clause-chained : goal.returns-in-Err-again-clause-chained
 returns-in-Err-again-clause-chained g t c = λ path made page is origin s stands.
     let played = c.in-Ok-Forward.ensures.played path (subst (λ p. IsProgramOf p c.args.port.now.tree.now path) (sym c.deref.ensures) made) page is origin s stands in
     rw (sym c.params_of-params.ensures)
-    (chained_lost c.responses.ensures.unfold c.responses.ensures.grow _ c.args.way.status page _ _ (omega arith) c.args.request.now c.args.port.now.tree.now _ s _ _ _ _ c.in-Ok-Forward.path c.in-Ok-Forward.more _ (rw c.in-Ok-Forward.field-0-is at played))
-
-pub overflow_sub-forwards : goal.overflow_sub-forwards
-overflow_sub-forwards g t c =
-    let (page, path, origin, s, made, is, stands) = c.requires.known in
-    let known = forward_known _ _ page _ _ _ s _ _ _ _ _ _ (rw c.in-Ok-Forward.field-0-is at (c.in-Ok-Forward.ensures.played path (subst (λ p. IsProgramOf p c.args.port.now.tree.now path) (sym c.deref.ensures) made) page is origin s stands)) in
-    let levels = c.requires.levels in
-    omega (arith, known.0, levels)
+    (chained_lost c.responses.ensures.unfold c.responses.ensures.grow _ c.args.chain.status page _ _ (omega arith) c.args.incoming.request.now c.args.port.now.tree.now _ s _ _ _ _ c.in-Ok-Forward.path c.in-Ok-Forward.more _ (rw c.in-Ok-Forward.field-0-is at played))
 
 pub run_chain-requires : goal.run_chain-requires
 run_chain-requires g t c κs within =
     let (page, path, origin, s, made, is, stands) = c.requires.known in
     let played = rw c.in-Ok-Forward.field-0-is at (c.in-Ok-Forward.ensures.played path (subst (λ p. IsProgramOf p c.args.port.now.tree.now path) (sym c.deref.ensures) made) page is origin s stands) in
     let known = forward_known _ _ page _ _ _ s _ _ _ _ _ _ played in
-    let levels = c.requires.levels in
-    let measure = c.decreases in
     let quiet = none_held c.play_page.new.course.writer played.after.writer played.stood.writer.committed known.2 in
     let kept = c.in-Ok-Forward.ensures.leads.last c.requires.last in
     let found = rw c.in-Ok-Page.field-0-is at c.in-Ok-Page.ensures.paged in
     let next = found.1 in
     let depth = known.1 in
     let less = known.0 in
-    let fewer : 100 - c.play_page.new.course.around.depth ≤ c.args.forwards - 1 = omega (arith, depth, less, levels) in
-    let below : c.args.forwards - 1 < t = search rules in
+    let below : 100 - c.play_page.new.course.around.depth < t = omega (arith, c.decreases, depth, less) in
     let ensures = c.in-Ok-Forward.ensures in (
       below,
       (
@@ -66,7 +61,7 @@ run_chain-requires g t c κs within =
             within.1.1.0,
             (
               within.1.1.1,
-              (quiet, (ensures.headed, (ensures.in_order, (ensures.funded, (kept, (fewer, (next.page, c.in-Ok-Forward.path, origin, played.after, next, next.stands, played.stood))))))),
+              (quiet, (ensures.headed, (ensures.in_order, (ensures.funded, (kept, (next.page, c.in-Ok-Forward.path, origin, played.after, next, next.stands, played.stood)))))),
             ),
           ),
         ),
@@ -88,24 +83,18 @@ returns-in-Ok-Page-clause-chained g t c = λ path made page is origin s stands.
     let l = sym levels ∙ ap (λ d. 100 - d) (sym known.1) in
     let chained = c.run_chain.ensures.chained target next next.page next.stands origin played.after played.stood in
     rw (sym c.params_of-params.ensures)
-    (chained_on c.responses.ensures.unfold (served_at tree c.args.request.now around) c.args.way.status page _ _ (omega arith) c.args.request.now tree _ _ s _ _ _ _ _ _ target _ next.page _ c.run_chain.result good played l
-    (same_chained (served_at tree c.args.request.now around) _ c.args.way.status _ next.page _ c.args.request.now tree _ _ played.after _ _ _ c.run_chain.result
-    (ap (λ t. served_at t c.args.request.now c.play_page.new.course.around) same ∙ ap (λ e. record { request = c.args.request.now; pages = paged_at tree; exception = option_map raise_of e }) c.in-Ok-Forward.ensures.exception) same chained))
+    (chained_on c.responses.ensures.unfold (served_at tree c.args.incoming.request.now around) c.args.chain.status page _ _ (omega arith) c.args.incoming.request.now tree _ _ s _ _ _ _ _ _ target _ next.page _ c.run_chain.result good played l
+    (same_chained (served_at tree c.args.incoming.request.now around) _ c.args.chain.status _ next.page _ c.args.incoming.request.now tree _ _ played.after _ _ _ c.run_chain.result
+    (ap (λ t. served_at t c.args.incoming.request.now c.play_page.new.course.around) same ∙ ap (λ e. record { request = c.args.incoming.request.now; pages = paged_at tree; exception = option_map raise_of e }) c.in-Ok-Forward.ensures.exception) same chained))
 
 pub returns-in-Ok-Page-clause-leads : goal.returns-in-Ok-Page-clause-leads
 returns-in-Ok-Page-clause-leads g t c = leads_on c.args.port.now c.play_page.new.port c.run_chain.new.port c.in-Ok-Forward.ensures.leads c.run_chain.ensures.leads
 
-pub returns-in-Ok-tell_target-clause-chained : goal.returns-in-Ok-tell_target-clause-chained
-returns-in-Ok-tell_target-clause-chained g t c = λ path made page is origin s stands.
+pub returns-clause-chained : goal.returns-clause-chained
+returns-clause-chained g t c = λ path made page is origin s stands.
     let tree = c.args.port.now.tree.now in
     let played = rw c.in-Ok-Forward.field-0-is at (c.in-Ok-Forward.ensures.played path (subst (λ p. IsProgramOf p c.args.port.now.tree.now path) (sym c.deref.ensures) made) page is origin s stands) in
     let target = c.in-Ok-Forward.path in
-    let told = subst (λ t. IsTargetReply t c.args.way.status target c.in-Ok-tell_target.reply) c.in-Ok-Forward.ensures.tree (c.in-Ok-tell_target.ensures.told c.play_page.new.port.tree.now c.in-Ok.ensures.paged) in
+    let told = subst (λ t. IfOk c.end_at_target.result (IsTargetEnd t c.args.chain.status target)) c.in-Ok-Forward.ensures.tree (c.end_at_target.ensures.told c.play_page.new.port.tree.now c.in-Ok.ensures.paged) in
     rw (sym c.params_of-params.ensures)
-    (chained_told c.responses.ensures.unfold c.responses.ensures.grow _ c.args.way.status page _ _ (omega arith) c.args.request.now tree _ s _ _ _ _ target c.in-Ok-Forward.more c.in-Ok-tell_target.reply (λ p. refl) told played)
-
-pub returns-clause-chained : goal.returns-clause-chained
-returns-clause-chained g t c = λ path made page is origin s stands.
-    let played = c.in-Ok-Forward.ensures.played path (subst (λ p. IsProgramOf p c.args.port.now.tree.now path) (sym c.deref.ensures) made) page is origin s stands in
-    rw (sym c.params_of-params.ensures)
-    (chained_lost c.responses.ensures.unfold c.responses.ensures.grow _ c.args.way.status page _ _ (omega arith) c.args.request.now c.args.port.now.tree.now _ s _ _ _ _ c.in-Ok-Forward.path c.in-Ok-Forward.more _ (rw c.in-Ok-Forward.field-0-is at played))
+    (chained_end c.responses.ensures.unfold c.responses.ensures.grow _ c.args.chain.status page _ _ (omega arith) c.args.incoming.request.now tree _ s _ _ _ _ target c.in-Ok-Forward.more c.end_at_target.result (λ p. refl) told played)

@@ -13,7 +13,7 @@ pub begin_page-requires-clause-buffered : goal.begin_page-requires-clause-buffer
 begin_page-requires-clause-buffered g c =
     let (page, path, origin, s, made, is, stands) = c.requires.stands in
     let tree = g.P.AppPort.tree c.args.port.now in
-    subst (λ (x : PageSettings). ForSome x.buffer (λ size. 0 < size)) (sym (settings_same c.args.program.now tree path page made is)) (page_above tree path page is)
+    subst (λ (x : PageSettings). ForSome x.buffer (λ size. 0 < size)) (sym (settings_same c.args.run.program.now tree path page made is)) (page_above tree path page is)
 
 pub returns-in_default-clause-played : goal.returns-in_default-clause-played
 returns-in_default-clause-played g c = λ path made page is origin s stands.
@@ -27,13 +27,13 @@ returns-in_default-clause-played g c = λ path made page is origin s stands.
 pub run_page-requires-clause-writer : goal.run_page-requires-clause-writer
 run_page-requires-clause-writer g c =
     let (page, path, origin, s, made, is, stands) = c.requires.stands in
-    let begun = c.in-Ok.ensures.stands origin (g.K.Sink.taken c.args.sink.now) (g.K.Sink.faults c.args.sink.now) (g.P.AppPort.asking c.args.port.now) s page (settings_same c.args.program.now (g.P.AppPort.tree c.args.port.now) path page made is) stands in
+    let begun = c.in-Ok.ensures.stands origin (g.K.Sink.taken c.args.sink.now) (g.K.Sink.faults c.args.sink.now) (g.P.AppPort.asking c.args.port.now) s page (settings_same c.args.run.program.now (g.P.AppPort.tree c.args.port.now) path page made is) stands in
     (origin.start, origin.before, _, begun.writer)
 
 pub returns-clause-played : goal.returns-clause-played
 returns-clause-played g c = λ path made page is origin s stands.
     let tree = g.P.AppPort.tree c.args.port.now in
-    let settings = settings_same c.args.program.now tree path page made is in
+    let settings = settings_same c.args.run.program.now tree path page made is in
     let begun = c.in-Ok.ensures.stands origin (g.K.Sink.taken c.args.sink.now) (g.K.Sink.faults c.args.sink.now) (g.P.AppPort.asking c.args.port.now) s page settings stands in
     let head = c.run_page.ensures.response.head in
     let st = ap (λ h. h.status) head ∙ (after_status c.begin_page.new.course.writer.head _ _ _ ∙ ap (λ h. h.status) c.in-Ok.ensures.head) in
@@ -46,4 +46,4 @@ returns-in_default-clause-headed g c = subst (λ (x : Course). IsHeaded c.args.w
 pub returns-clause-headed : goal.returns-clause-headed
 returns-clause-headed g c =
     headed_on c.args.way.close c.args.way.shown c.begin_page.new.course.around c.run_page.new.course.around c.begin_page.new.course.writer c.run_page.new.course.writer c.run_page.ensures.response c.run_page.ensures.session
-    (record { status = c.args.way.status; content_type = Some c.args.program.now.settings.content_type; head = c.in-Ok.ensures.head; shown_is = c.in-Ok.ensures.shown })
+    (record { status = c.args.way.status; content_type = Some c.args.run.program.now.settings.content_type; head = c.in-Ok.ensures.head; shown_is = c.in-Ok.ensures.shown })
