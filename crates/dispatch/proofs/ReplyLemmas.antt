@@ -1,8 +1,9 @@
 -- The bytes of a reply, and what a sink takes of them.
-use Rattle.std.proofs.Common.{◌≡◌, ◌<◌, ℕ, Bool, true, false, List, [], ◌∷◌, Option, None, refl, ap, subst, ◌∙◌, arith}
-use Rattle.dispatch.specs.Replied.{response_in}
+use Rattle.std.proofs.Common.{◌≡◌, ◌<◌, ℕ, Bool, true, false, List, [], ◌∷◌, Option, None, refl, sym, ap, subst, ◌∙◌, arith}
+use Rattle.std.specs.Prelude.{Result}
+use Rattle.conversation.specs.declared.desk.Outcome.{Outcome}
+use Rattle.dispatch.specs.Replied.{Wrote, response_in}
 use Rattle.http_out.specs.Response.{whole, wire}
-use Rattle.http_out.specs.Sent.{Sent}
 use Rattle.http_out.specs.declared.head.Head.{Head}
 use Rattle.http_out.specs.declared.status.Status.{Status}
 use Rattle.out_buffer.specs.Held.{Held, response_of}
@@ -48,16 +49,27 @@ module _ {origin : Origin} {scopes : ScopeState} {held : Held} {taken : Option (
       (rest_left_out held.head s.writer.pieces s.writer.buffer broken shown stays
       ∙ ap (λ head. wire (record { head = head; pieces = s.writer.pieces; rest = rest_of broken s.writer.buffer; broken = broken }) shown) head_is)
 
-  -- what was taken of what the writer held was taken of the reply
-  pub written : (r : Reply) (broken : Bool) → r ≡ reply.Written broken → IsReplyOpen r s.writer.pieces → (failed : Bool) (now : Option (List ℕ)) (risen : ℕ)
-      → HasTaken origin.start origin.before (wire (response_of held.head s.writer broken) held.shown) failed now risen
-      → HasTaken origin.start origin.before (wire (closing close (response_in held r s)) shown) failed now risen
-  written r broken is is_open failed now risen took = subst (λ text. HasTaken origin.start origin.before text failed now risen) (written_text r broken is is_open) took
+  -- what was written of what the writer held was written of the reply
+  pub wrote_written : {E : Type 0} (r : Reply) (broken : Bool) → r ≡ reply.Written broken → IsReplyOpen r s.writer.pieces → (now : Option (List ℕ)) (risen : ℕ) (result : Result Outcome E)
+      → Wrote origin.start origin.before (wire (response_of held.head s.writer broken) held.shown) broken s.writer.pieces now risen result
+      → Wrote origin.start origin.before (wire (closing close (response_in held r s)) shown) (response_in held r s).broken s.writer.pieces now risen result
+  wrote_written r broken is is_open now risen result wrote =
+      let text = wire (closing close (response_in held r s)) shown in
+      subst (λ b. Wrote origin.start origin.before text b s.writer.pieces now risen result) (sym (ap (λ (r : Reply). (response_in held r s).broken) is))
+      (subst (λ text. Wrote origin.start origin.before text broken s.writer.pieces now risen result) (written_text r broken is is_open) wrote)
 
-  -- what was sent of a body with its head was sent of the reply
-  pub whole_sent : (r : Reply) (status : Status) (content_type location : Option (List ℕ)) (body bytes : List ℕ) (id : Option (List ℕ)) → r ≡ reply.Whole status content_type location body → bytes ≡ body
-      → id ≡ new_id around.fresh around.id → (failed : Bool) (now : Option (List ℕ))
-      → Sent origin.start now (whole (record { status = status; content_type = content_type; set_cookie = id; location = location; allow = false; close = close }) bytes shown) failed
-      → Sent origin.start now (wire (closing close (response_in held r s)) shown) failed
+  whole_text : (r : Reply) (status : Status) (content_type location : Option (List ℕ)) (body bytes : List ℕ) (id : Option (List ℕ)) → r ≡ reply.Whole status content_type location body → bytes ≡ body → id ≡ new_id around.fresh around.id
+      → whole (record { status = status; content_type = content_type; set_cookie = id; location = location; allow = false; close = close }) bytes shown ≡ wire (closing close (response_in held r s)) shown
   unfolding whole
-  whole_sent r status content_type location body bytes id is bytes_are id_is failed now sent = rw (is, reached.id, reached.fresh) (rw (bytes_are, id_is) at sent)
+  whole_text r status content_type location body bytes id is bytes_are id_is = rw (is, reached.id, reached.fresh) (rw (bytes_are, id_is) refl)
+
+  -- what was written of a body with its head was written of the reply
+  pub wrote_whole : {E : Type 0} (r : Reply) (status : Status) (content_type location : Option (List ℕ)) (body bytes : List ℕ) (id : Option (List ℕ)) → r ≡ reply.Whole status content_type location body → bytes ≡ body
+      → id ≡ new_id around.fresh around.id → s.writer.pieces ≡ [] → (now : Option (List ℕ)) (risen : ℕ) (result : Result Outcome E)
+      → Wrote origin.start origin.before (whole (record { status = status; content_type = content_type; set_cookie = id; location = location; allow = false; close = close }) bytes shown) false [] now risen result
+      → Wrote origin.start origin.before (wire (closing close (response_in held r s)) shown) (response_in held r s).broken s.writer.pieces now risen result
+  wrote_whole r status content_type location body bytes id is bytes_are id_is none now risen result wrote =
+      let text = wire (closing close (response_in held r s)) shown in
+      subst (λ b. Wrote origin.start origin.before text b s.writer.pieces now risen result) (sym (ap (λ (r : Reply). (response_in held r s).broken) is))
+      (subst (λ (pieces : List (List ℕ)). Wrote origin.start origin.before text false pieces now risen result) (sym none)
+      (subst (λ text. Wrote origin.start origin.before text false [] now risen result) (whole_text r status content_type location body bytes id is bytes_are id_is) wrote))

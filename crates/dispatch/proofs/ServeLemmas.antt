@@ -22,11 +22,9 @@ pub at_same : (F : Opening → ℕ → Type 0) (x y : Opening) (pass other : ℕ
 at_same F x y pass other opening same h = subst (λ x. F x pass) opening (subst (F y) same h)
 
 -- of the tree that a reference shows
-pub begun_as : (x : Opening) (pass : ℕ) (old : Standing) (moments : Moments) (request : Request) (close shown seen : Bool) (number : ℕ) (tree other : List File) (found : Option FoundSession) (begun : List Entry) (steps : ℕ) (taken : Option (List ℕ)) (faults : ℕ)
-    → shown ≡ seen → other ≡ tree → HasBegun x pass old moments (started request close seen number tree found begun steps taken faults) → HasBegun x pass old moments (started request close shown number other found begun steps taken faults)
-begun_as x pass old moments request close shown seen number tree other found begun steps taken faults shown_is tree_is h =
-    subst (λ shown. HasBegun x pass old moments (started request close shown number other found begun steps taken faults)) (sym shown_is)
-    (subst (λ tree. HasBegun x pass old moments (started request close seen number tree found begun steps taken faults)) (sym tree_is) h)
+pub begun_as : (x : Opening) (pass : ℕ) (old : Standing) (moments : Moments) (request : Request) (close shown : Bool) (number : ℕ) (tree other : List File) (found : Option FoundSession) (begun : List Entry) (steps : ℕ) (taken : Option (List ℕ)) (faults : ℕ)
+    → other ≡ tree → HasBegun x pass old moments (started request close shown number tree found begun steps taken faults) → HasBegun x pass old moments (started request close shown number other found begun steps taken faults)
+begun_as x pass old moments request close shown number tree other found begun steps taken faults same h = subst (λ tree. HasBegun x pass old moments (started request close shown number tree found begun steps taken faults)) (sym same) h
 
 -- where memory was wanting before any page ran
 pub begun_starves : (x : Opening) (pass : ℕ) (p : Start) (head : Head) → Legal needs_at x p.begun → Starves x pass p p.begun p.steps head (beginning p.found [])

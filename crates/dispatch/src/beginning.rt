@@ -4,9 +4,8 @@ ghost use Rattle.dispatch.specs.Begun.{IsBegun};
 
 use http_out::{Head, Status};
 use out_buffer::Writer;
-use pg_text::Text;
 use pg_value::Attrs;
-use request_pages::Course;
+use request_pages::{Course, Incoming};
 use run_world::Around;
 use scopes::Scopes;
 use std::alloc::{AllocError, Global};
@@ -15,21 +14,26 @@ use std::alloc::{AllocError, Global};
 #[inline(always)]
 pub(crate) fn begin_course(
     alloc: Global,
-    cookie: &Text,
+    incoming: Incoming,
     session: Option<u64>,
     attrs: Attrs,
-    close: bool,
-    shown: bool,
 ) -> Result<Course, AllocError>
-    ensures { IfOk result (λ course. IsBegun cookie.now session attrs close shown course) }
+    ensures { IfOk result (λ course. IsBegun incoming.entry.request.now.cookie session attrs
+        incoming.entry.close incoming.entry.shown course) }
 {
     let (id, attrs) = match session {
-        Some(_) => (Some(cookie.copy()?), Some(attrs)),
+        Some(_) => (Some(incoming.request.cookie.copy()?), Some(attrs)),
         None => (None, None),
     };
     Ok(Course {
         scopes: Scopes::new(alloc, attrs)?,
-        writer: Writer::new(alloc, Head::of(Status::Ok, close), None, true, shown),
+        writer: Writer::new(
+            alloc,
+            Head::of(Status::Ok, incoming.close),
+            None,
+            true,
+            incoming.shown,
+        ),
         around: Around {
             depth: 0,
             visits: 0,

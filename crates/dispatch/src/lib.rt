@@ -6,5 +6,6 @@ mod refusing;
 mod replying;
 mod responding;
 mod serving;
+mod under_way;
 
 pub use responding::respond;

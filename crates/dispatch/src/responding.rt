@@ -10,12 +10,13 @@ ghost use Rattle.compiled_pages.specs.Pages.{needs_at};
 ghost use Rattle.pass_course.specs.Course.{IsIdle};
 ghost use Rattle.site_words.specs.Answers.{IsSamePort};
 
-use crate::refusing::{full, not_taken};
+use crate::refusing::{full, not_taken, shows_body};
 use crate::serving::serve;
 use compiled_pages::Made;
 use conversation::Outcome;
 use edges::{Clock, Ledger, Sink, Steps};
 use http_in::Request;
+use request_pages::Incoming;
 use site_words::{Acted, Port};
 use std::alloc::Global;
 
@@ -49,9 +50,14 @@ pub fn respond<Q: Port<Made>, K: Sink, C: Clock, L: Ledger>(
     if !takes_method(request) {
         return not_taken(alloc, request, close, sink);
     }
+    let incoming = Incoming {
+        request,
+        close,
+        shown: shows_body(request),
+    };
     let moment = clock.now();
     match port.begin(&request.cookie, moment) {
-        Acted::Did(begun) => serve(alloc, port, begun, request, close, sink, steps),
+        Acted::Did(begun) => serve(alloc, port, begun, incoming, sink, steps),
         Acted::Refused(refusal) => full(alloc, &refusal, request, close, sink),
         Acted::NoMemory => Outcome::NoMemory,
     }

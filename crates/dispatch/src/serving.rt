@@ -13,7 +13,6 @@ ghost use Rattle.edges.specs.Faults.{Rose};
 ghost use Rattle.edges.specs.declared.acted.Acted.TheVariants.{Did};
 ghost use Rattle.http_out.specs.declared.head.Head.{Head};
 ghost use Rattle.out_buffer.specs.Streamed.{HasTaken};
-ghost use Rattle.http_out.specs.Methods.{shows_body};
 ghost use Rattle.page_answers.specs.Standing.{Standing, found};
 ghost use Rattle.page_machine.specs.Run.{IsInOrder};
 ghost use Rattle.compiled_pages.specs.Pages.{needs_at};
@@ -31,17 +30,15 @@ ghost use Rattle.site_words.specs.declared.words.Op.TheVariants as op;
 ghost use Rattle.site_words.specs.declared.words.Run.{Run};
 
 use crate::beginning::begin_course;
-use crate::refusing::shows_body;
 use crate::replying::write_reply;
+use crate::under_way::UnderWay;
 use compiled_pages::Made;
 use conversation::Outcome;
 use edges::{Ledger, Sink, Steps};
-use http_in::Request;
 use http_out::write_no_memory;
-use request_pages::{Course, Reply, answer};
+use request_pages::{Course, Incoming, Reply, answer};
 use request_port::RequestPort;
 use site_words::{Begun, Port};
-use source_tree::Tree;
 use std::alloc::{AllocError, Global};
 
 /// Answers a request that has begun, and ends it. Where memory is wanting it is abandoned.
@@ -49,8 +46,7 @@ pub(crate) fn serve<Q: Port<Made>, K: Sink, L: Ledger>(
     alloc: Global,
     port: &mut Q,
     begun: Begun,
-    request: &Request,
-    close: bool,
+    incoming: Incoming,
     sink: &mut K,
     steps: &mut Steps<L>,
 ) -> Outcome
@@ -61,9 +57,9 @@ pub(crate) fn serve<Q: Port<Made>, K: Sink, L: Ledger>(
     ensures same { IsSamePort (Q.pass port.old) (Q.pass port.new) (Q.opening port.old) (Q.opening port.new)
         (Q.home port.old) (Q.home port.new) }
     ensures came { (old : Standing) (moments : Moments) →
-        let p : Start = started request.now close (shows_body request.now.method) begun.request
-        (arc_value begun.tree) (found request.now.cookie begun.session begun.attrs) (Q.seen port.old) steps.old
-        (K.taken sink.old) (K.faults sink.old) in
+        let p : Start = started incoming.entry.request.now incoming.entry.close incoming.entry.shown
+        begun.request (arc_value begun.tree) (found incoming.entry.request.now.cookie begun.session
+        begun.attrs) (Q.seen port.old) steps.old (K.taken sink.old) (K.faults sink.old) in
         HasBegun (Q.opening port.old) (Q.pass port.old) old moments p →
         Came (Q.opening port.old) (Q.pass port.old) old moments p (Q.seen port.new) steps.new
         (K.taken sink.new) (K.faults sink.new) result }
@@ -71,7 +67,6 @@ pub(crate) fn serve<Q: Port<Made>, K: Sink, L: Ledger>(
     ensures failed { result ≡ outcome.WriteFault → Rose (K.faults sink.old) (K.faults sink.new) }
 {
     port.law();
-    let shown = shows_body(request);
     let Begun {
         request: number,
         session,
@@ -79,23 +74,17 @@ pub(crate) fn serve<Q: Port<Made>, K: Sink, L: Ledger>(
         attrs,
         ..
     } = begun;
-    let Ok(mut course) = begin_course(alloc, &request.cookie, session, attrs, close, shown) else {
-        return abandon(port, number, close, shown, sink);
-    };
-    match run(
-        alloc,
-        port,
+    let under_way = UnderWay {
         number,
-        &tree,
-        request,
-        close,
-        shown,
-        &mut course,
-        sink,
-        steps,
-    ) {
-        Ok(reply) => finish(alloc, port, number, reply, course, close, shown, sink),
-        Err(AllocError) => give_up(port, number, course.writer.committed(), close, shown, sink),
+        tree: &*tree,
+        incoming,
+    };
+    let Ok(mut course) = begin_course(alloc, incoming, session, attrs) else {
+        return abandon(port, under_way, sink);
+    };
+    match run(alloc, port, under_way, &mut course, sink, steps) {
+        Ok(reply) => finish(alloc, port, under_way, reply, course, sink),
+        Err(AllocError) => give_up(port, under_way, course.writer.committed(), sink),
     }
 }
 
@@ -103,29 +92,31 @@ pub(crate) fn serve<Q: Port<Made>, K: Sink, L: Ledger>(
 fn run<'a, Q: Port<Made>, K: Sink, L: Ledger>(
     alloc: Global,
     port: &'a mut Q,
-    number: u64,
-    tree: &'a Tree,
-    request: &Request,
-    close: bool,
-    shown: bool,
+    under_way: UnderWay<'a>,
     course: &mut Course,
     sink: &mut K,
     steps: &'a mut Steps<L>,
 ) -> Result<Reply, AllocError>
     requires opened { (session : Option ℕ) × (attrs : List (List ℕ × Datum)) × IsOpened
-        (Q.opening port.old) (Q.pass port.old) (Q.seen port.old) number session tree.now × IsBegun
-        request.now.cookie session attrs close shown course.old × (attrs_weight attrs ≤ attrs_limit) }
+        (Q.opening port.old) (Q.pass port.old) (Q.seen port.old) under_way.number session
+        under_way.tree.now × IsBegun under_way.incoming.request.now.cookie session attrs
+        under_way.incoming.close under_way.incoming.shown course.old × (attrs_weight attrs ≤ attrs_limit) }
     ensures same { IsSamePort (Q.pass port.old) (Q.pass port.new) (Q.opening port.old) (Q.opening port.new)
         (Q.home port.old) (Q.home port.new) }
-    ensures under { (now : Run) × Under (Q.opening port.new) (Q.pass port.new) (Q.seen port.new) number tree.now now }
+    ensures under { (now : Run) × Under (Q.opening port.new) (Q.pass port.new) (Q.seen port.new)
+        under_way.entry.number under_way.entry.tree.now now }
     ensures ran { (session : Option ℕ) (attrs : List (List ℕ × Datum)) →
-        IsBegun request.now.cookie session attrs close shown course.old
-        → RunsSo (Q.opening port.old) (Q.pass port.old) (started request.now close shown number tree.now
-        (found request.now.cookie session attrs) (Q.seen port.old) steps.old (K.taken sink.old)
-        (K.faults sink.old)) (Q.seen port.new) steps.new course.new (K.taken sink.new) (K.faults sink.new)
-        result }
+        IsBegun under_way.entry.incoming.request.now.cookie session attrs
+        under_way.entry.incoming.close under_way.entry.incoming.shown course.old
+        → RunsSo (Q.opening port.old) (Q.pass port.old) (started
+        under_way.entry.incoming.request.now under_way.entry.incoming.close
+        under_way.entry.incoming.shown under_way.entry.number under_way.entry.tree.now
+        (found under_way.entry.incoming.request.now.cookie session attrs) (Q.seen port.old) steps.old
+        (K.taken sink.old) (K.faults sink.old)) (Q.seen port.new) steps.new course.new
+        (K.taken sink.new) (K.faults sink.new) result }
     ensures in_order { OnOk result (IsInOrder course.new.scopes course.new.around
-        (asking_of (Q.opening port.new) (Q.pass port.new) (Q.seen port.new) number tree.now)) }
+        (asking_of (Q.opening port.new) (Q.pass port.new) (Q.seen port.new) under_way.entry.number
+        under_way.entry.tree.now)) }
     ensures later { K.faults sink.old ≤ K.faults sink.new }
 {
     port.law();
@@ -133,12 +124,12 @@ fn run<'a, Q: Port<Made>, K: Sink, L: Ledger>(
         alloc,
         port,
         steps,
-        tree,
-        request: number,
+        tree: under_way.tree,
+        request: under_way.number,
         starved: false,
         last: None,
     };
-    let replied = answer(alloc, request, close, shown, course, sink, &mut asked);
+    let replied = answer(alloc, under_way.incoming, course, sink, &mut asked);
     let RequestPort {
         port,
         steps,
@@ -174,26 +165,27 @@ fn come_back<Q: Port<Made>, L: Ledger>(
 fn finish<Q: Port<Made>, K: Sink>(
     alloc: Global,
     port: &mut Q,
-    number: u64,
+    under_way: UnderWay,
     reply: Reply,
     course: Course,
-    close: bool,
-    shown: bool,
     sink: &mut K,
 ) -> Outcome
     requires ends { May (Q.opening port.old) (Q.seen port.old) (Q.pass port.old)
-        (own (Q.pass port.old) (Q.seen port.old)) (op.End number (unwrap_or course.scopes.session [])) }
+        (own (Q.pass port.old) (Q.seen port.old)) (op.End under_way.number
+        (unwrap_or course.scopes.session [])) }
     requires drops { May (Q.opening port.old) (Q.seen port.old) (Q.pass port.old)
-        (own (Q.pass port.old) (Q.seen port.old)) (op.Abandon number) }
+        (own (Q.pass port.old) (Q.seen port.old)) (op.Abandon under_way.number) }
     ensures idle { IsIdle (Q.opening port.new) (Q.pass port.new) (Q.seen port.new) }
     ensures same { IsSamePort (Q.pass port.old) (Q.pass port.new) (Q.opening port.old) (Q.opening port.new)
         (Q.home port.old) (Q.home port.new) }
     ensures came { (p : Start) (old : Standing) (moments : Moments) (now : ℕ) →
-        IsAt p number close shown → HasBegun (Q.opening port.old) (Q.pass port.old) old moments p
+        IsAt p under_way.entry.number under_way.entry.incoming.close under_way.entry.incoming.shown →
+        HasBegun (Q.opening port.old) (Q.pass port.old) old moments p
         → Replies (Q.opening port.old) (Q.pass port.old) p (Q.seen port.old) now course (K.taken sink.old)
         (K.faults sink.old) reply → Came (Q.opening port.old) (Q.pass port.old) old moments p
         (Q.seen port.new) now (K.taken sink.new) (K.faults sink.new) result }
-    ensures failed { (p : Start) (now : ℕ) → IsAt p number close shown →
+    ensures failed { (p : Start) (now : ℕ) → IsAt p under_way.entry.number
+        under_way.entry.incoming.close under_way.entry.incoming.shown →
         Replies (Q.opening port.old) (Q.pass port.old) p (Q.seen port.old) now course (K.taken sink.old)
         (K.faults sink.old) reply → result ≡ outcome.WriteFault → Rose p.faults (K.faults sink.new) }
     ensures later { K.faults sink.old ≤ K.faults sink.new }
@@ -203,12 +195,12 @@ fn finish<Q: Port<Made>, K: Sink>(
         writer,
         around,
     } = course;
-    match write_reply(alloc, reply, writer, &around, close, shown, sink) {
+    match write_reply(alloc, reply, writer, &around, under_way.incoming, sink) {
         Ok(outcome) => {
-            port.end(number, scopes.into_session());
+            port.end(under_way.number, scopes.into_session());
             outcome
         }
-        Err(AllocError) => abandon(port, number, close, shown, sink),
+        Err(AllocError) => abandon(port, under_way, sink),
     }
 }
 
@@ -218,21 +210,19 @@ fn finish<Q: Port<Made>, K: Sink>(
 #[inline(never)]
 fn give_up<Q: Port<Made>, K: Sink>(
     port: &mut Q,
-    number: u64,
+    under_way: UnderWay,
     committed: bool,
-    close: bool,
-    shown: bool,
     sink: &mut K,
 ) -> Outcome
     requires drops { May (Q.opening port.old) (Q.seen port.old) (Q.pass port.old)
-        (own (Q.pass port.old) (Q.seen port.old)) (op.Abandon number) }
+        (own (Q.pass port.old) (Q.seen port.old)) (op.Abandon under_way.number) }
     ensures idle { IsIdle (Q.opening port.new) (Q.pass port.new) (Q.seen port.new) }
     ensures same { IsSamePort (Q.pass port.old) (Q.pass port.new) (Q.opening port.old) (Q.opening port.new)
         (Q.home port.old) (Q.home port.new) }
     ensures came { (p : Start) (old : Standing) (moments : Moments) (now : ℕ) (course : Course')
         (ran : Ran (Q.opening port.old) (Q.pass port.old) p (Q.seen port.old) course (K.taken sink.old)
-        (K.faults sink.old)) → IsAt p number close shown
-        → HasBegun (Q.opening port.old) (Q.pass port.old) old moments p →
+        (K.faults sink.old)) → IsAt p under_way.entry.number under_way.entry.incoming.close
+        under_way.entry.incoming.shown → HasBegun (Q.opening port.old) (Q.pass port.old) old moments p →
         committed ≡ course.writer.committed →
         Starves (Q.opening port.old) (Q.pass port.old) p (Q.seen port.old) now course.writer.head ran.after
         → Came (Q.opening port.old) (Q.pass port.old) old moments p (Q.seen port.new) now (K.taken sink.new)
@@ -241,30 +231,24 @@ fn give_up<Q: Port<Made>, K: Sink>(
     ensures later { K.faults sink.old ≤ K.faults sink.new }
 {
     if committed {
-        port.abandon(number);
+        port.abandon(under_way.number);
         return Outcome::NoMemory;
     }
-    abandon(port, number, close, shown, sink)
+    abandon(port, under_way, sink)
 }
 
 // Abandons a request of which nothing was committed, and says that memory was wanting.
 #[cold]
 #[inline(never)]
-fn abandon<Q: Port<Made>, K: Sink>(
-    port: &mut Q,
-    number: u64,
-    close: bool,
-    shown: bool,
-    sink: &mut K,
-) -> Outcome
+fn abandon<Q: Port<Made>, K: Sink>(port: &mut Q, under_way: UnderWay, sink: &mut K) -> Outcome
     requires drops { May (Q.opening port.old) (Q.seen port.old) (Q.pass port.old)
-        (own (Q.pass port.old) (Q.seen port.old)) (op.Abandon number) }
+        (own (Q.pass port.old) (Q.seen port.old)) (op.Abandon under_way.number) }
     ensures idle { IsIdle (Q.opening port.new) (Q.pass port.new) (Q.seen port.new) }
     ensures same { IsSamePort (Q.pass port.old) (Q.pass port.new) (Q.opening port.old) (Q.opening port.new)
         (Q.home port.old) (Q.home port.new) }
     ensures came { (p : Start) (old : Standing) (moments : Moments) (now : ℕ) (head : Head)
-        (reached : State) → IsAt p number close shown →
-        HasBegun (Q.opening port.old) (Q.pass port.old) old moments p
+        (reached : State) → IsAt p under_way.entry.number under_way.entry.incoming.close
+        under_way.entry.incoming.shown → HasBegun (Q.opening port.old) (Q.pass port.old) old moments p
         → Starves (Q.opening port.old) (Q.pass port.old) p (Q.seen port.old) now head reached →
         reached.writer.pieces ≡ [] → HasTaken p.taken p.faults [] false (K.taken sink.old) (K.faults sink.old)
         → Came (Q.opening port.old) (Q.pass port.old) old moments p (Q.seen port.new) now (K.taken sink.new)
@@ -272,8 +256,13 @@ fn abandon<Q: Port<Made>, K: Sink>(
     ensures outcome { result ≡ outcome.NoMemory }
     ensures later { K.faults sink.old ≤ K.faults sink.new }
 {
-    port.abandon(number);
+    port.abandon(under_way.number);
     let mut failed = false;
-    write_no_memory(sink, &mut failed, close, shown);
+    write_no_memory(
+        sink,
+        &mut failed,
+        under_way.incoming.close,
+        under_way.incoming.shown,
+    );
     Outcome::NoMemory
 }

@@ -6,7 +6,6 @@ use Rattle.dispatch.proofs.ServedLemmas.{drops_taken, starves_silently}
 use Rattle.dispatch.proofs.responding.respond.Goals as goal
 use Rattle.dispatch.specs.Opened.{IsOpened}
 use Rattle.dispatch.specs.Started.{Came, HasBegun, Start, started}
-use Rattle.http_out.specs.Methods.{shows_body}
 use Rattle.page_answers.specs.Dropped.{Drops}
 use Rattle.page_answers.specs.Standing.{found, standing_of}
 use Rattle.compiled_pages.specs.Pages.{needs_at}
@@ -44,7 +43,7 @@ returns-in-Did-clause-served g c =
     let same = c.begin.ensures.same in
     let moments = g.C.Clock.moments c.now-moment.new.self in
     let old = standing_of (g.Q.Port.seen port) (g.C.Clock.moments c.args.clock.now) c.args.steps.now in
-    let p : Start = started request c.args.close (shows_body request.method) begun.request (arc_value begun.tree) (found request.cookie begun.session begun.attrs) (g.Q.Port.seen mid) c.args.steps.now (g.K.Sink.taken c.args.sink.now) (g.K.Sink.faults c.args.sink.now) in
+    let p : Start = started request c.args.close c.shows_body.result begun.request (arc_value begun.tree) (found request.cookie begun.session begun.attrs) (g.Q.Port.seen mid) c.args.steps.now (g.K.Sink.taken c.args.sink.now) (g.K.Sink.faults c.args.sink.now) in
     at_same (λ (x : Opening) (pass : ℕ). HasBegun x pass old moments p → Came x pass old moments p (g.Q.Port.seen c.serve.new.port) c.serve.new.steps (g.K.Sink.taken c.serve.new.sink) (g.K.Sink.faults c.serve.new.sink) c.serve.result) x (g.Q.Port.opening mid) pass
     (g.Q.Port.pass mid) same.1 same.0 (c.serve.ensures.came old moments)
     (record {
@@ -61,7 +60,7 @@ returns-in-Did-clause-served g c =
       tree = starts.0;
       found = ap (found request.cookie begun.session) starts.1;
       steps = refl;
-      shown = refl;
+      shown = c.shows_body.ensures;
       takes = sym c.if-not-takes_method.ensures;
     })
 

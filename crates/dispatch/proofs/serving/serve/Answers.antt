@@ -6,7 +6,6 @@ use Rattle.dispatch.proofs.serving.serve.Goals as goal
 use Rattle.dispatch.specs.Begun.{empty_head}
 use Rattle.dispatch.specs.Opened.{IsOpened}
 use Rattle.dispatch.specs.Started.{Came, HasBegun, Ran, Replies, Start, Starves, started}
-use Rattle.http_out.specs.Methods.{shows_body}
 use Rattle.page_answers.specs.Standing.{found}
 use Rattle.compiled_pages.specs.Pages.{needs_at}
 use Rattle.page_meaning.specs.Respond.{beginning}
@@ -36,31 +35,30 @@ returns-in_default-clause-came g c = λ old moments begins.
     let port = c.args.port.now in
     let x = g.Q.Port.opening port in
     let pass = g.Q.Port.pass port in
-    let request = c.args.request.now in
+    let request = c.args.incoming.request.now in
     let begun = c.args.begun in
-    let shown = c.shows_body-shown.result in
+    let shown = c.args.incoming.shown in
     let tree = arc_value begun.tree in
     let session = found request.cookie begun.session begun.attrs in
     let taken = g.K.Sink.taken c.args.sink.now in
     let faults = g.K.Sink.faults c.args.sink.now in
-    let p : Start = started request c.args.close shown begun.request tree session (g.Q.Port.seen port) c.args.steps.now taken faults in
-    let here = begun_as x pass old moments request c.args.close shown (shows_body request.method) begun.request tree tree session (g.Q.Port.seen port) c.args.steps.now taken faults c.shows_body-shown.ensures refl begins in
-    c.abandon.ensures.came p old moments c.args.steps.now (empty_head c.args.close) (beginning session []) (record { number_is = refl; close_is = refl; shown_is = refl }) here (begun_starves x pass p (empty_head c.args.close) c.law.ensures.legal) refl (none_taken taken faults)
+    let p : Start = started request c.args.incoming.close shown begun.request tree session (g.Q.Port.seen port) c.args.steps.now taken faults in
+    c.abandon.ensures.came p old moments c.args.steps.now (empty_head c.args.incoming.close) (beginning session []) (record { number_is = refl; close_is = refl; shown_is = refl }) begins (begun_starves x pass p (empty_head c.args.incoming.close) c.law.ensures.legal) refl (none_taken taken faults)
 
 pub returns-in-Ok-run-clause-came : goal.returns-in-Ok-run-clause-came
 returns-in-Ok-run-clause-came g c = λ old moments begins.
     let port = c.args.port.now in
     let x = g.Q.Port.opening port in
     let pass = g.Q.Port.pass port in
-    let request = c.args.request.now in
+    let request = c.args.incoming.request.now in
     let begun = c.args.begun in
-    let shown = c.shows_body-shown.result in
+    let shown = c.args.incoming.shown in
     let tree = c.deref.result.now in
     let session = found request.cookie begun.session begun.attrs in
     let taken = g.K.Sink.taken c.args.sink.now in
     let faults = g.K.Sink.faults c.args.sink.now in
-    let p : Start = started request c.args.close shown begun.request tree session (g.Q.Port.seen port) c.args.steps.now taken faults in
-    let here = begun_as x pass old moments request c.args.close shown (shows_body request.method) begun.request (arc_value begun.tree) tree session (g.Q.Port.seen port) c.args.steps.now taken faults c.shows_body-shown.ensures c.deref.ensures begins in
+    let p : Start = started request c.args.incoming.close shown begun.request tree session (g.Q.Port.seen port) c.args.steps.now taken faults in
+    let here = begun_as x pass old moments request c.args.incoming.close shown begun.request (arc_value begun.tree) tree session (g.Q.Port.seen port) c.args.steps.now taken faults c.deref.ensures begins in
     let replies = c.in-Ok-run.ensures.ran begun.session begun.attrs c.in-Ok.ensures in
     let mid = c.run.new.port in
     let same = c.run.ensures.same in
@@ -74,15 +72,15 @@ returns-clause-came g c = λ old moments begins.
     let port = c.args.port.now in
     let x = g.Q.Port.opening port in
     let pass = g.Q.Port.pass port in
-    let request = c.args.request.now in
+    let request = c.args.incoming.request.now in
     let begun = c.args.begun in
-    let shown = c.shows_body-shown.result in
+    let shown = c.args.incoming.shown in
     let tree = c.deref.result.now in
     let session = found request.cookie begun.session begun.attrs in
     let taken = g.K.Sink.taken c.args.sink.now in
     let faults = g.K.Sink.faults c.args.sink.now in
-    let p : Start = started request c.args.close shown begun.request tree session (g.Q.Port.seen port) c.args.steps.now taken faults in
-    let here = begun_as x pass old moments request c.args.close shown (shows_body request.method) begun.request (arc_value begun.tree) tree session (g.Q.Port.seen port) c.args.steps.now taken faults c.shows_body-shown.ensures c.deref.ensures begins in
+    let p : Start = started request c.args.incoming.close shown begun.request tree session (g.Q.Port.seen port) c.args.steps.now taken faults in
+    let here = begun_as x pass old moments request c.args.incoming.close shown begun.request (arc_value begun.tree) tree session (g.Q.Port.seen port) c.args.steps.now taken faults c.deref.ensures begins in
     let starves = c.in-Err.ensures.ran begun.session begun.attrs c.in-Ok.ensures in
     let mid = c.run.new.port in
     let same = c.run.ensures.same in
