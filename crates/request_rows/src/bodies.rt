@@ -44,16 +44,31 @@ fn body_size(request: Result<Option<Request>, Failure<HttpFault>>) -> Option<usi
 pub fn told_by_calls(alloc: Global, bytes: &[u8]) -> Result<String, AllocError> {
     let fails = vec![in alloc; 20, 48, 50]?;
     let mut source = MemSource::new(bytes.to_vec(alloc)?, 1, fails);
-    let mut rest = Rest::new(alloc);
     let mut told = String::new(alloc);
-    for _ in 0..4 {
-        match read_request(alloc, &mut source, &mut rest) {
-            Ok(Some(request)) => {
-                told.push_str(str::from_utf8(request.body.as_slice()).unwrap_or("?"))?;
-            }
-            Err(Failure::Fault(HttpFault::ReadFault)) => told.push_str("ReadFault ")?,
-            _ => told.push_str("other ")?,
-        }
-    }
+    add_calls(alloc, &mut told, &mut source)?;
     Ok(told)
+}
+
+// Adds what each call tells.
+fn add_calls(alloc: Global, told: &mut String, source: &mut MemSource) -> Result<(), AllocError> {
+    let mut rest = Rest::new(alloc);
+    for _ in 0..4 {
+        add_call(alloc, told, source, &mut rest)?;
+    }
+    Ok(())
+}
+
+fn add_call(
+    alloc: Global,
+    told: &mut String,
+    source: &mut MemSource,
+    rest: &mut Rest,
+) -> Result<(), AllocError> {
+    match read_request(alloc, source, rest) {
+        Ok(Some(request)) => {
+            told.push_str(str::from_utf8(request.body.as_slice()).unwrap_or("?"))
+        }
+        Err(Failure::Fault(HttpFault::ReadFault)) => told.push_str("ReadFault "),
+        _ => told.push_str("other "),
+    }
 }

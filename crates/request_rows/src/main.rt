@@ -29,57 +29,85 @@ const SIGNS: [(&str, &str); 3] = [("¶", "\r\n"), ("↵", "\n"), ("␍", "\r")];
 
 fn main(rt: HostRuntime) -> io::Result<()> {
     one_cut();
-    let alloc = rt.alloc();
-    let mut row = Vec::new(alloc);
-    for line in rt.lines(alloc) {
-        let line = line?;
-        println!(rt; "{}", line.as_str())?;
-        if line.starts_with("# ") {
-            continue;
-        }
-        if !line.is_empty() {
-            row.push(line)?;
-        } else if !row.is_empty() {
-            println!(rt; "> {}\n", told(alloc, &row)?.as_str())?;
-            row.clear();
-        }
+    let mut row = Vec::new(rt.alloc());
+    for line in rt.lines(rt.alloc()) {
+        take(&rt, &mut row, line)?;
     }
     Ok(())
 }
 
-// What is told of these lines. Line feeds in it are written.
+// Writes a line that was read, and adds it to a row, or ends that.
+fn take(rt: &HostRuntime, row: &mut Vec<String>, line: io::Result<String>) -> io::Result<()> {
+    let line = line?;
+    println!(rt; "{}", line.as_str())?;
+    if line.is_empty() {
+        return end(rt, row);
+    }
+    if !line.starts_with("# ") {
+        row.push(line)?;
+    }
+    Ok(())
+}
+
+// Writes what is told of a row, where there is one.
+fn end(rt: &HostRuntime, row: &mut Vec<String>) -> io::Result<()> {
+    if !row.is_empty() {
+        let told = told(rt.alloc(), row.as_slice())?;
+        println!(rt; "> {}\n", told.as_str())?;
+        row.clear();
+    }
+    Ok(())
+}
+
+// What is told of these lines. Line ends in it are written.
 fn told(alloc: Global, lines: &[String]) -> Result<String, AllocError> {
     let Some((first, written)) = lines.split_first() else {
         return String::from_str(alloc, "nothing is told");
     };
-    let (kind, word) = first
-        .as_str()
-        .split_once(' ')
-        .unwrap_or((first.as_str(), ""));
+    let told = told_of(alloc, first.as_str(), written)?;
+    on_a_line(alloc, told.as_str())
+}
+
+fn on_a_line(alloc: Global, text: &str) -> Result<String, AllocError> {
+    let text = text.replace(alloc, "\r", "␍")?;
+    text.replace(alloc, "\n", "↵")
+}
+
+fn told_of(alloc: Global, first: &str, written: &[String]) -> Result<String, AllocError> {
+    let (kind, word) = first.split_once(' ').unwrap_or((first, ""));
     let bytes = bytes_of(alloc, written)?;
-    let told = match kind {
+    match kind {
         "requests" => told_both_ways(alloc, &bytes),
         "fails" => told_failing(alloc, &bytes, word),
         "size" => bodies::sizes_told(alloc, &bytes),
         "calls" => bodies::told_by_calls(alloc, &bytes),
         _ => only_told(alloc, kind, word, &bytes),
-    };
-    told?.replace(alloc, "\r", "␍")?.replace(alloc, "\n", "↵")
+    }
 }
 
 // The bytes of these lines, one behind the other.
 fn bytes_of(alloc: Global, written: &[String]) -> Result<Vec<u8>, AllocError> {
     let mut bytes = Vec::new(alloc);
     for line in written {
-        let text = written_out(alloc, line.as_str(), &SIGNS)?;
-        let mut is_first = true;
-        for piece in text.as_str().split('ÿ') {
-            if !is_first {
-                bytes.push(255)?;
-            }
-            is_first = false;
-            bytes.extend_from_slice(piece.as_bytes())?;
-        }
+        add_line(alloc, &mut bytes, line.as_str())?;
     }
     Ok(bytes)
+}
+
+fn add_line(alloc: Global, bytes: &mut Vec<u8>, line: &str) -> Result<(), AllocError> {
+    let text = written_out(alloc, line, &SIGNS)?;
+    add_text(bytes, text.as_str())
+}
+
+// Adds the bytes of a text, in which `ÿ` is the byte 255.
+fn add_text(bytes: &mut Vec<u8>, text: &str) -> Result<(), AllocError> {
+    let mut is_first = true;
+    for piece in text.split('ÿ') {
+        if !is_first {
+            bytes.push(255)?;
+        }
+        is_first = false;
+        bytes.extend_from_slice(piece.as_bytes())?;
+    }
+    Ok(())
 }

@@ -1,7 +1,7 @@
 // Requests that are read from bytes in memory.
 ghost use Rattle.std.specs.Prelude.{◌≤◌};
 
-use crate::shown::{add_line, fields, name_of, parts};
+use crate::shown::{add_line, add_parts, fields, name_of};
 use edges::MemSource;
 use http_in::{Request, Rest, read_request};
 use pg_text::{Failure, Text, whole_number};
@@ -9,55 +9,77 @@ use std::alloc::{AllocError, Global};
 
 // Each request as a line, and then what stops them. Each read gives so many bytes, but for those
 // that fail.
-fn told(alloc: Global, bytes: &[u8], piece: usize, fails: Vec<u64>) -> Result<String, AllocError>
+fn told(alloc: Global, bytes: &[u8], piece: usize, fails: &[u64]) -> Result<String, AllocError>
     requires { 1 ≤ piece }
 {
-    let mut source = MemSource::new(bytes.to_vec(alloc)?, piece, fails);
-    let mut rest = Rest::new(alloc);
+    let mut source = source_of(alloc, bytes, piece, fails)?;
     let mut told = String::new(alloc);
+    add_all(alloc, &mut told, &mut source)?;
+    Ok(told)
+}
+
+// A source of these bytes.
+fn source_of(
+    alloc: Global,
+    bytes: &[u8],
+    piece: usize,
+    fails: &[u64],
+) -> Result<MemSource, AllocError>
+    requires { 1 ≤ piece }
+{
+    let bytes = bytes.to_vec(alloc)?;
+    Ok(MemSource::new(bytes, piece, fails.to_vec(alloc)?))
+}
+
+// Adds ten requests at most, and what stops them.
+fn add_all(alloc: Global, told: &mut String, source: &mut MemSource) -> Result<(), AllocError> {
+    let mut rest = Rest::new(alloc);
     for _ in 0..10 {
-        if !add_next(alloc, &mut source, &mut rest, &mut told)? {
+        if !add_next(alloc, told, source, &mut rest)? {
             break;
         }
     }
-    Ok(told)
+    Ok(())
 }
 
 // Adds the next request, or what stops them; and whether another may come.
 fn add_next(
     alloc: Global,
+    told: &mut String,
     source: &mut MemSource,
     rest: &mut Rest,
-    told: &mut String,
 ) -> Result<bool, AllocError> {
     match read_request(alloc, source, rest) {
-        Ok(Some(request)) => {
-            add_line(told, &request)?;
-            Ok(true)
-        }
-        Ok(None) => {
-            told.push_str("end")?;
-            Ok(false)
-        }
+        Ok(Some(request)) => add_request(told, &request),
+        Ok(None) => add_end(told, "end"),
         Err(Failure::NoMemory) => Err(AllocError),
-        Err(Failure::Fault(fault)) => {
-            told.push_str(name_of(fault))?;
-            Ok(false)
-        }
+        Err(Failure::Fault(fault)) => add_end(told, name_of(fault)),
     }
+}
+
+// Adds a request, behind which another may come.
+fn add_request(told: &mut String, request: &Request) -> Result<bool, AllocError> {
+    add_line(told, request)?;
+    Ok(true)
+}
+
+// Adds what stops them.
+fn add_end(told: &mut String, end: &str) -> Result<bool, AllocError> {
+    told.push_str(end)?;
+    Ok(false)
 }
 
 /// Each request as a line, and then what stops them.
 pub fn told_both_ways(alloc: Global, bytes: &[u8]) -> Result<String, AllocError> {
-    let by_bytes = told(alloc, bytes, 1, Vec::new(alloc))?;
-    let at_once = told(alloc, bytes, 65_536, Vec::new(alloc))?;
+    let by_bytes = told(alloc, bytes, 1, &[])?;
+    let at_once = told(alloc, bytes, 65_536, &[])?;
     same(alloc, by_bytes, at_once)
 }
 
 /// The same where seven bytes come at a time and the read of this number fails.
 pub fn told_failing(alloc: Global, bytes: &[u8], number: &str) -> Result<String, AllocError> {
     let call = whole_number(number.as_bytes()).unwrap_or(0);
-    told(alloc, bytes, 7, vec![in alloc; call]?)
+    told(alloc, bytes, 7, &[call])
 }
 
 /// What is told of the only request in these bytes.
@@ -67,48 +89,61 @@ pub fn only_told(
     word: &str,
     bytes: &[u8],
 ) -> Result<String, AllocError> {
-    let by_bytes = told_of(alloc, kind, word, only_request(alloc, bytes, 1)?)?;
-    let at_once = told_of(alloc, kind, word, only_request(alloc, bytes, 65_536)?)?;
+    let by_bytes = told_in(alloc, kind, word, bytes, 1)?;
+    let at_once = told_in(alloc, kind, word, bytes, 65_536)?;
     same(alloc, by_bytes, at_once)
 }
 
-fn told_of(
+// The same where each read gives so many bytes.
+fn told_in(
     alloc: Global,
     kind: &str,
     word: &str,
-    request: Option<Request>,
-) -> Result<String, AllocError> {
-    let Some(request) = request else {
-        return String::from_str(alloc, "not one request");
-    };
+    bytes: &[u8],
+    piece: usize,
+) -> Result<String, AllocError>
+    requires { 1 ≤ piece }
+{
+    match only_request(alloc, bytes, piece)? {
+        Some(request) => told_of(alloc, kind, word, request),
+        None => String::from_str(alloc, "not one request"),
+    }
+}
+
+fn told_of(alloc: Global, kind: &str, word: &str, request: Request) -> Result<String, AllocError> {
     match kind {
         "fields" => fields(alloc, &request),
-        "to" => line_told(
-            alloc,
-            &request.retarget(alloc, Text::copy_of(alloc, word)?)?,
-        ),
+        "to" => told_at(alloc, word, request),
         _ => parts_told(alloc, &request),
     }
+}
+
+// The line and the parts of a request that goes to this target.
+fn told_at(alloc: Global, target: &str, request: Request) -> Result<String, AllocError> {
+    let target = Text::copy_of(alloc, target)?;
+    let request = request.retarget(alloc, target)?;
+    line_told(alloc, &request)
 }
 
 fn line_told(alloc: Global, request: &Request) -> Result<String, AllocError> {
     let mut told = String::new(alloc);
     add_line(&mut told, request)?;
-    told.push_str(parts(alloc, request)?.as_str())?;
+    add_parts(&mut told, request)?;
     Ok(told)
 }
 
 fn parts_told(alloc: Global, request: &Request) -> Result<String, AllocError> {
     let count = request.fields.len();
-    let parts = parts(alloc, request)?;
-    format!(in alloc; "{count}|{}", parts.as_str())
+    let mut told = format!(in alloc; "{count}|")?;
+    add_parts(&mut told, request)?;
+    Ok(told)
 }
 
 // The one request in the bytes, of which each read gives so many, where there is one alone.
 fn only_request(alloc: Global, bytes: &[u8], piece: usize) -> Result<Option<Request>, AllocError>
     requires { 1 ≤ piece }
 {
-    let mut source = MemSource::new(bytes.to_vec(alloc)?, piece, Vec::new(alloc));
+    let mut source = source_of(alloc, bytes, piece, &[])?;
     let mut rest = Rest::new(alloc);
     match read_request(alloc, &mut source, &mut rest) {
         Ok(Some(request)) if rest.is_empty() => Ok(Some(request)),

@@ -10,8 +10,8 @@ pub fn add_line(told: &mut String, request: &Request) -> Result<(), AllocError> 
     write!(told, "{method} {target} {body}{close}\n")
 }
 
-/// The path, the query, the parameters and the session of a request, with a bar behind each.
-pub fn parts(alloc: Global, request: &Request) -> Result<String, AllocError> {
+/// Adds the path, the query, the parameters and the session of a request, with a bar behind each.
+pub fn add_parts(told: &mut String, request: &Request) -> Result<(), AllocError> {
     let path = match &request.path {
         Some(path) => path.as_str(),
         None => "none",
@@ -20,12 +20,11 @@ pub fn parts(alloc: Global, request: &Request) -> Result<String, AllocError> {
         Some(query) => query.as_str(),
         None => "none",
     };
-    let mut told = format!(in alloc; "{path}|{query}|")?;
+    write!(told, "{path}|{query}|")?;
     for param in request.params.as_slice() {
         write!(told, "({},{})", param.name.as_str(), param.value.as_str())?;
     }
-    write!(told, "|{}|", request.cookie.as_str())?;
-    Ok(told)
+    write!(told, "|{}|", request.cookie.as_str())
 }
 
 /// The fields of a request, with a bar behind each.
