@@ -25,38 +25,66 @@ pub fn json_told(alloc: Global, written: &[String]) -> Result<String, AllocError
     String::from_str(alloc, told)
 }
 
-/// The values of these texts, where each has one.
-pub fn values_of(alloc: Global, written: &[String]) -> Result<Option<Vec<Value>>, AllocError> {
+/// The values of these texts, or the fault of the first that has none.
+pub fn values_of(alloc: Global, written: &[String]) -> Result<Vec<Value>, Failure<JsonFault>> {
     let mut values = Vec::new(alloc);
     for text in written {
-        match from_json(alloc, text.as_str().as_bytes()) {
-            Ok(value) => values.push(value)?,
-            Err(Failure::Fault(_)) => return Ok(None),
-            Err(Failure::NoMemory) => return Err(AllocError),
-        }
+        add_value(alloc, &mut values, text.as_str())?;
     }
-    Ok(Some(values))
+    Ok(values)
 }
 
-/// What comes of one value.
-pub fn one_told(alloc: Global, act: &str, word: &str, value: &Value) -> Result<String, AllocError> {
+fn add_value(alloc: Global, values: &mut Vec<Value>, text: &str) -> Result<(), Failure<JsonFault>> {
+    let value = from_json(alloc, text.as_bytes())?;
+    values.push(value)?;
+    Ok(())
+}
+
+/// What comes of these values.
+pub fn values_told(
+    alloc: Global,
+    act: &str,
+    word: &str,
+    values: &[Value],
+) -> Result<String, AllocError> {
+    match values {
+        [value] => one_told(alloc, act, word, value),
+        [left, right] => two_told(alloc, act, word, left, right),
+        _ => String::from_str(alloc, "nothing is done with so many values"),
+    }
+}
+
+// What comes of one value.
+fn one_told(alloc: Global, act: &str, word: &str, value: &Value) -> Result<String, AllocError> {
     match act {
-        "text" => match to_text(alloc, value) {
-            Ok(text) => text_told(alloc, "", text.as_str()),
-            Err(failure) => fault_told(alloc, failure),
-        },
-        "number" => match to_int(value) {
-            Ok(number) => format!(in alloc; "{number}"),
-            Err(fault) => String::from_str(alloc, fault.name()),
-        },
-        "truth" => match to_bool(value) {
-            Ok(truth) => format!(in alloc; "{truth}"),
-            Err(fault) => String::from_str(alloc, fault.name()),
-        },
+        "text" => to_text_told(alloc, value),
+        "number" => number_told(alloc, value),
+        "truth" => truth_told(alloc, value),
         "measure" => measured_told(alloc, value),
         "unary" => value_told(alloc, unary(unary_of(word), value).map_err(Failure::Fault)),
         "rounds" => rounds_told(alloc, word, value),
         _ => call_told(alloc, word, value),
+    }
+}
+
+fn to_text_told(alloc: Global, value: &Value) -> Result<String, AllocError> {
+    match to_text(alloc, value) {
+        Ok(text) => text_told(alloc, "", text.as_str()),
+        Err(failure) => fault_told(alloc, failure),
+    }
+}
+
+fn number_told(alloc: Global, value: &Value) -> Result<String, AllocError> {
+    match to_int(value) {
+        Ok(number) => format!(in alloc; "{number}"),
+        Err(fault) => String::from_str(alloc, fault.name()),
+    }
+}
+
+fn truth_told(alloc: Global, value: &Value) -> Result<String, AllocError> {
+    match to_bool(value) {
+        Ok(truth) => format!(in alloc; "{truth}"),
+        Err(fault) => String::from_str(alloc, fault.name()),
     }
 }
 
@@ -66,8 +94,8 @@ fn measured_told(alloc: Global, value: &Value) -> Result<String, AllocError> {
     format!(in alloc; "{heavy} {deep} {large}")
 }
 
-/// What comes of two values.
-pub fn two_told(
+// What comes of two values.
+fn two_told(
     alloc: Global,
     act: &str,
     word: &str,

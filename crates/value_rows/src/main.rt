@@ -16,25 +16,45 @@ mod operators;
 mod rounds;
 mod shown;
 
+use pg_value::Failure;
 use row_text::written_out;
 use std::alloc::{AllocError, Global};
 use std::io;
 
 fn main(rt: HostRuntime) -> io::Result<()> {
-    let alloc = rt.alloc();
-    let mut row = Vec::new(alloc);
-    for line in rt.lines(alloc) {
-        let line = line?;
-        println!(rt; "{}", line.as_str())?;
-        if line.starts_with("# ") {
-            continue;
-        }
-        if !line.is_empty() {
-            row.push(written_out(alloc, line.as_str(), &[])?)?;
-        } else if !row.is_empty() {
-            println!(rt; "> {}\n", told(alloc, &row)?.as_str())?;
-            row.clear();
-        }
+    let mut row = Vec::new(rt.alloc());
+    for line in rt.lines(rt.alloc()) {
+        take(&rt, &mut row, line)?;
+    }
+    Ok(())
+}
+
+// Writes a line that was read, and adds it to a row, or ends that.
+fn take(rt: &HostRuntime, row: &mut Vec<String>, line: io::Result<String>) -> io::Result<()> {
+    let line = line?;
+    println!(rt; "{}", line.as_str())?;
+    if line.is_empty() {
+        end(rt, row)
+    } else if line.starts_with("# ") {
+        Ok(())
+    } else {
+        add(rt.alloc(), row, line.as_str())
+    }
+}
+
+// Adds a line to a row.
+fn add(alloc: Global, row: &mut Vec<String>, line: &str) -> io::Result<()> {
+    let line = written_out(alloc, line, &[])?;
+    row.push(line)?;
+    Ok(())
+}
+
+// Writes what is told of a row, where there is one.
+fn end(rt: &HostRuntime, row: &mut Vec<String>) -> io::Result<()> {
+    if !row.is_empty() {
+        let told = told(rt.alloc(), row.as_slice())?;
+        println!(rt; "> {}\n", told.as_str())?;
+        row.clear();
     }
     Ok(())
 }
@@ -51,12 +71,9 @@ fn told(alloc: Global, lines: &[String]) -> Result<String, AllocError> {
     if act == "json" {
         return acts::json_told(alloc, written);
     }
-    let Some(values) = acts::values_of(alloc, written)? else {
-        return String::from_str(alloc, "no values");
-    };
-    match values.as_slice() {
-        [value] => acts::one_told(alloc, act, word, value),
-        [left, right] => acts::two_told(alloc, act, word, left, right),
-        _ => String::from_str(alloc, "nothing is done with so many values"),
+    match acts::values_of(alloc, written) {
+        Ok(values) => acts::values_told(alloc, act, word, &values),
+        Err(Failure::Fault(_)) => String::from_str(alloc, "no values"),
+        Err(Failure::NoMemory) => Err(AllocError),
     }
 }

@@ -2,8 +2,8 @@
 use crate::shown::fault_told;
 use el_coercion::to_text;
 use page_code::Over;
-use pg_value::{Failure, RunFault, Value};
-use run_values::rounds_of;
+use pg_value::{Failure, Record, RunFault, Value};
+use run_values::{Mark, Rounds, rounds_of};
 use std::alloc::{AllocError, Global};
 
 /// The first four rounds of a loop over a record of what it is given: each its place, its count and
@@ -14,26 +14,60 @@ pub fn rounds_told(alloc: Global, word: &str, given: &Value) -> Result<String, A
         "items" => Over::Items,
         _ => Over::Tokens,
     };
+    match given {
+        Value::Rec(given) => record_told(alloc, over, given),
+        _ => Ok(String::new(alloc)),
+    }
+}
+
+fn record_told(alloc: Global, over: Over, given: &Record) -> Result<String, AllocError> {
     match told(alloc, over, given) {
         Ok(told) => Ok(told),
         Err(failure) => fault_told(alloc, failure),
     }
 }
 
-fn told(alloc: Global, over: Over, given: &Value) -> Result<String, Failure<RunFault>> {
+fn told(alloc: Global, over: Over, given: &Record) -> Result<String, Failure<RunFault>> {
+    let mut rounds = rounds(alloc, over, given)?;
+    told_of(alloc, &mut rounds)
+}
+
+fn rounds(alloc: Global, over: Over, given: &Record) -> Result<Rounds, Failure<RunFault>> {
+    let given = given.copy()?.into_attrs()?;
+    rounds_of(alloc, over, given.as_slice())
+}
+
+// The first four of these.
+fn told_of(alloc: Global, rounds: &mut Rounds) -> Result<String, Failure<RunFault>> {
     let mut told = String::new(alloc);
-    if let Value::Rec(given) = given {
-        let given = given.copy()?.into_attrs()?;
-        let mut rounds = rounds_of(alloc, over, given.as_slice())?;
-        for _ in 0..4 {
-            if let Some(mark) = rounds.next() {
-                let item = to_text(alloc, &rounds.item(alloc)?)?;
-                let round = format!(in alloc; "{}/{}={}", mark.index, mark.count, item.as_str())?;
-                told.push_str(&round)?;
-                told.push(if mark.is_last { '!' } else { ';' })?;
-            }
-            rounds.advance();
-        }
+    for _ in 0..4 {
+        add_next(alloc, &mut told, rounds)?;
     }
     Ok(told)
+}
+
+// Adds the next round, where there is one, and goes behind it.
+fn add_next(
+    alloc: Global,
+    told: &mut String,
+    rounds: &mut Rounds,
+) -> Result<(), Failure<RunFault>> {
+    if let Some(mark) = rounds.next() {
+        let item = rounds.item(alloc)?;
+        add_round(alloc, told, mark, &item)?;
+    }
+    rounds.advance();
+    Ok(())
+}
+
+fn add_round(
+    alloc: Global,
+    told: &mut String,
+    mark: Mark,
+    item: &Value,
+) -> Result<(), Failure<RunFault>> {
+    let item = to_text(alloc, item)?;
+    let end = if mark.is_last { '!' } else { ';' };
+    write!(told, "{}/{}={}{end}", mark.index, mark.count, item.as_str())?;
+    Ok(())
 }
