@@ -16,22 +16,23 @@ ghost use Rattle.unit_build.specs.Elements.{kind_faults, own_faults, takes_text_
 ghost use Rattle.unit_build.specs.Elements.{value_faults};
 ghost use Rattle.unit_build.specs.Made.{around_made, here_made, kind_made};
 
+use crate::beginning::Beginning;
 use crate::body::{has_open_body, push_inner, standings_of};
 use crate::calls::{call_faults, call_value_faults};
-use crate::here::Here;
 use crate::kind::Kind;
+use crate::known::Known;
 use jstl_tags::{
     Body, Given, Holds, Host, Row, Standing, Standings, Takes, child_faults, core_faults,
     place_faults, row_faults, taken_faults, takes_of,
 };
 use page_directives::Faults;
-use page_pieces::{Attribute, Prefixes};
+use page_pieces::Attribute;
 use page_reader::Element;
 use pg_text::TranslationFault;
 use std::alloc::{AllocError, Global};
 use tag_decl::TagDecl;
 use unit_nodes::JspName;
-use unit_source::{MAX_NESTING, PlacedElement, PlacedNode};
+use unit_source::{MAX_NESTING, PlacedNode};
 
 // Whether an attribute takes text alone.
 fn takes_text_alone(takes: Option<Takes>) -> bool
@@ -95,29 +96,27 @@ fn asked(row: Row, body: &[PlacedNode]) -> Row
 }
 
 // The faults of an element by its kind.
-fn kind_faults(
-    core: &Prefixes,
-    in_tag: bool,
-    decl: Option<&TagDecl>,
-    kind: &Kind,
-    hosts: &[Host],
-    row: Option<Row>,
-    element: &PlacedElement,
-    body: Body,
-) -> Faults
-    ensures { (here : Around) → IsBody body.entry (flat (in_place element.now.body.items)) →
-        here.around ≡ map host_made hosts.now → here.row ≡ option_map row_made row
-        → result ≡ in_order (kind_faults (λ prefix. contains_text prefix core.now) in_tag
-        (option_map (λ decl. decl.now) decl.entry) (kind_made kind.now) here
-        (opened_of element.now.head) (flat (in_place element.now.body.items))) }
+fn kind_faults(known: Known, beginning: Beginning, hosts: &[Host], body: Body) -> Faults
+    ensures { (here : Around) → IsBody body.entry (flat (in_place beginning.entry.element.now.body.items)) →
+        here.around ≡ map host_made hosts.now → here.row ≡ option_map row_made beginning.entry.here.row
+        → result ≡ in_order (kind_faults (λ prefix. contains_text prefix known.entry.core.now)
+        known.entry.in_tag (option_map (λ decl. decl.now) known.entry.decl)
+        (kind_made beginning.entry.kind.now) here (opened_of beginning.entry.element.now.head)
+        (flat (in_place beginning.entry.element.now.body.items))) }
 {
+    let Known { core, in_tag, decl } = known;
+    let Beginning {
+        here,
+        kind,
+        element,
+    } = beginning;
     let head = &element.head;
     match kind {
         Kind::Core(tag, row) => {
             core_faults(core, (*tag, asked(*row, &element.body)), hosts, head, body)
         }
         Kind::Standard(action, standard) => place_faults(in_tag, standard.stands, hosts).and(
-            row_faults(core, standard, head, body).and(own_faults(*action, row, head, body)),
+            row_faults(core, standard, head, body).and(own_faults(*action, here.row, head, body)),
         ),
         Kind::Call(_) => child_faults(hosts).and(call_faults(decl, head, body)),
         Kind::Refused(fault) => refused_faults(*fault, hosts),
@@ -126,54 +125,49 @@ fn kind_faults(
 
 // The same, by what stands in its body, and in the `jsp:body` elements there.
 fn faults_by_body(
-    core: &Prefixes,
-    in_tag: bool,
-    decl: Option<&TagDecl>,
-    kind: &Kind,
+    known: Known,
+    beginning: Beginning,
     hosts: &[Host],
-    row: Option<Row>,
-    element: &PlacedElement,
     standing: &Standings,
     within: &[Standing],
 ) -> Faults
     ensures { (here : Around) →
-        map standing_made standing.now ≡ standing_in (flat (in_place element.now.body.items)) →
-        map standing_made within.now ≡ standing_in (inner (flat (in_place element.now.body.items))) →
-        here.around ≡ map host_made hosts.now → here.row ≡ option_map row_made row
-        → result ≡ in_order (kind_faults (λ prefix. contains_text prefix core.now) in_tag
-        (option_map (λ decl. decl.now) decl.entry) (kind_made kind.now) here
-        (opened_of element.now.head) (flat (in_place element.now.body.items))) }
+        map standing_made standing.now ≡ standing_in (flat (in_place beginning.entry.element.now.body.items)) →
+        map standing_made within.now
+        ≡ standing_in (inner (flat (in_place beginning.entry.element.now.body.items))) →
+        here.around ≡ map host_made hosts.now → here.row ≡ option_map row_made beginning.entry.here.row
+        → result ≡ in_order (kind_faults (λ prefix. contains_text prefix known.entry.core.now)
+        known.entry.in_tag (option_map (λ decl. decl.now) known.entry.decl)
+        (kind_made beginning.entry.kind.now) here (opened_of beginning.entry.element.now.head)
+        (flat (in_place beginning.entry.element.now.body.items))) }
 {
     let body = Body {
         standing,
         inner: within,
     };
-    kind_faults(core, in_tag, decl, kind, hosts, row, element, body)
+    kind_faults(known, beginning, hosts, body)
 }
 
-/// The faults of an element at its beginning. `core` are the prefixes of the core library.
+/// The faults of an element at its beginning.
 pub(crate) fn element_faults(
     alloc: Global,
-    core: &Prefixes,
-    in_tag: bool,
-    decl: Option<&TagDecl>,
-    kind: &Kind,
-    here: Here,
-    element: &PlacedElement,
+    known: Known,
+    beginning: Beginning,
 ) -> Result<Faults, AllocError>
     ensures { IfOk result (λ faults. faults ≡ in_order
-        (element_faults (λ prefix. contains_text prefix core.now) in_tag (option_map (λ decl. decl.now) decl.entry)
-        (kind_made kind.now) (here_made here.entry) (opened_of element.now.head)
-        (flat (in_place element.now.body.items)))) }
+        (element_faults (λ prefix. contains_text prefix known.entry.core.now) known.entry.in_tag
+        (option_map (λ decl. decl.now) known.entry.decl) (kind_made beginning.entry.kind.now)
+        (here_made beginning.entry.here) (opened_of beginning.entry.element.now.head)
+        (flat (in_place beginning.entry.element.now.body.items)))) }
 {
-    let standing = standings_of(alloc, &element.body)?;
+    let here = beginning.here;
+    let body = &beginning.element.body;
+    let standing = standings_of(alloc, body)?;
     let mut inner = Vec::new(alloc);
-    push_inner(&element.body, &mut inner)?;
+    push_inner(body, &mut inner)?;
     let hosts = here.around.hosts(alloc)?;
     let deep = Faults::one_if(here.deep >= MAX_NESTING, TranslationFault::TooLarge);
-    let by_kind = faults_by_body(
-        core, in_tag, decl, kind, &hosts, here.row, element, &standing, &inner,
-    );
+    let by_kind = faults_by_body(known, beginning, &hosts, &standing, &inner);
     Ok(deep.and(by_kind))
 }
 

@@ -3,6 +3,7 @@
 #![tactic(auto)]
 
 mod beans;
+mod beginning;
 mod body;
 mod building;
 mod calling;
@@ -16,6 +17,7 @@ mod functions;
 mod here;
 mod include;
 mod kind;
+mod known;
 mod laws;
 mod leaf;
 mod nodes;

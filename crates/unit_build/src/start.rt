@@ -17,12 +17,13 @@ ghost use Rattle.unit_build.specs.State.{faults_at};
 ghost use Rattle.unit_build.specs.Values.{part_faults};
 ghost use Rattle.unit_build.specs.Walk.{bean_called, declaration_in, file_met, nested};
 
+use crate::beginning::Beginning;
 use crate::calling::{Called, meet_call};
 use crate::course::Course;
 use crate::element::{element_faults, value_faults};
 use crate::found::{Found, tag_in};
-use crate::here::Here;
 use crate::kind::Kind;
+use crate::known::Known;
 use crate::tag::Tag;
 use crate::values::part_faults;
 use page_directives::Faults;
@@ -32,7 +33,6 @@ use std::alloc::{AllocError, Global};
 use std::sync::Arc;
 use tag_decl::TagDecl;
 use unit_nodes::JspName;
-use unit_source::PlacedElement;
 
 // What the class of a `jsp:useBean` comes to.
 #[tactic(auto, using(crate::proofs::CalledLemmas::called_bean))]
@@ -67,18 +67,17 @@ fn meet_file(
 // The same, where it may stand in too many others.
 fn meet_nested(
     alloc: Global,
-    here: Here,
-    kind: &Kind,
-    head: &Element,
+    beginning: Beginning,
     found: &mut Found,
 ) -> Result<Called, AllocError>
     ensures { IfOk result (λ answer. (before : Before) →
         IsCalled found.old found.new before answer.0 (option_map (λ tag. root_view tag.value) answer.1)
-        (file_met (text_in found.old.site) (kind_made kind.now) (opened_of head.now).tag
-        (nested (here_made here.entry) (state_in before found.old)))) }
+        (file_met (text_in found.old.site) (kind_made beginning.entry.kind.now)
+        (opened_of beginning.entry.element.now.head).tag
+        (nested (here_made beginning.entry.here) (state_in before found.old)))) }
 {
-    found.counts.nest(here.deep);
-    meet_file(alloc, kind, head, found)
+    found.counts.nest(beginning.here.deep);
+    meet_file(alloc, beginning.kind, &beginning.element.head, found)
 }
 
 // The tag file that is called, where it was read.
@@ -145,29 +144,27 @@ fn meet_values(
 fn meet_faults(
     alloc: Global,
     course: &Course,
-    here: Here,
-    kind: &Kind,
-    element: &PlacedElement,
+    beginning: Beginning,
     faults: Faults,
     found: &mut Found,
 ) -> Result<(), AllocError>
     ensures { OnOk result ((before : Before) (comes : List TranslationFault) → faults ≡ in_order comes
-        → IsMet found.old found.new (start_events (root_view course.now.root) (kind_made kind.now)
-        (here_made here.entry) (opened_of element.now.head) (flat (in_place element.now.body.items))
-        comes course.now.before (declaration_in (kind_made kind.now) (state_in before found.old)))) }
+        → IsMet found.old found.new (start_events (root_view course.now.root)
+        (kind_made beginning.entry.kind.now) (here_made beginning.entry.here)
+        (opened_of beginning.entry.element.now.head)
+        (flat (in_place beginning.entry.element.now.body.items)) comes course.now.before
+        (declaration_in (kind_made beginning.entry.kind.now) (state_in before found.old)))) }
 {
+    let kind = beginning.kind;
     let tag = called_tag(kind, found)?;
     let decl = declared(tag.as_deref());
-    let head = &element.head;
-    let own = element_faults(
-        alloc,
-        course.root.core(),
-        course.root.in_tag(),
+    let head = &beginning.element.head;
+    let known = Known {
+        core: course.root.core(),
+        in_tag: course.root.in_tag(),
         decl,
-        kind,
-        here,
-        element,
-    )?;
+    };
+    let own = element_faults(alloc, known, beginning)?;
     found.meet(&head.place, faults.and(own))?;
     meet_values(alloc, course, decl, kind, head.attributes.as_slice(), found)
 }
@@ -176,19 +173,19 @@ fn meet_faults(
 pub(crate) fn meet_start(
     alloc: Global,
     course: &Course,
-    here: Here,
-    kind: &Kind,
-    element: &PlacedElement,
+    beginning: Beginning,
     found: &mut Found,
 ) -> Result<Option<Arc<Tag>>, AllocError>
     ensures { IfOk result (λ entered. IsStarted found.old found.new (root_view course.now.root)
-        (kind_made kind.now) (here_made here.entry)
-        (opened_of element.now.head) (flat (in_place element.now.body.items)) course.now.before
+        (kind_made beginning.entry.kind.now) (here_made beginning.entry.here)
+        (opened_of beginning.entry.element.now.head)
+        (flat (in_place beginning.entry.element.now.body.items)) course.now.before
         (option_map (λ tag. root_view tag.value) entered)
-        (file_met (text_in found.old.site) (kind_made kind.now) (opened_of element.now.head).tag
-        (nested (here_made here.entry) (state_in course.now.before found.old)))) }
+        (file_met (text_in found.old.site) (kind_made beginning.entry.kind.now)
+        (opened_of beginning.entry.element.now.head).tag
+        (nested (here_made beginning.entry.here) (state_in course.now.before found.old)))) }
 {
-    let (faults, entered) = meet_nested(alloc, here, kind, &element.head, found)?;
-    meet_faults(alloc, course, here, kind, element, faults, found)?;
+    let (faults, entered) = meet_nested(alloc, beginning, found)?;
+    meet_faults(alloc, course, beginning, faults, found)?;
     Ok(entered)
 }

@@ -13,17 +13,16 @@ ghost use Rattle.unit_build.specs.ReadSteps.{steps_met, steps_of};
 ghost use Rattle.unit_build.specs.ReadWalk.{IsOwn, IsPageMet};
 ghost use Rattle.unit_build.specs.Walk.{met_within};
 
+use crate::beginning::Beginning;
 use crate::course::Course;
 use crate::found::Found;
-use crate::here::Here;
 use crate::include::meet_include;
-use crate::kind::Kind;
 use crate::leaf::meet_leaf;
 use crate::site::Site;
 use crate::start::meet_start;
 use crate::steps::Step;
 use std::alloc::{AllocError, Global};
-use unit_source::{MAX_UNIT_FILES, PlacedElement, Root};
+use unit_source::{MAX_UNIT_FILES, Root};
 
 // In how many files no step is taken behind a step that isn't taken.
 fn left_out_still(step: &Step, count: usize) -> usize
@@ -42,18 +41,17 @@ fn left_out_still(step: &Step, count: usize) -> usize
 fn take_start(
     alloc: Global,
     course: &Course,
-    here: Here,
-    kind: &Kind,
-    element: &PlacedElement,
+    beginning: Beginning,
     deep: usize,
     found: &mut Found,
 ) -> Result<(), AllocError>
     ensures { OnOk result (IsRead found.old found.new (state_in course.now.before found.new)
         (step_met (text_in found.old.site) (root_view course.now.root) (met_within deep (text_in found.old.site))
-        (start_step (here_made here.entry) (kind_made kind.now) (opened_of element.now.head)
-        (flat (in_place element.now.body.items))) (state_in course.now.before found.old))) }
+        (start_step (here_made beginning.entry.here) (kind_made beginning.entry.kind.now)
+        (opened_of beginning.entry.element.now.head)
+        (flat (in_place beginning.entry.element.now.body.items))) (state_in course.now.before found.old))) }
 {
-    match meet_start(alloc, course, here, kind, element, found)? {
+    match meet_start(alloc, course, beginning, found)? {
         Some(tag) => read_root(alloc, tag.root(), deep, found),
         None => Ok(()),
     }
@@ -91,7 +89,12 @@ fn take_step<'r>(
             kind,
             element,
         } => {
-            take_start(alloc, course, *here, kind, element, deep, found)?;
+            let beginning = Beginning {
+                here: *here,
+                kind,
+                element: *element,
+            };
+            take_start(alloc, course, beginning, deep, found)?;
             Ok(0)
         }
         Step::Include { directive, entry } => {

@@ -21,10 +21,10 @@ pub returns : goal.returns
 returns c =
     let old = c.args.found.now in
     let root = root_view c.args.course.now.root in
-    let kind = kind_made c.args.kind.now in
-    let here = here_made c.args.here in
-    let opened = opened_of c.args.element.now.head in
-    let body = flat (in_place c.args.element.now.body.items) in
+    let kind = kind_made c.args.beginning.kind.now in
+    let here = here_made c.args.beginning.here in
+    let opened = opened_of c.args.beginning.element.now.head in
+    let body = flat (in_place c.args.beginning.element.now.body.items) in
     let known = option_map (λ decl. decl.now) c.declared-decl.result in
     let library : List ℕ → Bool = λ prefix. contains_text prefix c.core.result.now in
     let lent : option_map (λ tag. root_view tag.now) c.as_deref.result ≡ option_map (λ tag. root_view tag.value) c.in_ok-tag.tag = search rules in

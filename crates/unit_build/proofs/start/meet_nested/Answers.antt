@@ -11,4 +11,4 @@ pub returns : goal.returns
 returns c =
     let old = c.args.found.now in
     if_ok c.meet_file.result c.meet_file.ensures
-    (λ answer is before. called_from (file_met (text_in old.site) (kind_made c.args.kind.now) (opened_of c.args.head.now).tag) before c.nest.new.self (counts_within c.args.here.deep old.counts) c.nest.ensures (is before))
+    (λ answer is before. called_from (file_met (text_in old.site) (kind_made c.args.beginning.kind.now) (opened_of c.args.beginning.element.now.head).tag) before c.nest.new.self (counts_within c.args.beginning.here.deep old.counts) c.nest.ensures (is before))

@@ -1,0 +1,11 @@
+use crate::here::Here;
+use crate::kind::Kind;
+use unit_source::PlacedElement;
+
+/// An element where it begins: what stands around it, what it is, and the element itself.
+#[derive(Clone, Copy)]
+pub(crate) struct Beginning<'n> {
+    pub here: Here<'n>,
+    pub kind: &'n Kind,
+    pub element: &'n PlacedElement,
+}
