@@ -1,4 +1,4 @@
-ghost use Rattle.std.specs.Prelude.{◌≡◌, ◌++◌, map, IfOk, OnOk};
+ghost use Rattle.std.specs.Prelude.{◌≡◌, ◌++◌, ◌∷◌, [], map, IfOk, OnOk};
 ghost use Rattle.jstl_tags.specs.Elements.{opened_of};
 ghost use Rattle.unit_source.specs.InPlace.{done, element as element_placed};
 ghost use Rattle.unit_source.specs.InPlace.{included as include_placed};
@@ -56,6 +56,15 @@ pub(crate) fn steps_of<'r>(
     Ok(steps)
 }
 
+// Adds a step.
+fn add<'r>(steps: &mut Vec<Step<'r>>, step: Step<'r>) -> Result<(), AllocError>
+    ensures { OnOk result (map step_made steps.new.items ≡ map step_made steps.old.items
+        ++ step_made step.entry ∷ []) }
+{
+    steps.push(step)?;
+    Ok(())
+}
+
 // Adds the steps of nodes in place, and answers what stands around behind them.
 #[cycle(steps)]
 fn push_steps<'r>(
@@ -92,11 +101,11 @@ fn push_node<'r>(
 {
     match node {
         PlacedNode::Leaf(leaf, place) => {
-            steps.push(Step::Leaf { here, leaf, place })?;
+            add(steps, Step::Leaf { here, leaf, place })?;
             Ok(here)
         }
         PlacedNode::Broken(fault) => {
-            steps.push(Step::Break(fault))?;
+            add(steps, Step::Break(fault))?;
             Ok(here)
         }
         PlacedNode::Element(element) => push_element(alloc, directives, here, element, steps),
@@ -124,11 +133,14 @@ fn push_element<'r>(
     let kind = kind_of(alloc, directives, &element.head)?;
     let within = here.within(&kind, &element.head);
     let behind = here.behind(&kind);
-    steps.push(Step::Start {
-        here,
-        kind,
-        element,
-    })?;
+    add(
+        steps,
+        Step::Start {
+            here,
+            kind,
+            element,
+        },
+    )?;
     push_steps(alloc, directives, within, &element.body, steps)?;
     Ok(behind)
 }
@@ -148,11 +160,14 @@ fn push_include<'r>(
         ≡ map step_made steps.old.items ++ steps_of directives.now (here_made here.entry)
         (include_placed include.now.directive include.now.entry (in_place include.now.body.items) done)) }
 {
-    steps.push(Step::Include {
-        directive: &include.directive,
-        entry: include.entry,
-    })?;
+    add(
+        steps,
+        Step::Include {
+            directive: &include.directive,
+            entry: include.entry,
+        },
+    )?;
     let behind = push_steps(alloc, directives, here, &include.body, steps)?;
-    steps.push(Step::End)?;
+    add(steps, Step::End)?;
     Ok(behind)
 }
