@@ -5,7 +5,8 @@ ghost use Rattle.page_directives.specs.Faults.{in_order};
 ghost use Rattle.page_directives.specs.Meet.{met_faults};
 ghost use Rattle.tag_decl.specs.Declare.{attributes_of};
 ghost use Rattle.tag_decl.specs.Faults.{declaring_faults};
-ghost use Rattle.unit_source.specs.Placed.{root_view};
+ghost use Rattle.unit_source.specs.InPlace.{all_directives};
+ghost use Rattle.unit_source.specs.Placed.{in_place, root_view};
 ghost use Rattle.unit_build.specs.Directives.{where_stands};
 ghost use Rattle.unit_build.specs.Elements.{outermost};
 ghost use Rattle.unit_build.specs.Kinds.{is_core_prefix};
@@ -16,14 +17,14 @@ ghost use Rattle.unit_build.specs.ReadSteps.{steps_of};
 
 use crate::registered::Registered;
 use crate::steps::{Step, steps_of};
-use crate::tag::own_directives;
+use crate::tag::declaration;
 use page_directives::{Before, Directive, Faults, FirstReading, Target, Where};
 use page_pieces::Prefixes;
 use pg_text::Place;
 use std::alloc::{AllocError, Global};
 use std::marker::Model;
-use tag_decl::{AttrDecls, DeclaredBefore, declare, declaring_faults};
-use unit_source::{Root, directives, first_directives};
+use tag_decl::{AttrDecls, DeclaredBefore, declaring_faults};
+use unit_source::{Root, first_directives};
 
 /// A page or a tag file with what its directives decide. Contracts see it as it was read.
 #[derive(Drop)]
@@ -96,18 +97,49 @@ fn is_core_prefix(directives: &Registered, prefix: &str) -> bool
     }
 }
 
+// The first reading of a page or a tag file.
+fn first_reading<'r>(alloc: Global, root: &'r Root) -> Result<FirstReading<'r>, AllocError>
+    ensures { IfOk result (λ first. first ≡ root.now.first) }
+{
+    let directives = first_directives(alloc, root)?;
+    Ok(FirstReading::new(directives))
+}
+
+// The attributes that a page or a tag file itself declares.
+#[tactic(auto, unfolding(tag_decl::specs::Declare::declaration))]
+fn declared_attributes(alloc: Global, root: &Root) -> Result<AttrDecls, AllocError>
+    ensures { IfOk result (λ declared. declared ≡ attributes_of (root_directives (root_view root.now))) }
+{
+    let declared = declaration(alloc, root)?;
+    Ok(declared.attributes)
+}
+
+// The directives of both readings of a page or a tag file, and the prefixes of the core library.
+#[tactic(auto, using(crate::proofs::CoreLemmas::core_is))]
+fn directives_and_core<'r>(
+    alloc: Global,
+    root: &'r Root,
+) -> Result<(Registered<'r>, Prefixes), AllocError>
+    ensures directives { IfOk result (λ both. both.0 ≡ all_directives (in_place root.now.nodes.items)) }
+    ensures core { IfOk result (λ both. is_among both.1 ≡ is_core_prefix both.0) }
+{
+    let directives = Registered::in_nodes(alloc, &root.nodes)?;
+    let core = core_prefixes(alloc, &directives)?;
+    Ok((directives, core))
+}
+
 impl<'r> Decided<'r> {
-    #[tactic(auto, using(crate::proofs::CoreLemmas::core_is), unfolding(tag_decl::specs::Declare::declaration))]
     pub fn new(alloc: Global, root: &'r Root) -> Result<Self, AllocError>
         ensures { IfOk result (λ decided. decided ≡ root.now) }
     {
-        let directives = Registered::new(alloc, directives(alloc, &root.nodes)?)?;
-        let declared = declare(alloc, &own_directives(alloc, root)?)?.attributes;
+        let first = first_reading(alloc, root)?;
+        let declared = declared_attributes(alloc, root)?;
+        let (directives, core) = directives_and_core(alloc, root)?;
         Ok(Decided {
             root,
-            first: FirstReading::new(first_directives(alloc, root)?),
-            core: core_prefixes(alloc, &directives)?,
             directives,
+            first,
+            core,
             declared,
         })
     }

@@ -5,6 +5,7 @@ ghost use Rattle.unit_source.specs.Placed.{root_view};
 ghost use Rattle.unit_build.specs.Build.{built};
 ghost use Rattle.unit_build.specs.Made.{class_made};
 ghost use Rattle.unit_build.specs.ReadFound.{state_in};
+ghost use Rattle.unit_build.specs.State.{State};
 ghost use Rattle.unit_build.specs.Unit.{beans_in_order, good_beans, page_of, tag_file};
 ghost use Rattle.unit_nodes.specs.Views.{nodes_of, page_view, tag_view};
 
@@ -12,25 +13,40 @@ use crate::beans::Bean;
 use crate::found::Found;
 use crate::nodes::built_nodes;
 use crate::registered::Registered;
-use crate::tag::{Tag, own_directives};
+use crate::tag::{Tag, declaration};
 use pg_text::Text;
 use pg_value::{Attrs, Value};
 use std::alloc::{AllocError, Global};
 use std::sync::Arc;
-use tag_decl::declare;
 use unit_nodes::{Page, TagFile, UnitNode};
-use unit_source::{Root, directives};
+use unit_source::Root;
 
 /// The page that was read, with the tag files and the beans that were found.
 pub(crate) fn page_of(alloc: Global, root: &Root, found: Found) -> Result<Page, AllocError>
     ensures { IfOk result (λ page. (before : Before) → page_view page
         ≡ page_of (root_view root.now) (state_in before found.entry)) }
 {
+    let beans = found.beans;
+    page_with(alloc, root, beans, &found.tags)
+}
+
+// The page that was read, with these beans and these tag files.
+fn page_with(
+    alloc: Global,
+    root: &Root,
+    beans: Vec<(Text, Bean)>,
+    tags: &[Arc<Tag>],
+) -> Result<Page, AllocError>
+    ensures { IfOk result (λ page. (state : State) → state.beans ≡ map class_made beans.items
+        → state.tags ≡ map (λ tag. root_view tag.value) tags.now
+        → page_view page ≡ page_of (root_view root.now) state) }
+{
+    let beans = beans_in_order(alloc, beans)?;
     Ok(Page {
         path: root.path.copy()?,
         settings: root.settings.copy()?,
-        beans: beans_in_order(alloc, found.beans)?,
-        tags: tag_files(alloc, &found.tags)?,
+        beans,
+        tags: tag_files(alloc, tags)?,
         nodes: root_nodes(alloc, root)?,
     })
 }
@@ -40,7 +56,7 @@ fn root_nodes(alloc: Global, root: &Root) -> Result<Vec<UnitNode>, AllocError>
     ensures { IfOk result (λ nodes. nodes_of nodes.items ≡ built (root_view root.now).directives
         (root_view root.now).nodes) }
 {
-    let directives = Registered::new(alloc, directives(alloc, &root.nodes)?)?;
+    let directives = Registered::in_nodes(alloc, &root.nodes)?;
     built_nodes(alloc, &directives, &root.nodes)
 }
 
@@ -48,10 +64,9 @@ fn root_nodes(alloc: Global, root: &Root) -> Result<Vec<UnitNode>, AllocError>
 fn tag_file(alloc: Global, root: &Root) -> Result<TagFile, AllocError>
     ensures { IfOk result (λ tag. tag_view tag ≡ tag_file (root_view root.now)) }
 {
-    let own = own_directives(alloc, root)?;
     Ok(TagFile {
         path: root.path.copy()?,
-        decl: declare(alloc, &own)?,
+        decl: declaration(alloc, root)?,
         settings: root.settings.copy()?,
         nodes: root_nodes(alloc, root)?,
     })

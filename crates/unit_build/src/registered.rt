@@ -1,10 +1,13 @@
 ghost use Rattle.std.specs.Prelude.{◌≡◌, IfOk};
 ghost use Rattle.std.specs.Option.{option_map};
 ghost use Rattle.page_directives.specs.Taglibs.{target_of};
+ghost use Rattle.unit_source.specs.InPlace.{all_directives};
+ghost use Rattle.unit_source.specs.Placed.{in_place};
 
 use page_directives::{Before, Directive, Target};
 use std::alloc::{AllocError, Global};
 use std::marker::Model;
+use unit_source::{PlacedNode, directives};
 
 /// The directives of both readings of a page or tag file, with what each prefix stands for.
 /// Contracts see the list of them.
@@ -31,6 +34,14 @@ impl<'r> Registered<'r> {
             all.push(directive)?;
         }
         Ok(Registered { all })
+    }
+
+    /// The directives of nodes in place.
+    pub fn in_nodes(alloc: Global, nodes: &'r [PlacedNode]) -> Result<Self, AllocError>
+        ensures { IfOk result (λ registered. registered ≡ all_directives (in_place nodes.now)) }
+    {
+        let directives = directives(alloc, nodes)?;
+        Registered::new(alloc, directives)
     }
 
     pub fn as_slice(&self) -> &[Directive<'r>]

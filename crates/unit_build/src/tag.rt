@@ -1,5 +1,7 @@
-ghost use Rattle.std.specs.Prelude.{◌≡◌, filter, Some, IfOk};
+ghost use Rattle.std.specs.Prelude.{◌≡◌, [], filter, Some, IfOk};
 ghost use Rattle.std.specs.Option.{option_map};
+ghost use Rattle.tag_decl.specs.Declare.{declaration};
+ghost use Rattle.tag_decl.specs.Faults.{are_good};
 ghost use Rattle.unit_source.specs.Placed.{root_view};
 ghost use Rattle.unit_build.specs.Calls.{declaration_of};
 ghost use Rattle.unit_build.specs.Own.{judged_directives, root_directives, stands_in};
@@ -8,7 +10,7 @@ use page_directives::Directive;
 use pg_text::Path;
 use std::alloc::{AllocError, Global};
 use std::marker::Model;
-use tag_decl::{TagDecl, declare, is_good};
+use tag_decl::{AttrDecls, TagDecl, declare, is_good};
 use unit_source::{Root, directives, first_directives};
 
 /// A tag file that was read. Contracts see it as it was read.
@@ -58,21 +60,20 @@ impl Tag {
     }
 }
 
-// Those of these directives that stand in a file.
-fn standing_in<'r>(
-    alloc: Global,
-    path: &Path,
-    directives: Vec<Directive<'r>>,
-) -> Result<Vec<Directive<'r>>, AllocError>
-    ensures { IfOk result (λ own. own.items ≡ filter (stands_in path.now) directives.entry.items) }
+// Whether a directive stands in a file.
+fn stands_in(path: &Path, directive: &Directive) -> bool
+    ensures { result ≡ stands_in path.now directive.now }
 {
-    let mut own = Vec::new(alloc);
-    for directive in directives {
-        if directive.place().file.as_str() == path.as_str() {
-            own.push(directive)?;
-        }
-    }
-    Ok(own)
+    directive.place().file.as_str() == path.as_str()
+}
+
+// Those of these directives that stand in a file.
+fn standing_in<'r>(path: &Path, directives: Vec<Directive<'r>>) -> Vec<Directive<'r>>
+    ensures { result.items ≡ filter (stands_in path.now) directives.entry.items }
+{
+    let mut own = directives;
+    own.retain(|directive| stands_in(path, directive));
+    own
 }
 
 /// The directives of the first reading that stand in a page or tag file itself.
@@ -82,7 +83,8 @@ pub(crate) fn own_directives<'r>(
 ) -> Result<Vec<Directive<'r>>, AllocError>
     ensures { IfOk result (λ own. own.items ≡ root_directives (root_view root.now)) }
 {
-    standing_in(alloc, &root.path, first_directives(alloc, root)?)
+    let first = first_directives(alloc, root)?;
+    Ok(standing_in(&root.path, first))
 }
 
 // The directives of the second reading that stand in a tag file itself: by them it is judged
@@ -90,7 +92,25 @@ pub(crate) fn own_directives<'r>(
 fn judged_directives<'r>(alloc: Global, root: &'r Root) -> Result<Vec<Directive<'r>>, AllocError>
     ensures { IfOk result (λ own. own.items ≡ judged_directives (root_view root.now)) }
 {
-    standing_in(alloc, &root.path, directives(alloc, &root.nodes)?)
+    let both = directives(alloc, &root.nodes)?;
+    Ok(standing_in(&root.path, both))
+}
+
+/// What the directives of a page or tag file itself declare.
+pub(crate) fn declaration(alloc: Global, root: &Root) -> Result<TagDecl, AllocError>
+    ensures { IfOk result (λ decl. decl ≡ declaration (root_directives (root_view root.now))) }
+{
+    let own = own_directives(alloc, root)?;
+    declare(alloc, &own)
+}
+
+// Whether the directives of the second reading that stand in a tag file itself have no fault, where
+// it declares these attributes.
+fn is_well_judged(alloc: Global, root: &Root, decls: &AttrDecls) -> Result<bool, AllocError>
+    ensures { IfOk result (λ good. good ≡ are_good decls.now [] (judged_directives (root_view root.now))) }
+{
+    let judged = judged_directives(alloc, root)?;
+    is_good(alloc, decls, judged)
 }
 
 // What a tag file declares, where its directives have no fault.
@@ -98,9 +118,8 @@ fn judged_directives<'r>(alloc: Global, root: &'r Root) -> Result<Vec<Directive<
 fn declared_in(alloc: Global, root: &Root) -> Result<Option<TagDecl>, AllocError>
     ensures { IfOk result (λ declared. declared ≡ declaration_of (Some (root_view root.now))) }
 {
-    let declared = declare(alloc, &own_directives(alloc, root)?)?;
-    let judged = judged_directives(alloc, root)?;
-    if is_good(alloc, &declared.attributes, judged)? {
+    let declared = declaration(alloc, root)?;
+    if is_well_judged(alloc, root, &declared.attributes)? {
         Ok(Some(declared))
     } else {
         Ok(None)
