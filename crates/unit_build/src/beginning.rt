@@ -4,8 +4,8 @@ use unit_source::PlacedElement;
 
 /// An element where it begins: what stands around it, what it is, and the element itself.
 #[derive(Clone, Copy)]
-pub(crate) struct Beginning<'n> {
+pub(crate) struct Beginning<'n, 'e> {
     pub here: Here<'n>,
-    pub kind: &'n Kind,
-    pub element: &'n PlacedElement,
+    pub kind: &'e Kind,
+    pub element: &'e PlacedElement,
 }

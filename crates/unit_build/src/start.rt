@@ -65,11 +65,7 @@ fn meet_file(
 }
 
 // The same, where it may stand in too many others.
-fn meet_nested(
-    alloc: Global,
-    beginning: Beginning,
-    found: &mut Found,
-) -> Result<Called, AllocError>
+fn meet_nested(alloc: Global, beginning: Beginning, found: &mut Found) -> Result<Called, AllocError>
     ensures { IfOk result (λ answer. (before : Before) →
         IsCalled found.old found.new before answer.0 (option_map (λ tag. root_view tag.value) answer.1)
         (file_met (text_in found.old.site) (kind_made beginning.entry.kind.now)

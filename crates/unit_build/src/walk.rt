@@ -89,8 +89,9 @@ fn take_step<'r>(
             kind,
             element,
         } => {
+            let here = *here;
             let beginning = Beginning {
-                here: *here,
+                here,
                 kind,
                 element: *element,
             };
