@@ -21,20 +21,32 @@ use std::alloc::{AllocError, Global};
 use std::io;
 
 fn main(rt: HostRuntime) -> io::Result<()> {
-    let alloc = rt.alloc();
-    let mut row = Vec::new(alloc);
-    for line in rt.lines(alloc) {
-        let line = line?;
-        println!(rt; "{}", line.as_str())?;
-        if line.starts_with("# ") {
-            continue;
-        }
-        if !line.is_empty() {
-            row.push(line)?;
-        } else if !row.is_empty() {
-            println!(rt; "> {}\n", row_told(alloc, &row)?.as_str())?;
-            row.clear();
-        }
+    let mut row = Vec::new(rt.alloc());
+    for line in rt.lines(rt.alloc()) {
+        take(&rt, &mut row, line)?;
+    }
+    Ok(())
+}
+
+// Writes a line that was read, and adds it to a row, or ends that.
+fn take(rt: &HostRuntime, row: &mut Vec<String>, line: io::Result<String>) -> io::Result<()> {
+    let line = line?;
+    println!(rt; "{}", line.as_str())?;
+    if line.is_empty() {
+        return end(rt, row);
+    }
+    if !line.starts_with("# ") {
+        row.push(line)?;
+    }
+    Ok(())
+}
+
+// Writes what is told of a row, where there is one.
+fn end(rt: &HostRuntime, row: &mut Vec<String>) -> io::Result<()> {
+    if !row.is_empty() {
+        let told = row_told(rt.alloc(), row.as_slice())?;
+        println!(rt; "> {}\n", told.as_str())?;
+        row.clear();
     }
     Ok(())
 }

@@ -36,9 +36,11 @@ pub struct Surroundings {
 impl Surroundings {
     /// A request that says nothing, and a page that nothing ran before.
     pub fn plain(alloc: Global, tell: &str) -> Result<Self, AllocError> {
+        let tell = text(alloc, tell)?;
+        let request = request(alloc)?;
         Ok(Surroundings {
             answers: Vec::new(alloc),
-            request: request(alloc)?,
+            request,
             params: Vec::new(alloc),
             session: None,
             depth: 0,
@@ -47,7 +49,7 @@ impl Surroundings {
             buffer: Some(8_192),
             auto_flush: true,
             exception: None,
-            tell: text(alloc, tell)?,
+            tell,
         })
     }
 
@@ -167,15 +169,19 @@ pub fn buffer_size(size: Option<u32>) -> Option<u32>
 }
 
 fn request(alloc: Global) -> Result<Request, AllocError> {
+    let method = text(alloc, "GET")?;
+    let target = text(alloc, "/p.jsp")?;
+    let cookie = text(alloc, "")?;
+    let body = Bytes::copy_of(alloc, b"")?;
     Ok(Request {
-        method: Text::copy_of(alloc, "GET")?,
-        target: Text::copy_of(alloc, "/p.jsp")?,
+        method,
+        target,
         path: None,
         query: None,
         fields: Listed::empty(alloc),
         params: Listed::empty(alloc),
-        cookie: Text::copy_of(alloc, "")?,
-        body: Bytes::copy_of(alloc, b"")?,
+        cookie,
+        body,
         close: false,
     })
 }

@@ -1,9 +1,10 @@
 // What is told of a run.
 use edges::MemSink;
 use el_coercion::to_text;
+use http_in::Param;
 use out_buffer::Writer;
 use page_machine::RunEnd;
-use pg_text::{Failure, PageFault, Place};
+use pg_text::{Failure, PageFault, Path, Place};
 use pg_value::{Attrs, RunFault, Value};
 use run_world::Around;
 use site_words::AppStep;
@@ -29,13 +30,22 @@ pub struct Ran<'a> {
 pub fn told(alloc: Global, words: &str, ran: Ran<'_>) -> Result<String, AllocError> {
     let mut told = String::new(alloc);
     for word in words.split(' ') {
-        let part = part_told(alloc, word, ran)?;
-        if !told.is_empty() && !part.is_empty() {
-            told.push(' ')?;
-        }
-        told.push_str(part.as_str())?;
+        add_part(alloc, &mut told, word, ran)?;
     }
     told.replace(alloc, "\n", "¶")
+}
+
+fn add_part(alloc: Global, told: &mut String, word: &str, ran: Ran<'_>) -> Result<(), AllocError> {
+    let part = part_told(alloc, word, ran)?;
+    add(told, part.as_str())
+}
+
+// Adds a part, behind a blank where something stands before it.
+fn add(told: &mut String, part: &str) -> Result<(), AllocError> {
+    if !told.is_empty() && !part.is_empty() {
+        told.push(' ')?;
+    }
+    told.push_str(part)
 }
 
 fn part_told(alloc: Global, word: &str, ran: Ran<'_>) -> Result<String, AllocError> {
@@ -95,19 +105,19 @@ fn fault_told(alloc: Global, fault: &PageFault) -> Result<String, AllocError> {
 fn end_told(alloc: Global, end: &RunEnd) -> Result<String, AllocError> {
     match end {
         RunEnd::Normal => format!(in alloc; "normal"),
-        RunEnd::Forward(path, params) => {
-            let mut told = format!(in alloc; "forward {}", path.as_str())?;
-            for param in params.as_slice() {
-                let name = param.name.as_str();
-                let value = param.value.as_str();
-                told.push_str(format!(in alloc; " {name}={value}")?.as_str())?;
-            }
-            Ok(told)
-        }
+        RunEnd::Forward(path, params) => forward_told(alloc, path, params.as_slice()),
         RunEnd::Redirect(address) => format!(in alloc; "redirect {}", address.as_str()),
         RunEnd::Raised { fault, place } => raised_told(alloc, *fault, place),
         RunEnd::NoMemory => format!(in alloc; "no memory"),
     }
+}
+
+fn forward_told(alloc: Global, path: &Path, params: &[Param]) -> Result<String, AllocError> {
+    let mut told = format!(in alloc; "forward {}", path.as_str())?;
+    for param in params {
+        write!(told, " {}={}", param.name.as_str(), param.value.as_str())?;
+    }
+    Ok(told)
 }
 
 fn raised_told(alloc: Global, fault: RunFault, place: &Place) -> Result<String, AllocError> {
@@ -126,12 +136,14 @@ fn place_told(alloc: Global, place: &Place) -> Result<String, AllocError> {
 fn all_asked_told(alloc: Global, asked: &[Asked]) -> Result<String, AllocError> {
     let mut told = String::new(alloc);
     for step in asked {
-        if !told.is_empty() {
-            told.push(' ')?;
-        }
-        told.push_str(asked_told(alloc, step)?.as_str())?;
+        add_asked(alloc, &mut told, step)?;
     }
     Ok(told)
+}
+
+fn add_asked(alloc: Global, told: &mut String, asked: &Asked) -> Result<(), AllocError> {
+    let asked = asked_told(alloc, asked)?;
+    add(told, asked.as_str())
 }
 
 fn asked_told(alloc: Global, asked: &Asked) -> Result<String, AllocError> {

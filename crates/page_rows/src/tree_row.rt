@@ -8,7 +8,7 @@ use crate::unreadable::Unreadable;
 use pg_text::{Path, resolve};
 use row_text::written_out;
 use source_tree::{Edit, Edits, FileText, Tree};
-use std::alloc::Global;
+use std::alloc::{AllocError, Global};
 use std::marker::Brand;
 use std::sync::ledger::{Blank, Ledger};
 
@@ -21,6 +21,16 @@ struct Row {
 }
 
 impl Row {
+    // A row of no line.
+    fn empty(alloc: Global) -> Result<Self, AllocError> {
+        let surroundings = Surroundings::plain(alloc, "end rest asked")?;
+        Ok(Row {
+            edits: Edits::new(alloc),
+            page: None,
+            surroundings,
+        })
+    }
+
     // One line more.
     fn add(&mut self, alloc: Global, line: &str) -> Result<(), Unreadable> {
         let (first, rest) = line.split_once(' ').unwrap_or((line, ""));
@@ -28,26 +38,46 @@ impl Row {
             return self.surroundings.add(alloc, first, rest);
         }
         let path = resolve(alloc, None, first)?;
+        self.run(&path)?;
+        self.put(alloc, path, rest)
+    }
+
+    // Of the paths of all files the first is that of the page that runs.
+    fn run(&mut self, path: &Path) -> Result<(), AllocError> {
         if self.page.is_none() {
             self.page = Some(path.copy()?);
         }
-        self.edits
-            .push(Edit::Put(path, FileText::copy_of(alloc, rest)?))?;
         Ok(())
     }
-}
 
-fn row_of(alloc: Global, lines: &[String]) -> Result<Row, Unreadable> {
-    let mut row = Row {
-        edits: Edits::new(alloc),
-        page: None,
-        surroundings: Surroundings::plain(alloc, "end rest asked")?,
-    };
-    for line in lines {
-        let line = written_out(alloc, line.as_str(), &[("¶", "\n")])?;
-        row.add(alloc, line.as_str())?;
+    // A file more.
+    fn put(&mut self, alloc: Global, path: Path, text: &str) -> Result<(), Unreadable> {
+        let text = FileText::copy_of(alloc, text)?;
+        self.edits.push(Edit::Put(path, text))?;
+        Ok(())
     }
-    Ok(row)
+
+    // One line more, as it is written.
+    fn add_written(&mut self, alloc: Global, line: &str) -> Result<(), Unreadable> {
+        let line = written_out(alloc, line, &[("¶", "\n")])?;
+        self.add(alloc, line.as_str())
+    }
+
+    fn add_all(&mut self, alloc: Global, lines: &[String]) -> Result<(), Unreadable> {
+        for line in lines {
+            self.add_written(alloc, line.as_str())?;
+        }
+        Ok(())
+    }
+
+    // What is told once these lines were added.
+    fn told(&mut self, alloc: Global, lines: &[String]) -> Result<String, Unreadable> {
+        self.add_all(alloc, lines)?;
+        match &self.page {
+            Some(page) => told_of(alloc, &self.edits, page, &mut self.surroundings),
+            None => Err(Unreadable::Word("no page runs")),
+        }
+    }
 }
 
 fn tree_of(alloc: Global, edits: &Edits) -> Result<Tree, Unreadable> {
@@ -59,15 +89,8 @@ fn tree_of(alloc: Global, edits: &Edits) -> Result<Tree, Unreadable> {
 
 /// What is told of the page of these lines.
 pub fn told(alloc: Global, lines: &[String]) -> Result<String, Unreadable> {
-    let Row {
-        edits,
-        page,
-        mut surroundings,
-    } = row_of(alloc, lines)?;
-    match page {
-        Some(page) => told_of(alloc, &edits, &page, &mut surroundings),
-        None => Err(Unreadable::Word("no page runs")),
-    }
+    let mut row = Row::empty(alloc)?;
+    row.told(alloc, lines)
 }
 
 // What is told of the page at a path of a tree of these edits.
