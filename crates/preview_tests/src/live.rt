@@ -45,8 +45,10 @@ const REFUSED: &str =
 HTTP/1.1 413 Content Too Large\r\nContent-Type: text/plain;charset=UTF-8\r\nContent-Length: 21\r\n\r\n\
 TreeTooLarge Version\n";
 
-/// Versions of the site, and what is asked and answered there, with so many pictures.
-const TALKS: [(u64, &str, &str, u64); 3] = [
+// A version of the site, what is asked and answered there, and with how many pictures.
+type Talk<'a> = (u64, &'a str, &'a str, u64);
+
+const TALKS: [Talk<'static>; 3] = [
     (1, WRITING, WRITTEN, 1),
     (1, VISITING, VISITED, 2),
     (9_223_372_036_854_775_807, WRITING, REFUSED, 1),
@@ -54,21 +56,30 @@ const TALKS: [(u64, &str, &str, u64); 3] = [
 
 // One attribute: `n`, which is 1.
 fn one(alloc: Global) -> Result<Attrs, AllocError> {
+    let name = Text::copy_of(alloc, "n")?;
     let mut attrs = Attrs::empty(alloc);
-    attrs.insert(Text::copy_of(alloc, "n")?, Value::Int(1))?;
+    attrs.insert(name, Value::Int(1))?;
     Ok(attrs)
+}
+
+// The session that has it.
+fn only_session(alloc: Global) -> Result<KeptSessions, AllocError> {
+    let attrs = one(alloc)?;
+    let mut sessions = KeptSessions::empty(alloc);
+    sessions.push(KeptSession {
+        number: 0,
+        used: 0,
+        attrs,
+    })?;
+    Ok(sessions)
 }
 
 // A site at this version whose application and whose session have that attribute.
 fn live(alloc: Global, version: u64) -> Result<SoloPort<Made>, Fail>
     ensures { IfOk result (λ port. 0 < port.actor.site.opening.passes) }
 {
-    let mut sessions = KeptSessions::empty(alloc);
-    sessions.push(KeptSession {
-        number: 0,
-        used: 0,
-        attrs: one(alloc)?,
-    })?;
+    let app = one(alloc)?;
+    let sessions = only_session(alloc)?;
     let opening = Opening {
         seed: [0; 32],
         limit: 2_147_483_648,
@@ -78,7 +89,7 @@ fn live(alloc: Global, version: u64) -> Result<SoloPort<Made>, Fail>
         begins: 0,
         freshes: 1,
         moment: 0,
-        app: one(alloc)?,
+        app,
         tree: Tree::new(alloc),
         sessions,
     };
@@ -107,11 +118,17 @@ fn previewed<N: Ledger>(
     sink.taken().to_vec(alloc)
 }
 
-// What is answered to a preview connection of a site at this version, and the site behind it.
-fn talked(alloc: Global, version: u64, input: &str) -> Result<(Vec<u8>, Site<Made>), Fail> {
-    let mut port = live(alloc, version)?;
-    let text = previewed::<Brand>(alloc, Blank::new(1), &mut port, input.as_bytes())?;
-    Ok((text, into_site(port)))
+// Whether a preview connection over a port is answered so.
+fn is_answered(
+    alloc: Global,
+    port: &mut SoloPort<Made>,
+    asked: &str,
+    answered: &str,
+) -> Result<bool, AllocError>
+    requires pass { 0 < port.old.actor.site.opening.passes }
+{
+    let text = previewed::<Brand>(alloc, Blank::new(1), port, asked.as_bytes())?;
+    Ok(text.as_slice() == answered.as_bytes())
 }
 
 // Whether that attribute is still 1.
@@ -119,24 +136,46 @@ fn is_one(attrs: &Attrs) -> bool {
     matches!(attrs.get("n"), Some(Value::Int(1)))
 }
 
+// Whether a site begins as it did, with those attributes.
+fn is_live(opening: &Opening, version: u64) -> bool {
+    for kept in opening.sessions.as_slice() {
+        if !is_one(&kept.attrs) {
+            return false;
+        }
+    }
+    opening.version == version && is_one(&opening.app)
+}
+
+// Whether so many pictures were asked of a site, and nothing else.
+fn has_pictures_alone(site: &Site<Made>, count: u64) -> bool {
+    for entry in site.history().iter() {
+        if !matches!(entry.op(), OpRef::Snapshot { .. }) {
+            return false;
+        }
+    }
+    site.len() == count
+}
+
+// Whether a next site would begin as this one did.
+fn goes_on(site: &Site<Made>, version: u64) -> Result<bool, AllocError> {
+    let next = site.next_opening()?;
+    Ok(is_live(&next, version))
+}
+
+// Whether a talk is answered as it should be, and leaves the site as it was.
+fn is_held(alloc: Global, talk: &Talk<'_>) -> Result<bool, Fail> {
+    let (version, asked, answered, pictures) = *talk;
+    let mut port = live(alloc, version)?;
+    let is_answered = is_answered(alloc, &mut port, asked, answered) == Ok(true);
+    let site = into_site(port);
+    let is_left = has_pictures_alone(&site, pictures) && goes_on(&site, version) == Ok(true);
+    Ok(is_answered && is_left)
+}
+
 #[test]
 fn a_preview_changes_nothing_of_the_site(rt: HostRuntime) -> Result<(), Fail> {
-    for &(version, asked, answered, pictures) in &TALKS {
-        let (text, site) = talked(rt.alloc(), version, asked)?;
-        assert_eq!(rt; text.as_slice(), answered.as_bytes());
-        assert_eq!(rt; site.len(), pictures);
-        for entry in site.history().iter() {
-            assert!(rt; matches!(entry.op(), OpRef::Snapshot { .. }));
-        }
-        let next = site.next_opening()?;
-        assert_eq!(rt; next.version, version);
-        assert!(rt; is_one(&next.app));
-        assert!(rt;
-            next.sessions
-                .as_slice()
-                .iter()
-                .all(|kept| is_one(&kept.attrs))
-        );
+    for talk in &TALKS {
+        assert!(rt; is_held(rt.alloc(), talk)?);
     }
     Ok(())
 }

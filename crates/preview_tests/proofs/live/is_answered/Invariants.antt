@@ -1,4 +1,4 @@
-use Rattle.preview_tests.proofs.live.talked.Given as goal
+use Rattle.preview_tests.proofs.live.is_answered.Given as goal
 
 abbrev pub ghosts-previewed : goal.ghosts-previewed
 ghosts-previewed a = record { name = a.blank.name; parts = a.blank.parts }
