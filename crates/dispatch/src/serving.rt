@@ -141,9 +141,9 @@ fn run<'a, Q: Port<Made>, K: Sink, L: Ledger>(
     come_back(port, steps, starved, replied)
 }
 
-// What was replied, unless memory was ever wanting to find a page. The port and the count of bytes
-// come back as they are: they are handed on since a struct that keeps a page is taken apart without
-// telling what stands behind what it was lent.
+// What was replied, unless memory ever ran out while a page was found. The port and the count of
+// bytes aren't used: handing them to a call tells the prover that they are as they were once
+// `asked`, which borrowed them and keeps a page, is taken apart.
 fn come_back<Q: Port<Made>, L: Ledger>(
     port: &mut Q,
     steps: &mut Steps<L>,

@@ -62,7 +62,8 @@ fn split_faults_by(split: bool, standing: &Standings) -> Faults
     ))
 }
 
-// Whether there is a body, where there may be none.
+// Whether an action that may have no body has one: where its parts stand (`split`) that is a
+// `jsp:body`, else anything, white space too.
 fn stands_as_body(split: bool, standing: &Standings) -> bool
     ensures { result ≡ stands_as_body split (map standing_made standing.now) }
 {

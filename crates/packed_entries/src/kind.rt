@@ -52,6 +52,7 @@ pub enum Kind {
     Abandoned {
         request: u64,
     },
+    // Publish, App, Snapshot and Roll: in memory of their own. The pass in it isn't read.
     Apart(Box<Entry>),
 }
 

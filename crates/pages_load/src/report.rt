@@ -16,6 +16,7 @@ pub(crate) fn report(
     requires few { number ≤ MAX_PAGES }
     ensures { IfOk result (λ lines. lines.items ≡ report number history.now.items answers.now) }
 {
+    // (by this law a page is asked for four times)
     counted();
     let mut lines = Vec::new(alloc);
     add_line(alloc, &mut lines, b"pages ", number as usize)?;

@@ -121,7 +121,7 @@ fn load<'a>(alloc: Global) -> Result<Command<'a>, AllocError> {
         .arg(value(alloc, "N", "How many pages it has, up to 1000"))
 }
 
-// A command without flags of its own.
+// A command without clap's own `--help`.
 fn command<'a>(alloc: Global, name: &'a str) -> Command<'a> {
     Command::new(alloc, name).disable_help_flag(true)
 }

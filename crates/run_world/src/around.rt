@@ -6,7 +6,7 @@ use pg_text::Text;
 pub struct Around {
     /// How many calls, includes, fragments and forwards the page stands in.
     pub depth: u32,
-    /// How many visits were counted, at most 1,000,000.
+    /// How many visits were counted, at most `VISIT_LIMIT` of `page_meaning`.
     pub visits: u32,
     /// What was charged for the steps that were asked.
     pub charge: u64,

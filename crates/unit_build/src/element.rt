@@ -34,7 +34,8 @@ use tag_decl::TagDecl;
 use unit_nodes::JspName;
 use unit_source::{MAX_NESTING, PlacedNode};
 
-// Whether an attribute takes text alone.
+// Whether `jsp:attribute` can't give this attribute: its value is text, or one `${name}`, as it is
+// written. What is unknown or left out is refused elsewhere.
 fn takes_text_alone(takes: Option<Takes>) -> bool
     ensures { result ≡ takes_text_alone takes }
 {
@@ -46,7 +47,7 @@ fn takes_text_alone(takes: Option<Takes>) -> bool
     }
 }
 
-// Whether the attribute of that name takes text alone in this row.
+// Whether `jsp:attribute` can't give the attribute of that name in this row.
 fn is_text_alone(name: Option<&str>, row: Option<Row>) -> bool
     ensures { result ≡ is_text_alone (option_map (λ name. name.now) name.entry) (option_map row_made row) }
 {

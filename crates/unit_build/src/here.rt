@@ -148,7 +148,7 @@ impl<'n> Around<'n> {
         }
     }
 
-    /// The elements in a list.
+    /// The elements in a list, the innermost first.
     pub fn hosts(self, alloc: Global) -> Result<Vec<Host<'n>>, AllocError>
         ensures { IfOk result (λ hosts. map host_made hosts.items ≡ around_made self.entry) }
     {

@@ -117,7 +117,7 @@ fn meet_value(
     found.meet(&attribute.place, taken.and(parts))
 }
 
-// Meets the values of attributes.
+// Meets the faults of each attribute's value in turn. `decl` is what the called tag file declares.
 fn meet_values(
     alloc: Global,
     course: &Course,

@@ -86,6 +86,7 @@ fn push_steps<'r>(
     Ok(behind)
 }
 
+// Adds the steps of a node, and answers what stands around behind it.
 #[cycle(steps)]
 fn push_node<'r>(
     alloc: Global,

@@ -11,8 +11,9 @@ use crate::whole::known;
 use std::alloc::{AllocError, Global};
 use std::collections::VecDeque;
 
-// The nodes with what was found at their include directives, which is taken from the front of the
-// queue.
+// The nodes with what was found at their include directives: `found` has an entry for each
+// directive here, in order, and what is taken goes from its front. Nodes that were included aren't
+// filled again. Where a file is lacking inside a body, its element's end counts as unread.
 #[cycle(filling)]
 #[tactic(auto, using(crate::proofs::FillLemmas::next_filled, crate::proofs::PlacedLemmas::followed_done))]
 pub(crate) fn fill_nodes(
