@@ -60,7 +60,8 @@ pub(crate) fn set_entry(
     joined(value, sets_entry(alloc, ground, place, target)?)
 }
 
-// The code that sets the entry of the record in a variable.
+// The code that sets an entry of the record in a variable. It takes two values: the entry's name,
+// and on top what shall stand under it, where null takes the entry out.
 fn sets_entry(
     alloc: Global,
     ground: &Shape,
@@ -125,7 +126,8 @@ fn with_value_or_body(
     arranged_before(alloc, ground, place, &[first], names, text)
 }
 
-// The code of the trimmed text of the body of a param, above the param's name.
+// The code of the trimmed text of a body, above the value of another attribute: the name of a
+// param, or the property of `c:set`.
 fn kept_above(alloc: Global, ground: &Shape, place: &Place, body: Code) -> Result<Code, AllocError>
     ensures { IfOk result (λ code. code ≡ kept_code (up 1 ground.now) place.now true body) }
 {

@@ -179,7 +179,7 @@ fn next_link(alloc: Global, ground: &Shape, place: &Place, link: &Link) -> Resul
 }
 
 // The code of expressions from left to right. Each runs above the values of those before it, so its
-// ground is one value higher.
+// ground, the shape on which a code begins, is one value higher.
 #[cycle(expression)]
 fn expressions(
     alloc: Global,

@@ -47,7 +47,8 @@ fn visited(alloc: Global, page: &Page, ground: &Shape, act: &Act) -> Result<Code
     joined(seen, node(alloc, page, ground, act)?)
 }
 
-// How many visits stand before a node: its own, and the first ones of the expression that it shows.
+// How many visits stand before a node, which one instruction counts: its own, and the first ones of
+// the expression that it shows. More than 32 bits hold are answered as if memory ran out.
 #[tactic(auto, using(page_acts::proofs::Rows::rows))]
 fn node_visits(act: &Act) -> Result<u32, AllocError>
     ensures { IfOk result (λ count. count ≡ node_visits (act_of act.now)) }

@@ -142,7 +142,7 @@ impl Deps {
     }
 }
 
-// The index of the path, or the one at which it would stand.
+// Where the path stands among the dependents, or where it would.
 fn place_of(dependents: &[Dependent], path: &Path) -> Result<usize, usize>
     requires { AreRising path_of dependents.now }
     ensures { IsPlace path_of path.now dependents.now result }

@@ -6,8 +6,8 @@ ghost use Rattle.http_out.specs.Sent.{Sent};
 
 use edges::{Failed, Sink};
 
-/// Writes more of a text, unless the sink failed before in it. What is told is of the whole text so
-/// far.
+/// Writes more of a text. Where the sink failed before in it, which `failed` says, it is given
+/// nothing; `sent` speaks of the whole text so far, with these bytes.
 pub fn write<K: Sink>(sink: &mut K, failed: &mut bool, bytes: &[u8])
     ensures sent { (old : Option (List ℕ)) (text : List ℕ) →
         Sent old (K.taken sink.old) text failed.old → Sent old (K.taken sink.new) (text ++ bytes.now) failed.new }

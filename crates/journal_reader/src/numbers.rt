@@ -7,7 +7,8 @@ use edges::Source;
 use pg_text::Failure;
 use std::alloc::Global;
 
-/// Reads so many bytes.
+/// Reads the next `N` bytes, whatever they are: of the mark, of the seed, of a number. `room` falls
+/// as `Part::read` says.
 pub(crate) fn array<S: Source, const N: usize>(
     alloc: Global,
     source: &mut S,

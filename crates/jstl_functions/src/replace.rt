@@ -24,6 +24,8 @@ pub(crate) fn replace(
     replace_some(alloc, text, old, new)
 }
 
+// The same of an `old` that isn't empty. What was made so far and is too long is X20 at once, since
+// what comes only makes it longer.
 fn replace_some(alloc: Global, text: &str, old: &str, new: &str) -> Result<Text, Failure<RunFault>>
     requires { 0 < length old.now }
     ensures { Answers (made (replaced_behind old.now new.now 0 text.now)) result }

@@ -62,8 +62,8 @@ fn split_faults_by(split: bool, standing: &Standings) -> Faults
     ))
 }
 
-// Whether an action that may have no body has one: where its parts stand (`split`) that is a
-// `jsp:body`, else anything, white space too.
+// Whether an action that may have no body has one: where `jsp:attribute` or `jsp:body` stands in it
+// (`split`) that is a `jsp:body`, an empty one too; else anything but comments and directives.
 fn stands_as_body(split: bool, standing: &Standings) -> bool
     ensures { result ≡ stands_as_body split (map standing_made standing.now) }
 {

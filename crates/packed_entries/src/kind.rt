@@ -73,7 +73,7 @@ pub(crate) fn kind_of(pass: u8, op: Op, reply: Reply, place: Option<Box<Entry>>)
     }
 }
 
-// The kind of an operation that doesn't stand apart.
+// The kind of an operation whose entry takes no memory beside its slot.
 #[inline(always)]
 fn slotted(op: Op, reply: Reply) -> Kind
     requires pairs { Pairs op reply }

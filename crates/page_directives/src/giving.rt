@@ -150,7 +150,8 @@ pub(crate) fn decided_by_one<'a>(
     }
 }
 
-/// The first value of an attribute that isn't refused, of those that directives of this name give.
+/// What directives named `giver` decide of the attribute `name`: the first of its values that its
+/// row in `table` doesn't refuse.
 pub fn decided<'a>(
     table: Table,
     giver: &str,

@@ -49,6 +49,8 @@ use tcp_edges::TcpBind;
 /// Which version of the program this is.
 const VERSION: &str = "pages 1.0.0";
 
+// No clause speaks of this: that `run` gets the real words and runtime, and that its status becomes
+// the program's, is trusted; the stored run of this program and `tools/commands` try it.
 fn main(rt: HostRuntime) -> ExitCode {
     let status = match words(&rt) {
         Ok(words) if is_alone(&words, "--help") => shown(&rt),

@@ -126,6 +126,8 @@ pub fn both<R: Threads + Wait + Sync, A: Accept + Sync, H: Handler + Sync>(
 }
 
 /// Workers of three listeners at the same time. They come back once the rounds of all are over.
+/// Each argument is a listener, its handler and the tokens of its workers; the tokens come back in
+/// the same order. That they have the mark isn't said, as it is by `workers`.
 pub fn three<R: Threads + Wait + Sync, A: Accept + Sync, H: Handler + Sync>(
     rt: &R,
     front: (&A, &H, Vec<Served<H::Token, A::Closing>>),

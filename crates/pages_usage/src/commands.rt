@@ -126,7 +126,8 @@ fn command<'a>(alloc: Global, name: &'a str) -> Command<'a> {
     Command::new(alloc, name).disable_help_flag(true)
 }
 
-// An option with a value.
+// An option with a value, for the text alone. Its name stands again where the words are read: in
+// `serve_words`, and in each command that takes `--seed`.
 fn option<'a>(alloc: Global, name: &'a str, value: &'a str, help: &'a str) -> Arg<'a> {
     Arg::new(alloc, name)
         .long(name)

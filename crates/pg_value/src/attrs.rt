@@ -254,7 +254,8 @@ fn replace(entries: &mut Vec<(Text, Value)>, at: usize, key: &Text, value: Value
     entries[at].1 = value;
 }
 
-// Puts the value in the place of the one at this place.
+// Puts the value in the place of the one at this place, under the key that stands there, as
+// `Record::set_at` does in a record of few entries. It takes no memory.
 pub fn set_at(entries: &mut Vec<(Text, Value)>, at: usize, value: Value)
     requires { at < length (map entry_of entries.old.items) }
     ensures { map entry_of entries.new.items ≡ with_value_at (map entry_of entries.old.items) at (datum_of value) }

@@ -93,7 +93,7 @@ begun_sessions seed moment cookie sessions (reply.Begun request version (Some nu
 begun_sessions seed moment cookie sessions (reply.Begun request version None) = unless_none (number_of (session_at seed cookie sessions)) sessions
 begun_sessions seed moment cookie sessions other = sessions
 
--- the first free session
+-- this number, where no request holds the session, or else a later one
 abbrev pub unheld : Option ℕ → ℕ → Option ℕ → Option ℕ
 unheld None number later = Some number
 unheld (Some request) number later = later

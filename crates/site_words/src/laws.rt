@@ -43,7 +43,8 @@ pub fn requests()
     ensures alone { NeverBusyAlone }
 {}
 
-/// Histories go on from a Roll as one.
+/// Histories go on from a Roll as one; and an opening that goes on from a sound one is sound, as
+/// long as its counts are below their end.
 pub fn rollover()
     ensures one { RollsOver }
     ensures sound { NextIsSound }

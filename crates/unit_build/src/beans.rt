@@ -9,6 +9,7 @@ use std::alloc::{AllocError, Global};
 /// The bean of a class, or the fault of its file.
 pub(crate) type Bean = Result<Value, TranslationFault>;
 
+// The fault of a bean's file whose text is no value for this reason: E12, E18 or E20.
 fn json_fault(fault: JsonFault) -> TranslationFault
     ensures { result ≡ json_fault fault }
 {

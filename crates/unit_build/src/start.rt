@@ -117,7 +117,8 @@ fn meet_value(
     found.meet(&attribute.place, taken.and(parts))
 }
 
-// Meets the faults of each attribute's value in turn. `decl` is what the called tag file declares.
+// Meets the faults of each attribute's value in turn. `decl` is what the called tag file declares:
+// None where no tag file is called, where it wasn't read, or where its declarations have a fault.
 fn meet_values(
     alloc: Global,
     course: &Course,

@@ -86,7 +86,8 @@ fn push_steps<'r>(
     Ok(behind)
 }
 
-// Adds the steps of a node, and answers what stands around behind it.
+// Adds the steps of a node, and answers what stands around the next one: the same, but that a
+// choice around has its `c:otherwise` now, where the node is one or includes one.
 #[cycle(steps)]
 fn push_node<'r>(
     alloc: Global,

@@ -13,7 +13,8 @@ use std::collections::VecDeque;
 
 // The nodes with what was found at their include directives: `found` has an entry for each
 // directive here, in order, and what is taken goes from its front. Nodes that were included aren't
-// filled again. Where a file is lacking inside a body, its element's end counts as unread.
+// filled again. Where a file is lacking inside a body, its element's end counts as unread, so what
+// the element lacks isn't reported.
 #[cycle(filling)]
 #[tactic(auto, using(crate::proofs::FillLemmas::next_filled, crate::proofs::PlacedLemmas::followed_done))]
 pub(crate) fn fill_nodes(
