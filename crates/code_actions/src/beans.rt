@@ -53,8 +53,8 @@ pub fn use_bean(
     ensured(alloc, ground, place, variable, bean, part)
 }
 
-// The bean of a class. Memory is wanting where it is over the limits of a value, as no bean that
-// was read is.
+// The bean of a class. One over the limits of a value, as no bean that was read is, is answered as
+// if memory ran out.
 #[tactic(auto, using(code_expressions::proofs::ValueLemmas::inverses))]
 fn bean_of(beans: &Attrs, class: &str) -> Result<Bean, AllocError>
     ensures { IfOk result (λ bean. bean ≡ value_of (or_null (entry_at class.now beans.now))) }

@@ -19,7 +19,8 @@ use pg_text::{Place, Text};
 use pg_value::{Scope, Value};
 use std::alloc::{AllocError, Global};
 
-/// The name of a variable. Memory is wanting where it has more bytes than a name may have.
+/// The name of a variable. One with more bytes than a name may have is answered as if memory ran
+/// out.
 pub(crate) fn name_of(text: &Text) -> Result<Name, AllocError>
     ensures { IfOk result (λ name. name ≡ text.now) }
 {

@@ -9,7 +9,7 @@ use crate::open::{is_roomy, opened};
 use page_code::{Cell, Code};
 
 /// Whether the shapes that a code carries fit, which is where it can be run from its first cell and
-/// never misses what an instruction takes. One pass forward, without memory.
+/// never misses what an instruction takes. Goes over the code once, forward, and takes no memory.
 #[tactic(auto, using(crate::proofs::Decided::code_decides))]
 pub fn check(code: &Code) -> bool
     ensures { Decides result (CodeFits code.now) }

@@ -2,8 +2,8 @@
 //! `code_lowering`.
 //!
 //! A code is joined from the codes of parts, each of which was made over its own ground, which is
-//! what stands open below the values that it takes. Memory is wanting (`AllocError`) also where a
-//! name has more bytes than `Name` takes, which no page has room for.
+//! what stands open below the values that it takes. A name with more bytes than `Name` takes, which
+//! no page has room for, is answered as if memory ran out (`AllocError`).
 #![tactic(auto)]
 
 mod calls;

@@ -33,7 +33,7 @@ pub(crate) fn name(
     }
 }
 
-// The code of a variable. A name that is too long for a code is answered as want of memory.
+// The code of a variable. A name that is too long for a code is answered as if memory ran out.
 fn variable(alloc: Global, ground: &Shape, place: &Place, name: &Text) -> Result<Code, AllocError>
     ensures { IfOk result (λ code. code ≡ form_code ground.now (does (op.Find name.now) place.now)) }
 {

@@ -19,7 +19,7 @@ use pg_text::Place;
 use std::alloc::{AllocError, Global};
 
 /// How many visits stand before all else in an expression, which so many others precede.
-/// A count that an operation can't hold is answered as want of memory.
+/// A count that an operation can't hold is answered as if memory ran out.
 pub fn first_visits(before: u32, el: &El) -> Result<u32, AllocError>
     ensures { IfOk result (λ count. count ≡ before + first_visits (tree_of el.now)) }
 {

@@ -20,7 +20,7 @@ module _ {C A B : Type 0} (names : List (List ℕ)) (places : List C) (close : B
       → IsIn places context old new (λ place a b a' b'. leaves place close a b (retargeted cut request) text a' b') → Leaves names places leaves close old request text new
   leaves_at leaves text is = subst (LeavesIn names places leaves close old request text new) (sym found) (inr is)
 
--- memory was wanting before the request came to its context
+-- memory ran out before the request came to its context
 pub leaves_here : {C A B : Type 0} (names : List (List ℕ)) (places : List C) (close : Bool) (at : Several A B) (request : Request) (leaves : C → Lets A B) → Leaves names places leaves close at request [] at
 leaves_here names places close at request leaves = go (context_of names request.target)
   where

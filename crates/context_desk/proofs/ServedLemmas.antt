@@ -20,7 +20,7 @@ served_map serves starves serves' starves' close request request' a b a' b' befo
 served_map serves starves serves' starves' close request request' a b a' b' before after taken now outcome.WriteFault f h is = record { text = is.text; broken = is.broken; served = f is.text is.broken is.served; sent = is.sent }
 served_map serves starves serves' starves' close request request' a b a' b' before after taken now outcome.NoMemory f h is = record { text = is.text; left = h is.text is.left; failed = is.failed; sent = is.sent; cause = is.cause }
 
--- a plain answer is served, where it answers; where memory was wanting nothing was written
+-- a plain answer is served, where it answers; where memory ran out nothing was written
 pub told_served : {W : Type 0} (serves : Bool → W → Exchange → W → Type 0) (starves : Bool → W → Request → List ℕ → W → Type 0) (close : Bool) (request : Request) (a b : W) (text : List ℕ) (before after : ℕ) (taken now : Option (List ℕ)) (answer : Outcome)
     → serves close a (exchange_of request text false) b → starves close a request [] b → IsTold text taken now answer → Served serves starves close request a b before after taken now answer
 told_served serves starves close request a b text before after taken now outcome.Whole is left told = record { text = text; served = is; written = told }

@@ -32,7 +32,7 @@ exchange_inside cut e = exchange_of (retargeted cut e.request) e.text e.broken
 abbrev pub Does : (A B : Type 0) → Type 1
 Does A B = Bool → A → B → Exchange → A → B → Type 0
 
--- what it leaves of a request for which memory was wanting, with the text that was to be written
+-- what it leaves of a request for which memory ran out, with the text that was to be written
 abbrev pub Lets : (A B : Type 0) → Type 1
 Lets A B = Bool → A → B → Request → List ℕ → A → B → Type 0
 
@@ -78,7 +78,7 @@ module _ {C A B : Type 0} (names : List (List ℕ)) (places : List C) where
       → Type 0
   Answers does close old e new = AnswersIn does close old e new (context_of names e.request.target)
 
-  -- memory was wanting: before the request came to its context, or there
+  -- memory ran out: before the request came to its context, or there
   abbrev pub LeavesIn : (leaves : C → Lets A B) → (close : Bool) → (old : Several A B) → Request → (text : List ℕ)
       → (new : Several A B) → Option (ℕ × ℕ) → Type 0
   LeavesIn leaves close old request text new None = (new ≡ old) × (text ≡ [])

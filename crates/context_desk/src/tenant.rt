@@ -42,7 +42,7 @@ pub trait Tenant {
     /// What an exchange does; the flag says whether the connection closes after it.
     ghost does: { Place → Bool → Own → Lent → Exchange → Own → Lent → Type 0 };
 
-    /// What is left of a request for which memory was wanting.
+    /// What is left of a request for which memory ran out.
     ghost leaves: { Place → Bool → Own → Lent → Asked → List ℕ → Own → Lent → Type 0 };
 
     /// Answers a request, so many having come before it on the connection. The flag says whether

@@ -31,7 +31,7 @@ impl<P> PortList<P> {
         self.ports.is_empty()
     }
 
-    /// Adds a port at the end; where there is no memory for it, it is dropped.
+    /// Adds a port at the end; where memory runs out the port is dropped.
     pub fn push(&mut self, port: P) -> Result<(), AllocError>
     where
         P: Drop,

@@ -1,4 +1,4 @@
-// Whether a word tells names, seen without memory.
+// Whether a word tells names, seen without taking memory.
 ghost use Rattle.std.specs.Prelude.{◌≡◌, is_some, length, nat_le};
 ghost use Rattle.std.specs.List.{list_all, list_any, slice_split};
 ghost use Rattle.std.specs.Str.{bytes_eq};

@@ -80,7 +80,7 @@ pub first_seen : (seen : List (List Entry)) → map (λ (part : Part). part.seen
 first_seen [] = refl
 first_seen (s ∷ seen) = ap (λ l. s ∷ l) (first_seen seen)
 
--- memory was wanting before anything was read: nothing was written
+-- memory ran out before anything was read: nothing was written
 pub untold : {H : Type 0} (names : List (List ℕ)) (connections : List (Connection × H)) (seen : List (List Entry)) (lent : Lent) (left : Option (List ℕ)) (faults : ℕ) (taken : Option (List ℕ))
     → TalkedAmong names connections seen seen lent lent left left faults faults taken taken NoMemory
 untold names connections seen lent left faults taken = record {

@@ -15,7 +15,7 @@ use Rattle.site_core.specs.Lived.{Lived}
 use Rattle.site_words.specs.declared.words.Entry.{Entry}
 use Rattle.talk_words.specs.Connection.{Connection}
 
--- memory was wanting for the sites: nothing was written
+-- memory ran out while the sites were made: nothing was written
 pub untold_alone : (names : List (List ℕ)) (seed : List ℕ) (moments : Moments) (steps : ℕ) (left : Option (List ℕ)) (faults : ℕ) (taken : Option (List ℕ)) → HasTalkedAmong names seed moments moments steps steps left left faults faults taken taken NoMemory
 untold_alone names seed moments steps left faults taken =
     let seen = map (λ (site : Lived). site.history) (first_sites names seed) in

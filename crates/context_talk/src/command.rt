@@ -18,7 +18,7 @@ use talk_words::Role;
 
 /// Runs one connection over contexts without files, and answers the program's status: 0 where it is
 /// done, 1 for other words, 2 where the bytes show a fault, 3 and 4 where reading or writing
-/// failed, and 5 where memory was wanting. The words are `contexts` and the contexts' names, joined
+/// failed, and 5 where memory ran out. The words are `contexts` and the contexts' names, joined
 /// by commas, or these, `--seed` and 64 hexadecimal digits; without them the seed is 32 zeros.
 pub fn play_contexts<S: Source, K: Sink, C: Clock, L: Ledger>(
     alloc: Global,

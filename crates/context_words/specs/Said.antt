@@ -11,7 +11,7 @@ use Rattle.talk_words.specs.Said.{IsLeft, IsSaid}
 abbrev pub IsSaidIn : {H : Type 0} → Connection × H → (close : Bool) → Part → Lent → Exchange → Part → Lent → Type 0
 IsSaidIn w close a b e a' b' = IsSaid w.0 close (stand_at a b) e (stand_at a' b')
 
--- a request in one context for which memory was wanting
+-- a request in one context for which memory ran out
 abbrev pub IsLeftIn : {H : Type 0} → Connection × H → (close : Bool) → Part → Lent → Request → (text : List ℕ) → Part → Lent → Type 0
 IsLeftIn w close a b request text a' b' = IsLeft w.0 close (stand_at a b) request text (stand_at a' b')
 
@@ -20,6 +20,6 @@ module _ {H : Type 0} (names : List (List ℕ)) (connections : List (Connection 
   abbrev pub IsSaidAmong : (close : Bool) → Several Part Lent → Exchange → Several Part Lent → Type 0
   IsSaidAmong close old e new = Answers names connections IsSaidIn close old e new
 
-  -- a request of such a connection for which memory was wanting
+  -- a request of such a connection for which memory ran out
   abbrev pub IsLeftAmong : (close : Bool) → Several Part Lent → Request → (text : List ℕ) → Several Part Lent → Type 0
   IsLeftAmong close old request text new = Leaves names connections IsLeftIn close old request text new

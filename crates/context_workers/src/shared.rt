@@ -18,7 +18,7 @@ pub struct SharedSites<P: Compiled, G: Gate + Drop> {
 }
 
 /// Shares the site of each context, on which no request is under way, among as many passes as its
-/// opening says, all behind gates of this kind. Where there is no memory the sites are dropped.
+/// opening says, all behind gates of this kind. Where memory runs out the sites are dropped.
 pub fn share<P: Compiled, G: Gate + Copy + Drop>(
     alloc: Global,
     contexts: Contexts<P>,

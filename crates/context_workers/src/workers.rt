@@ -18,7 +18,7 @@ use std::sync::Wait;
 pub type Worker<'a, P, G, R, E> = Served<PortList<SharedPort<'a, P, G, R>>, E>;
 
 /// Puts so many workers into an empty list with room for them, each with the last pass that is left
-/// of every site. Where there is no memory, the workers that were made stand there, and the passes
+/// of every site. Where memory runs out, the workers that were made stand there, and the passes
 /// that were taken for the next one are dropped.
 pub fn seat<'a, P: Compiled, G: Gate + Drop, R: Wait, E: Drop>(
     rt: &'a R,

@@ -26,12 +26,12 @@ module _ {P : Type 0} where
   share context [] = []
   share context (d ∷ more) = (if d.0 == context then d.1 ∷ [] else []) ++ share context more
 
-  -- an operation with its reply, where memory wasn't wanting
+  -- an operation with its reply, where memory didn't run out
   abbrev pub told : ℕ → Op → Acted (Given P) Refusal → List ((ℕ × Op) × Acted Reply Refusal)
   told pass o NoMemory = []
   told pass o answer = ((pass, o), reply_in answer) ∷ []
 
-  -- the operations for which memory wasn't wanting
+  -- the operations for which memory didn't run out
   abbrev pub asked : ℕ → Op → Acted (Given P) Refusal → List (ℕ × Op)
   asked pass o NoMemory = []
   asked pass o answer = (pass, o) ∷ []
@@ -63,7 +63,8 @@ module _ {P : Type 0} (needs : Needs) (made : P → List File → List ℕ → T
       → AreDone old done new → slice_get old context ≡ Some before
       → (after : Lived) × (slice_get new context ≡ Some after) × AreApplied before (share context done) after
 
-  -- in two worlds whose operations for one context are the same, where memory wasn't wanting, its replies and its state are the same
+  -- in two worlds whose operations for one context are the same, where memory didn't run out, its
+  -- replies and its state are the same
   abbrev pub IsSameInTwoWorlds : Type 0
   IsSameInTwoWorlds =
       (old new old' new' : List Lived) (done done' : List (ℕ × Done P)) (context : ℕ) (before : Lived)

@@ -8,7 +8,7 @@ pub fn apart<P: Compiled>()
     ensures { IsApart P.needs P.made }
 {}
 
-/// In two worlds whose operations for one context are the same, where memory wasn't wanting, its
+/// In two worlds whose operations for one context are the same, where memory didn't run out, its
 /// replies and its state are the same.
 pub fn two_worlds<P: Compiled>()
     ensures { IsSameInTwoWorlds P.needs P.made }

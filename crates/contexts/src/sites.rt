@@ -101,7 +101,7 @@ impl<P: Compiled> Contexts<P> {
         self.sites[context as usize].apply(pass, act)
     }
 
-    /// The ports of the sites, on which nobody else acts; where memory is wanting the sites are
+    /// The ports of the sites, on which nobody else acts; where memory runs out the sites are
     /// dropped.
     pub fn ports(self) -> Result<PortList<SoloPort<P>>, AllocError>
         requires rest { All Rests self.sites.items }

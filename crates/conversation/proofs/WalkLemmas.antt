@@ -228,7 +228,7 @@ moved_by http.CutOff mid later rest after_it has = has.0
 moved_by http.ReadFault mid later rest after_it has = has.0
 moved_by fault mid later rest after_it has = has.0
 
--- where memory was wanting and no request was open
+-- where memory ran out and no request was open
 pub starved_between : {W : Type 0} (serves : Bool → W → Exchange → W → Type 0) (starves : Bool → W → Request → List ℕ → W → Type 0) (start now : W) (left between later old taken new : Option (List ℕ)) (before after : ℕ) (rest after_it : List ℕ) (number : ℕ)
     → IsSoFar serves start now left between old taken rest number
     → Moves between later rest after_it → Appends taken new []
@@ -290,7 +290,7 @@ unwritten serves start mid now left between later old taken new rest after_it nu
   broke = sent_after old taken new (texts was.come.exchanges) is.text true was.written is.sent;
 }
 
--- where memory was wanting for a request
+-- where memory ran out for a request
 pub starved_by : {W : Type 0} (serves : Bool → W → Exchange → W → Type 0) (starves : Bool → W → Request → List ℕ → W → Type 0) (start mid now : W) (left between later old taken new : Option (List ℕ)) (before entry after : ℕ) (rest after_it : List ℕ) (number : ℕ) (request : Request) (close : Bool)
     → IsSoFar serves start mid left between old taken rest number
     → Saw between later rest (λ seen. StandsFirst seen request after_it)

@@ -127,13 +127,14 @@ pub record StoppedWriting {W : Type 0} (serves : Bool → W → Exchange → W �
   pub is_next : IsNext serves (length come.exchanges) mid now rest next
   pub broke : BreaksOff old new (texts come.exchanges) next
 
--- where memory was wanting: no request was open, and nothing was to be written; or a request was, which left this state and this text
+-- where memory ran out: no request was open, and nothing was to be written; or a request was, which
+-- left this state and this text
 abbrev pub IsLast : {W : Type 0} → (Bool → W → Request → List ℕ → W → Type 0) → ℕ → W → W → List ℕ → List ℕ → Type 0
 IsLast starves number mid now rest text =
     ((now ≡ mid) × (text ≡ []))
     ⊎ ((request : Request) × (after_it : List ℕ) × StandsFirst rest request after_it × starves (closes number request) mid request text now)
 
--- these requests were answered whole, and then memory was wanting
+-- these requests were answered whole, and then memory ran out
 pub record StoppedForMemory {W : Type 0} (serves : Bool → W → Exchange → W → Type 0) (starves : Bool → W → Request → List ℕ → W → Type 0) (start now : W) (left later : Option (List ℕ)) (before after : ℕ) (old new : Option (List ℕ)) : Type 0 where
   pub rest : List ℕ
   pub mid : W

@@ -21,7 +21,7 @@ pub record IsServedInPart {W : Type 0} (serves : Bool → W → Exchange → W �
   pub served : serves close old (exchange_of request text broken) new
   pub sent : Sent taken now text true
 
--- memory was wanting; the text was taken whole unless the sink failed
+-- memory ran out; the text was taken whole unless the sink failed
 pub record IsStarved {W : Type 0} (starves : Bool → W → Request → List ℕ → W → Type 0) (close : Bool) (request : Request) (old new : W) (before after : ℕ) (taken now : Option (List ℕ)) : Type 0 where
   pub text : List ℕ
   pub left : starves close old request text new

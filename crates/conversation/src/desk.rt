@@ -18,7 +18,7 @@ pub enum Outcome {
     Broken,
     /// The sink failed. The request was run to its end.
     WriteFault,
-    /// Memory was wanting. Nothing is written but what the desk states.
+    /// Memory ran out. Nothing is written but what the desk states.
     NoMemory,
 }
 
@@ -50,7 +50,7 @@ pub trait Desk {
     /// after it.
     ghost serves: { World → Bool → State → Exchange → State → Type 0 };
 
-    /// Memory was wanting for the request, which leaves this text in place of a response, and this
+    /// Memory ran out for the request, which leaves this text in place of a response, and this
     /// state.
     ghost starves: { World → Bool → State → Asked → List ℕ → State → Type 0 };
 

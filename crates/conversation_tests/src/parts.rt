@@ -7,7 +7,7 @@ use http_out::write;
 use std::alloc::Global;
 
 /// Answers each request with its target in three parts. At `/broken` the response breaks off behind
-/// the second, and at `/starved` memory is wanting there.
+/// the second, and at `/starved` memory runs out there.
 #[derive(Drop)]
 pub struct Parts;
 

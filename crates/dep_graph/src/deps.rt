@@ -81,8 +81,8 @@ impl Deps {
         }
     }
 
-    /// The path needs these names, and no longer those that it needed before. Where memory ends
-    /// they are as before.
+    /// The path needs these names, and no longer those that it needed before. Where memory runs
+    /// out, what it needs is as before.
     pub fn add(&mut self, path: &Path, names: &Names) -> Result<(), AllocError>
         ensures ok { OnOk result (self.new ≡ with_item path_of (record { path = path.now; names = names.now })
             self.old) }

@@ -26,8 +26,8 @@ fn order_of_name(named: &Named, name: &Path) -> Ordering
     named.name.as_bytes().cmp(name.as_bytes())
 }
 
-// The path needs all these names, too. Where memory ends, those that it needs already are taken
-// back.
+// The path needs all these names, too. Where memory runs out, the names that were added are taken
+// out again.
 pub(crate) fn add_all(index: &mut Vec<Named>, names: &[Path], path: &Path) -> Result<(), AllocError>
     requires { AreRising name_of index.old.items }
     ensures ok { OnOk result (index.new.items ≡ all_indexed path.now names.now index.old.items) }
@@ -44,7 +44,8 @@ pub(crate) fn add_all(index: &mut Vec<Named>, names: &[Path], path: &Path) -> Re
     }
 }
 
-// The path needs these names, too, or so many of the first of them, where memory ends.
+// The path needs these names, too. Where memory runs out, the answer is how many of the first were
+// added.
 fn add_some(index: &mut Vec<Named>, names: &[Path], path: &Path) -> Result<(), usize>
     requires { AreRising name_of index.old.items }
     ensures ok { OnOk result (index.new.items ≡ all_indexed path.now names.now index.old.items) }

@@ -1,4 +1,4 @@
--- What a request that was begun is answered, and what is left of it where memory was wanting.
+-- What a request that was begun is answered, and what is left of it where memory ran out.
 use Rattle.std.proofs.Common.{◌≡◌, ◌≤◌, ◌+◌, inl, ℕ, true, List, [], ◌∷◌, ◌++◌, Option, None, refl, sym, ap, subst, ◌∙◌, append-nil, inr, arith}
 use Rattle.std.specs.List.{list_all}
 use Rattle.std.specs.Option.{unwrap_or}
@@ -62,7 +62,7 @@ reply_heads held (replied.Whole status content_type location body) more s none =
 pub reply_within : (held : Held) (r : Reply) (more : List Answer) (s : State) → IsReplyOpen r s.writer.pieces → GoesWithin held.head s (reply_answer held r (given more s))
 reply_within held r more s is_open = (reply_grows held r more s, reply_heads held r more s is_open)
 
--- where memory was wanting for a reply its pages went no further than they go
+-- where memory ran out while a reply was written, its pages went no further than they go
 pub replies_starve : (x : Opening) (pass : ℕ) (p : Start) (new : List Entry) (now : ℕ) (course : Course) (taken : Option (List ℕ)) (faults : ℕ) (reply : Reply) (replies : Replies x pass p new now course taken faults reply)
     → Starves x pass p new now course.writer.head replies.ran.after
 replies_starve x pass p new now course taken faults reply replies = record {

@@ -81,7 +81,7 @@ module _ (x : Opening) (pass : ℕ) (old : Standing) (moments : Moments) (p : St
       came_written (wire (closing p.close (response_in course.writer r replies.ran.after)) p.shown) (response_in course.writer r replies.ran.after).broken replies.ran.after.writer.pieces taken faults o
       (replied_answer x pass old moments p begun new now mid course before counted r replies ended) wrote
 
-  -- memory was wanting before anything was committed, and the plain answer says so
+  -- memory ran out before anything was committed, and the plain answer says so
   pub came_silent : (mid : List Entry) (head : Head) (reached : State) (failed : Bool) (taken : Option (List ℕ)) (faults : ℕ) → Starves x pass p mid now head reached → reached.writer.pieces ≡ [] → HasDone needs_at x pass mid new ((op.Abandon p.number, reply.Dropped) ∷ [])
       → Sent p.taken taken (no_memory p.close p.shown) failed → (failed ≡ true → Rose p.faults faults) → Came x pass old moments p new now taken faults outcome.NoMemory
   came_silent mid head reached failed taken faults starves none abandoned sent cause = record {

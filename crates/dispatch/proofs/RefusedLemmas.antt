@@ -19,7 +19,7 @@ use Rattle.site_words.specs.declared.words.Opening.{Opening}
 use Rattle.site_words.specs.declared.words.Refusal.{Refusal}
 use Rattle.site_words.specs.declared.words.Refusal.TheVariants as refusal_is
 
--- nothing was sent, where memory was wanting
+-- nothing was sent, where memory ran out
 pub starves_unsent : {W : Type 0} (starves : Bool → W → Request → List ℕ → W → Type 0) (close : Bool) (request : Request) (old new : W) (before after : ℕ) (taken now : Option (List ℕ)) → now ≡ taken → starves close old request [] new
     → IsStarved starves close request old new before after taken now
 starves_unsent starves close request old new before after taken now same left = subst (IsStarved starves close request old new before after taken) (sym same) (starves_silently {starves = starves} close request old new before after taken left)
@@ -37,7 +37,7 @@ full_by (refusal_is.TreeTooLarge fault) full = absurd full
 full_by (refusal_is.Busy holder) full = absurd full
 
 module _ (needs : Needs) (x : Opening) (pass : ℕ) (request : Request) (close : Bool) (refusal : Refusal) (old new : Standing) (away : IsTurnedAway needs x pass request refusal old new) (taken : takes_method request.method ≡ true) where
-  -- without memory nothing was written
+  -- where memory ran out nothing was written
   pub full_drops : Drops needs x pass request close old [] new
   full_drops = drops_taken needs x pass request close old [] new taken (record { moment = away.moment; told = away.told; done = inl (record { stays = away.stays; read = away.read; text_is = refl }) })
 

@@ -183,7 +183,7 @@ module _ (x : Opening) (pass : ℕ) (p : Start) (new : List Entry) (turns : List
     meant_so : (future : List Answer) → meant p (answers_of x.seed turns ++ future) ≡ answers (closed.got ++ future) s
     meant_so future = ap (λ got. meant p (got ++ future)) (sym (told_so closed.got closed.replies)) ∙ sym (means (closed.got ++ future))
 
-    -- memory was wanting
+    -- memory ran out
     pub ran_short : (now : ℕ) → now ≤ p.steps + all_bytes p.tree turns → (ran : Ran x pass p new course taken faults) × Starves x pass p new now course.writer.head ran.after
     ran_short now read = (
       ran,
@@ -214,7 +214,7 @@ module _ (x : Opening) (pass : ℕ) (p : Start) (new : List Entry) (turns : List
               means = λ future. meant_so future ∙ ends.1 future;
             }
 
--- unless memory was ever wanting to find a page
+-- unless memory ever ran out while a page was found
 
 pub ok_unless : (P : Type 0) (starved : Bool) (replied result : Result Reply AllocError) → (starved ≡ true → IsErr result) → (starved ≡ false → result ≡ replied) → OnOk replied P → OnOk result P
 ok_unless P true replied (Ok r) err fed h = absurd (cc (err refl))

@@ -26,7 +26,7 @@ pub begun_as : (x : Opening) (pass : ℕ) (old : Standing) (moments : Moments) (
     → other ≡ tree → HasBegun x pass old moments (started request close shown number tree found begun steps taken faults) → HasBegun x pass old moments (started request close shown number other found begun steps taken faults)
 begun_as x pass old moments request close shown number tree other found begun steps taken faults same h = subst (λ tree. HasBegun x pass old moments (started request close shown number tree found begun steps taken faults)) (sym same) h
 
--- where memory was wanting before any page ran
+-- where memory ran out before any page ran
 pub begun_starves : (x : Opening) (pass : ℕ) (p : Start) (head : Head) → Legal needs_at x p.begun → Starves x pass p p.begun p.steps head (beginning p.found [])
 begun_starves x pass p head legal = record {
   turns = [];

@@ -40,6 +40,6 @@ module _ (needs : Needs) (x : Opening) (pass : ℕ) (request : Request) (close :
 -- what was written of a response
 
 module _ {W : Type 0} {starves : Bool → W → Request → List ℕ → W → Type 0} where
-  -- nothing, where memory was wanting
+  -- nothing, where memory ran out
   pub starves_silently : (close : Bool) (request : Request) (old new : W) (before after : ℕ) (taken : Option (List ℕ)) → starves close old request [] new → IsStarved starves close request old new before after taken taken
   starves_silently close request old new before after taken left = record { text = []; left = left; failed = false; sent = sent_none taken; cause = λ is. absurd (cc) }

@@ -19,8 +19,9 @@ response_in held (reply.Written broken) s =
     record { head = head_of held.head.status held.head.content_type None s; pieces = s.writer.pieces; rest = rest_of broken s.writer.buffer; broken = broken }
 response_in held (reply.Whole status content_type location body) s = record { head = head_of status content_type location s; pieces = []; rest = body; broken = false }
 
--- how a response that may break off was written to a sink that had taken this and counted so many faults when it began: whole, or in
--- part where the sink failed; memory was wanting only where nothing was committed, and then nothing was written
+-- how a response that may break off was written to a sink that had taken this and counted so many
+-- faults when it began: whole, or in part where the sink failed; memory ran out only where nothing
+-- was committed, and then nothing was written
 abbrev pub Wrote : {E : Type 0} → (start : Option (List ℕ)) → (before : ℕ) → (text : List ℕ) → (broken : Bool) → (pieces : List (List ℕ)) → (taken : Option (List ℕ)) → (faults : ℕ) → Result Outcome E → Type 0
 Wrote start before text broken pieces taken faults (Ok Whole) = Appends start taken text × (broken ≡ false)
 Wrote start before text broken pieces taken faults (Ok Broken) = Appends start taken text × (broken ≡ true)

@@ -101,7 +101,7 @@ pub record Replies (x : Opening) (pass : ℕ) (p : Start) (new : List Entry) (no
   pub is_open : IsReplyOpen reply ran.after.writer.pieces
   pub means : (future : List Answer) → meant p (answers_of x.seed ran.turns ++ future) ≡ reply_answer course.writer reply (given future ran.after)
 
--- memory was wanting, and its pages went no further than they go, behind this head
+-- memory ran out, and its pages went no further than they go, behind this head
 pub record Starves (x : Opening) (pass : ℕ) (p : Start) (new : List Entry) (now : ℕ) (head : Head) (reached : State) : Type 0 where
   pub turns : List Turn
   pub stops : are_whole_but_last turns ≡ true
@@ -111,7 +111,7 @@ pub record Starves (x : Opening) (pass : ℕ) (p : Start) (new : List Entry) (no
   pub read : now ≤ p.steps + all_bytes p.tree turns
   pub means : (more : List Answer) → GoesWithin head reached (meant p (answers_of x.seed turns ++ more))
 
--- the run of its pages replies, or memory was wanting
+-- the run of its pages replies, or memory ran out
 abbrev pub RunsSo : {E : Type 0} → Opening → (pass : ℕ) → Start → (new : List Entry) → (now : ℕ) → Course → (taken : Option (List ℕ)) → (faults : ℕ) → Result Reply E → Type 0
 RunsSo x pass p new now course taken faults (Ok reply) = Replies x pass p new now course taken faults reply
 RunsSo x pass p new now course taken faults (Err e) = (ran : Ran x pass p new course taken faults) × Starves x pass p new now course.writer.head ran.after

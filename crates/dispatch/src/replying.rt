@@ -23,7 +23,7 @@ use request_pages::{Incoming, Reply, new_id};
 use run_world::Around;
 use std::alloc::{AllocError, Global};
 
-/// Writes a reply to its end. Memory may be wanting only where nothing was committed, and then
+/// Writes a reply to its end. Memory may run out only where nothing was committed, and then
 /// nothing was written.
 pub(crate) fn write_reply<K: Sink>(
     alloc: Global,

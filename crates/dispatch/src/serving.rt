@@ -41,7 +41,7 @@ use request_port::RequestPort;
 use site_words::{Begun, Port};
 use std::alloc::{AllocError, Global};
 
-/// Answers a request that has begun, and ends it. Where memory is wanting it is abandoned.
+/// Answers a request that has begun, and ends it. Where memory runs out the request is abandoned.
 pub(crate) fn serve<Q: Port<Made>, K: Sink, L: Ledger>(
     alloc: Global,
     port: &mut Q,
@@ -161,7 +161,8 @@ fn come_back<Q: Port<Made>, L: Ledger>(
     replied
 }
 
-// Writes the reply of a request, and ends it; where memory is wanting for its head it is abandoned.
+// Writes the reply of a request, and ends it; where memory for its head runs out the request is
+// abandoned.
 fn finish<Q: Port<Made>, K: Sink>(
     alloc: Global,
     port: &mut Q,
@@ -205,7 +206,7 @@ fn finish<Q: Port<Made>, K: Sink>(
 }
 
 // Abandons a request whose pages were cut short. What was committed stands; else the answer says
-// that memory was wanting.
+// that memory ran out.
 #[cold]
 #[inline(never)]
 fn give_up<Q: Port<Made>, K: Sink>(
@@ -237,7 +238,7 @@ fn give_up<Q: Port<Made>, K: Sink>(
     abandon(port, under_way, sink)
 }
 
-// Abandons a request of which nothing was committed, and says that memory was wanting.
+// Abandons a request of which nothing was committed, and says that memory ran out.
 #[cold]
 #[inline(never)]
 fn abandon<Q: Port<Made>, K: Sink>(port: &mut Q, under_way: UnderWay, sink: &mut K) -> Outcome

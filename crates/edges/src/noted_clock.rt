@@ -6,8 +6,8 @@ use crate::Clock;
 use std::alloc::Global;
 use std::marker::Model;
 
-/// A clock over another that notes each moment as it is answered. Where it finds no memory for one
-/// it lets its notes go, and tells none from there on: what it tells is always whole.
+/// A clock over another that notes each moment as it is answered. Where memory for one runs out it
+/// lets its notes go, and tells none from there on: what it tells is always whole.
 #[derive(Drop)]
 pub struct NotedClock<C: Clock> {
     inner: C,
@@ -34,7 +34,7 @@ impl<C: Clock> NotedClock<C> {
         }
     }
 
-    /// The moments answered so far, where there was memory for all.
+    /// The moments answered so far, unless memory ran out for one of them.
     pub fn noted(&self) -> Option<&[u64]>
         ensures { option_map (λ moments. moments.now) result ≡ self.now.noted }
     {

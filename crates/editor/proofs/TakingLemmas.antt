@@ -15,7 +15,8 @@ use Rattle.editor.specs.declared.message.Message.{Message}
 use Rattle.editor.specs.declared.message.Message.TheVariants.{Change, Publish}
 use Rattle.editor.specs.Taking.{Takes}
 
--- a request that isn't read has its fault for an answer, or memory was wanting; the draft and what was seen are as they were
+-- a request that isn't read has its fault for an answer, or memory ran out; the draft and what was
+-- seen are as they were
 pub unread : (needs : Needs) (x : Opening) (pass : ℕ) (said : Result Message EditorFault) (draft : List Edit) (seen : List Entry) (failure : Failure EditorFault)
     → Legal needs x seen → Answers {A = Message} said (Err failure) → Takes needs x pass said draft draft seen seen (Err failure)
 unread needs x pass (Ok (Publish base)) draft seen NoMemory legal is = record { stays = record { longer = front_same seen; same = refl; is_legal = legal }; kept = refl }

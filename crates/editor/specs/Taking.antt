@@ -60,7 +60,7 @@ pub record IsTurnedAway (needs : Needs) (x : Opening) (pass : ℕ) (base : Optio
   pub told_is : fault_of refusal ≡ Some told
   pub kept : later ≡ draft
 
--- memory was wanting: the draft stands, and the pass has no further entry
+-- memory ran out: the draft stands, and the pass has no further entry
 pub record IsStarved (needs : Needs) (x : Opening) (pass : ℕ) (draft later : List Edit) (seen now : List Entry) : Type 0 where
   pub stays : Stays needs x pass seen now
   pub kept : later ≡ draft

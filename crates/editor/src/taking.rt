@@ -13,7 +13,7 @@ use source_tree::Edit;
 use std::alloc::Global;
 
 /// Does what a request says to an editor: it changes the draft, or publishes it. After a fault, and
-/// where memory is wanting, the draft stands as it was.
+/// where memory runs out, the draft stands as it was.
 pub fn take<P: Compiled, Q: Port<P>>(
     alloc: Global,
     draft: &mut Draft,

@@ -1,4 +1,4 @@
--- Answers that may be a fault or want of memory.
+-- Answers that may be a fault, or that memory ran out.
 use Rattle.std.specs.Prelude.{Result, Ok, Err, ⊤}
 use Rattle.pg_text.specs.declared.failure.Failure.{Failure}
 use Rattle.pg_text.specs.declared.failure.Failure.TheVariants as failure

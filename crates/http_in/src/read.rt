@@ -18,9 +18,9 @@ use pg_text::{Bytes, Failure};
 use std::alloc::{AllocError, Global};
 
 /// Reads the next request, in whatever pieces the source gives its bytes, and takes it out of
-/// `rest`. None means that the input ended between requests. After None, a fault or want of memory
-/// all that was read stands in `rest`; after want of memory the same request may be asked for
-/// again.
+/// `rest`. None means that the input ended between requests. After None, after a fault and where
+/// memory ran out, all that was read stands in `rest`; where memory ran out the same request may be
+/// asked for again.
 pub fn read_request<S: Source>(
     alloc: Global,
     source: &mut S,
@@ -113,7 +113,7 @@ fn read_body<S: Source>(
 }
 
 // The request at the front, whose body stands from `len` to `end`; it is taken away. Where memory
-// is wanting nothing is.
+// runs out nothing is.
 fn take_request(
     alloc: Global,
     rest: &mut Rest,

@@ -54,7 +54,7 @@ impl ReadBuffer {
         self.read - self.used
     }
 
-    // Drops the first bytes. They stand there until room is wanting.
+    // Drops the first bytes. They stand there until their room is needed.
     pub fn drop_front(&mut self, count: usize)
         requires { count ≤ length self.old }
         ensures { self.new ≡ drop count self.old }
@@ -63,7 +63,7 @@ impl ReadBuffer {
     }
 
     // Reads the next piece, and answers how many bytes it has: none where the input has ended.
-    // Where memory is wanting nothing was read.
+    // Where memory runs out nothing was read.
     pub fn fill<S: Source>(&mut self, source: &mut S) -> Result<usize, Failure<HttpFault>>
         ensures more { IfOk result (λ count. length self.new ≡ length self.old + count) }
         ensures ended { IfOk result (λ count. count ≡ 0 → (self.new ≡ self.old) × IsAtEnd (S.left source.new)) }

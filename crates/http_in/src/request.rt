@@ -35,7 +35,7 @@ pub struct Request {
 
 impl Request {
     /// The same request with another target, which its path, query and parameters follow. Where
-    /// memory is wanting the request is dropped.
+    /// memory runs out the request is dropped.
     pub fn retarget(self, alloc: Global, target: Text) -> Result<Self, AllocError>
         ensures request { IfOk result (λ request. request ≡ request_of self.method target self.fields self.body) }
         ensures cookie { IfOk result (λ request. length request.cookie ≤ SESSION_ID_BYTES) }

@@ -86,7 +86,7 @@ impl Rest {
     }
 
     // Reads the next piece. The answer says whether any came: if none did, the input has ended.
-    // Where memory is wanting nothing was read.
+    // Where memory runs out nothing was read.
     pub(crate) fn fill<S: Source>(&mut self, source: &mut S) -> Result<bool, Failure<HttpFault>>
         ensures more { IfOk result (λ came. IsTrue came → length self.old < length self.new) }
         ensures ended { IfOk result (λ came. came ≡ false →

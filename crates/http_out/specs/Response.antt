@@ -53,7 +53,7 @@ opening head = head_text head chunked
 abbrev pub plain : Status → Bool → List ℕ → Bool → List ℕ
 plain status close line shown = whole (plain_head status close) (line ++ codes "\n") shown
 
--- the plain answer that memory was wanting
+-- the plain answer that memory ran out
 unfoldable pub no_memory : Bool → Bool → List ℕ
 no_memory close shown = plain ServiceUnavailable close (codes "NoMemory") shown
 

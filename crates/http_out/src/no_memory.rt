@@ -7,7 +7,7 @@ ghost use Rattle.http_out.specs.Sent.{Sent};
 use crate::sending::write;
 use edges::Sink;
 
-/// Writes the plain answer that memory was wanting, and takes none.
+/// Writes the plain answer that memory ran out, and takes no memory.
 pub fn write_no_memory<K: Sink>(sink: &mut K, failed: &mut bool, close: bool, shown: bool)
     ensures sent { (old : Option (List ℕ)) (text : List ℕ) →
         Sent old (K.taken sink.old) text failed.old →

@@ -17,7 +17,7 @@ use std::alloc::{AllocError, Global};
 const MOST_JOINED: usize = 8_192;
 
 /// Writes a response of one piece, at once. The body is left out where it isn't to be shown, as for
-/// HEAD. Without memory nothing was written.
+/// HEAD. Where memory runs out nothing is written.
 pub fn write_whole<K: Sink>(
     alloc: Global,
     sink: &mut K,
@@ -43,7 +43,7 @@ pub fn write_whole<K: Sink>(
     Ok(())
 }
 
-/// Writes the head of a response in chunks. Without memory nothing was written.
+/// Writes the head of a response in chunks. Where memory runs out nothing is written.
 pub fn write_head<K: Sink>(
     alloc: Global,
     sink: &mut K,
@@ -65,8 +65,8 @@ pub fn write_head<K: Sink>(
     Ok(())
 }
 
-/// Writes a plain answer of one line as all of a response, and says whether the sink failed.
-/// Without memory nothing was written.
+/// Writes a plain answer of one line as all of a response, and says whether the sink failed. Where
+/// memory runs out nothing is written.
 pub fn tell_plain<K: Sink>(
     alloc: Global,
     sink: &mut K,

@@ -103,7 +103,7 @@ opened_so needs x y z history front talk (Wrong why.Opening) ends same site unro
 opened_so needs x y z history front talk (Wrong (why.Entry place)) ends same site unroll legal is = absurd is
 opened_so needs x y z history front talk (Wrong why.Talk) ends same site unroll legal is = (legal, λ has. is (of_right needs x y history front talk same unroll has))
 
--- where there was memory
+-- unless memory ran out
 
 pub judged_if : {E : Type 0} (needs : Needs) (last : Option Journal) (j : Journal) (r : Result Judged E) → IsRightOpening needs last j.opening → IfOk r (IsOpenedJudged needs j.opening j.history j.talk) → IfOk r (IsJudged needs last j)
 judged_if needs last j (Ok said) opens is = judged_so needs last j said opens is

@@ -13,8 +13,8 @@ abbrev pub IsWritten : Option (List ℕ) → (old new : Option (List ℕ)) → T
 IsWritten None old new = Appends old new []
 IsWritten (Some line) old new = Appends old new line
 
--- the answer's line was written and the status is the answer's; or the sink failed within the line, with status 4; or memory was wanting, with
--- status 5, and nothing was written
+-- the answer's line was written and the status is the answer's; or the sink failed within the line,
+-- with status 4; or memory ran out, with status 5, and nothing was written
 pub record IsShown (answer : Result Verdict AuditFault) (old new : Option (List ℕ)) (status : ℕ) : Type 0 where
   pub whole : status ≢ 4 → status ≢ 5 → (status ≡ status_of answer) × IsWritten (line_of answer) old new
   pub broken : status ≡ 4 → (line : List ℕ) × (line_of answer ≡ Some line) × Sent old new line true

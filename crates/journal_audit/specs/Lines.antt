@@ -13,7 +13,7 @@ no_line count why.Opening = codes "no " ++ decimal count ++ codes " opening\n"
 no_line count (why.Entry place) = codes "no " ++ decimal count ++ (codes " entry " ++ decimal place ++ codes "\n")
 no_line count why.Talk = codes "no " ++ decimal count ++ codes " talk\n"
 
--- a failed source and want of memory have no line
+-- where the source failed or memory ran out there is no line
 abbrev pub line_of : Result Verdict AuditFault → Option (List ℕ)
 line_of (Ok (Yes journals entries)) = Some (codes "yes " ++ decimal journals ++ (codes " " ++ decimal entries ++ codes "\n"))
 line_of (Ok (No journal why)) = Some (no_line journal why)

@@ -17,8 +17,8 @@ const MAX_BYTES: u64 = 4_294_967_296;
 /// right. At most 4,294,967,296 bytes are read, and one journal at a time is in memory.
 ///
 /// Errors: `NotJournal` and `TooLong` where something else stands behind right journals;
-/// `ReadFault` where the source failed; want of memory. Then the source has given some of the
-/// bytes.
+/// `ReadFault` where the source failed; `NoMemory` where memory ran out. Then the source has given
+/// some of the bytes.
 pub fn audit<S: Source>(alloc: Global, source: &mut S) -> Result<Verdict, AuditFault>
     ensures { Audited needs_at (S.left source.old) (S.faults source.old) (S.faults source.new)
         result }

@@ -17,7 +17,7 @@ use std::alloc::Global;
 /// journals stand before what is none. There are no words.
 ///
 /// The answer is the program's status: 0 for yes, 6 for the other lines, 1 where there is a word, 3
-/// and 4 where reading or writing failed, and 5 where memory was wanting.
+/// and 4 where reading or writing failed, and 5 where memory ran out.
 pub fn audit_words<S: Source, K: Sink>(
     alloc: Global,
     words: &[String],

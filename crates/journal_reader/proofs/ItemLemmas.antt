@@ -106,7 +106,7 @@ module _ {A : Type 0} (P : A → Type 0) (f : A → List ℕ) where
       subst (λ xs. Reads (AreSo (length xs) P) (flat_map f) left later room rest before now (Ok xs)) (sym is)
       (all_read (length done + 1) (length (done ++ x ∷ [])) (sym (length-append done (x ∷ []))) (next_read (length done) first second))
 
-  -- where no memory is left for it
+  -- where memory for the next item ran out
   pub next_wants : {left mid later : Option (List ℕ)} {room half rest before between now : ℕ} {done : List A} {x : A} {failure : Failure Unread} (i n : ℕ) → failure ≡ NoMemory
       → Reads (AreSo i P) (flat_map f) left mid room half before between (Ok done) → Reads P f mid later half rest between now (Ok x) → Reads (AreSo n P) (flat_map f) left later room rest before now (Err failure)
   next_wants {left = left} {later = later} {room = room} {rest = rest} {before = before} {now = now} i n is first second =

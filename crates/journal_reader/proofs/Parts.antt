@@ -51,7 +51,7 @@ module _ {A B : Type 0} (I : A → Type 0) (k : A → List ℕ) (Q : B → Type 
     counted = was.counted;
   }
 
-  -- memory may be wanting
+  -- memory may run out
   pub memory_stops : {left later : Option (List ℕ)} {room rest before now : ℕ} {result : Result A (Failure Unread)} → Reads I k left later room rest before now result → Reads Q g left later room rest before now (Err NoMemory)
   memory_stops was = record { answered = tt; took = was.took; counted = was.counted }
 

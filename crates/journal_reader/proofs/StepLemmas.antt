@@ -123,7 +123,7 @@ pub on_read_behind : {B : Type 0} {R Q : Value → List ℕ → Type 0} {Then : 
 on_read_behind (Ok b) step le was = on_read b (both_steps step was.answered) (omega (arith, le, was.counted))
 on_read_behind (Err failure) step le was = on_stops_behind step le was
 
--- memory may be wanting
+-- memory may run out
 pub on_starves : {B : Type 0} {R Q : Value → List ℕ → Type 0} {Then : B → Value → List ℕ → Type 0} {left later : Option (List ℕ)} {room rest before now : ℕ} (r : Result B (Failure Unread)) → IsErrAnd r (λ y. y ≡ NoMemory) → Steps R Q left later room rest → before ≤ now → ReadsOn R Then left later room rest before now r
 on_starves {R = R} {Then = Then} {left = left} {later = later} {room = room} {rest = rest} {before = before} {now = now} r is step le =
     let p = err_from_is_err_and r is in

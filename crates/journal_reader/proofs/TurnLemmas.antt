@@ -143,7 +143,7 @@ turn_stops {R = R} {W = W} {left = left} {mid = mid} {later = later} {room = roo
       counted = omega (arith, le, was.counted);
     })
 
--- memory may be wanting
+-- memory may run out
 pub turn_starves : {R : Value → List ℕ → Type 0} {left later : Option (List ℕ)} {room rest before now : ℕ} {failure : Failure Unread} (r : Result Value (Failure Unread)) → IsErrAnd r (λ y. y ≡ failure) → failure ≡ NoMemory → Steps IsValueOf R left later room rest → before ≤ now
     → Reads IsValue of_value left later room rest before now r
 turn_starves {left = left} {later = later} {room = room} {rest = rest} {before = before} {now = now} r is none step le =

@@ -39,7 +39,8 @@ pub record Stands (start : Option (List ℕ)) (before : ℕ) (held : Held) (take
   -- and to the sink went the head and the chunks of the pieces
   pub streamed : HasTaken start before (so_far held.head held.shown writer.pieces) held.failed taken faults
 
--- a call did what was expected of it, with this fact of what was written then; or it has the fault that was expected; or it lacked memory
+-- a call did what was expected of it, with this fact of what was written then; or it has the fault
+-- that was expected; or memory ran out
 abbrev pub Comes : Result Writer RunFault → Result ⊤ (Failure RunFault) → (Writer → Type 0) → Type 0
 Comes expected (Ok done) stands = (after : Writer) × (expected ≡ Ok after) × stands after
 Comes expected (Err (Fault fault)) stands = expected ≡ Err fault
@@ -49,8 +50,8 @@ Comes expected (Err NoMemory) stands = ⊤
 abbrev pub response_of : Head → Writer → Bool → Response
 response_of head writer broken = record { head = head; pieces = writer.pieces; rest = writer.buffer; broken = broken }
 
--- how a response ended: the sink took it whole, or it failed and took a part; memory is wanting only where nothing was committed,
--- and then nothing was written
+-- how a response ended: the sink took it whole, or it failed and took a part; memory runs out only
+-- where nothing was committed, and then nothing was written
 abbrev pub Finished : Option (List ℕ) → ℕ → Bool → Response → Option (List ℕ) → ℕ → Result ⊤ (Failure Failed) → Type 0
 Finished start before shown response taken faults (Ok done) = HasTaken start before (wire response shown) false taken faults
 Finished start before shown response taken faults (Err (Fault failed)) = HasTaken start before (wire response shown) true taken faults

@@ -52,7 +52,7 @@ impl Stream {
         Ok(())
     }
 
-    /// Writes the head, unless it was written before. Only this wants memory.
+    /// Writes the head, unless it was written before. Only the head takes memory.
     pub(crate) fn begin<K: Sink>(&mut self, alloc: Global, sink: &mut K) -> Result<(), AllocError>
         ensures sent { (start : Option (List ℕ)) (before : ℕ) (pieces : List (List ℕ)) →
             Streams start before self.old (K.taken sink.old) (K.faults sink.old) pieces →
@@ -106,7 +106,7 @@ impl Stream {
         Ok(())
     }
 
-    // Writes what is left of the response. Memory may be wanting only where nothing was committed.
+    // Writes what is left of the response. Memory may run out only where nothing was committed.
     fn write_left<K: Sink>(
         &mut self,
         alloc: Global,

@@ -232,7 +232,7 @@ impl Writer {
 
     /// Ends the response, which may break off. Where nothing was committed it is written whole;
     /// else what is left is a last chunk, and the end stands behind it, unless it breaks off.
-    /// Memory may be wanting only where nothing was committed.
+    /// Memory may run out only where nothing was committed.
     pub fn finish<K: Sink>(self, sink: &mut K, broken: bool) -> Result<(), Failure<Failed>>
         ensures finished { (start : Option (List ℕ)) (before : ℕ) (writer : Written) →
             Stands start before self (K.taken sink.old) (K.faults sink.old) writer →

@@ -1,4 +1,4 @@
--- The head of what is answered, where memory was wanting.
+-- The head of what is answered, where memory ran out.
 use Rattle.std.proofs.Common.{◌≡◌, ℕ, List, [], ◌∷◌}
 use Rattle.http_out.specs.declared.head.Head.{Head}
 use Rattle.page_answers.specs.Dropped.{HeadsSo}

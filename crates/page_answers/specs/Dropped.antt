@@ -1,4 +1,4 @@
--- What is left of a request for which memory was wanting.
+-- What is left of a request for which memory ran out.
 use Rattle.std.specs.Prelude.{◌≡◌, ◌⊎◌, ℕ, ◌+◌, ◌≤◌, Bool, true, List, [], ◌∷◌, ◌++◌, Option, None, ⊤}
 use Rattle.std.specs.Bool.{MatchBool}
 use Rattle.http_in.specs.declared.request.Request.{Request}
@@ -26,7 +26,8 @@ use Rattle.page_answers.specs.Turns.{Turn, all_bytes, all_calls, answers_of, are
 abbrev pub closing_head : (close : Bool) → Head → Head
 closing_head close head = record head { close = close }
 
--- what is written where memory is wanting: the plain answer that says so where nothing was committed, else the head and the chunks so far
+-- what is written where memory runs out: the plain answer that says so where nothing was committed,
+-- else the head and the chunks so far
 abbrev pub dropped_text : Head → (close shown : Bool) → (pieces : List (List ℕ)) → List ℕ
 dropped_text head close shown [] = no_memory close shown
 dropped_text head close shown (piece ∷ pieces) = opened (closing_head close head) shown (piece ∷ pieces)
@@ -61,7 +62,7 @@ pub record IsDropped (needs : Needs) (x : Opening) (pass : ℕ) (request : Reque
   pub heads : (more : List Answer) → HeadsSo head reached.writer.pieces (respond (paged_at (tree_at needs x begun)) request (session_found needs x request.cookie begun begins.session) (answers_of x.seed turns ++ more))
   pub text_is : text ≡ dropped_text head close (shows_body request.method) reached.writer.pieces
 
--- what is left where memory was wanting
+-- what is left where memory ran out
 abbrev pub Drops : Needs → Opening → (pass : ℕ) → Request → (close : Bool) → (old : Standing) → (text : List ℕ) → (new : Standing) → Type 0
 Drops needs x pass request close old text new =
     MatchBool (takes_method request.method)

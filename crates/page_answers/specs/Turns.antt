@@ -15,8 +15,9 @@ use Rattle.unit_source.specs.Files.{text_in}
 use Rattle.compiled_pages.specs.Pages.{unit_in}
 use Rattle.unit_build.specs.Unit.{Unit}
 
--- a step that was done: one on the application's attributes with what it was told; a session that was made; a page of which what is kept was
--- taken; one that was made anew and offered, by whether it was kept; and one that was missed and, memory being wanting, not offered
+-- a step that was done: one on the application's attributes with what it was told; a session that
+-- was made; a page of which what is kept was taken; one that was made anew and offered, by whether
+-- it was kept; and one that was missed and, as memory ran out, not offered
 pub data Turn : Type 0 where
   stepped : AppStep → AppReply → Turn
   made : (session : ℕ) → Turn

@@ -130,7 +130,7 @@ module _ {W : Type 0} {reached : W → Origin → W → State → Type 0} {repli
           (r.replies ∙ ap (λ x. x ++ r.got) same) ((behind first origin s stands).by first origin r.after r.stood);
     }
 
-    -- memory was wanting in it
+    -- memory ran out in it
     pub ran_short : (o : Open) → ((s : State) (d : Did) → Grows (state_of d) (config_state (back s d))) → Ran reached replies serves runs entered ran ends.NoMemory
         → Stepped reached replies serves seat move old ran o (flows.Over ends.NoMemory)
     ran_short o grows run = record {

@@ -123,7 +123,7 @@ module _ (serving : Serving) (seat : Seat) (move : State → Move) (s s1 : State
         go (flows.Over (ends.Raised fault place)) h = λ future. subst (λ m. MoveEnds serving seat m (Raised fault place (given future n.after))) (here future) (ends_over (n.got ++ future) (Raised fault place (given future n.after)) (h future))
         go (flows.Over ends.NoMemory) h = λ future d r. grows_over (n.got ++ future) n.after d (h future) (subst (λ m. MoveEnds serving seat m d) (sym (here future)) r)
 
-  -- memory was wanting inside the run of its own
+  -- memory ran out inside the run of its own
   pub call_short : (grows : (d : Did) → Grows (state_of d) (config_state (back d))) (stands : State → Type 0) (o : Open) (old new : List Answer)
       → RunFrom runs stands s1 old new ends.NoMemory → Turns serving seat move stands s o old new (flows.Over ends.NoMemory)
   call_short grows stands o old new run = record {

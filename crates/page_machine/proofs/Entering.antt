@@ -108,7 +108,7 @@ module _ {W : Type 0} {reached : W → Origin → W → State → Type 0} {store
         behind_run (ends.Raised f at) (λ t. Raised f at t) (raised_is f at) new o2 flow run
         (λ s e. back_thrown to o s frames frame (frames_are s e) (frame_is s e) (λ t. On (back s (Raised f at t))) f at ran mid new o2 flow (λ t. refl) gone kept_replies acted)
 
-    -- it ended the page, or memory was wanting
+    -- it ended the page, or memory ran out
     pub entered_over : (end : End) → (end ≡ ends.Normal → ⊥) → ((f : RunFault) (at : Place) → end ≡ ends.Raised f at → ⊥)
         → Ran reached replies (ServesSo stores served) (CodeRuns (in_tag inner seat) 0 left) entered ran end
         → Stepped reached replies (ServesSo stores served) seat (λ serving s. entered_move place c behind seat o tag entries s) old ran o (flows.Over end)

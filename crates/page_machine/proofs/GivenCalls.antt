@@ -47,7 +47,8 @@ use Rattle.http_in.specs.declared.params.Param.{Param}
 use Rattle.scopes.specs.Scopes.{Entries, ScopeState}
 use Rattle.site_words.specs.Law.{Answer}
 
--- a change of the state that neither asks nor commits, as a part that fails for want of memory alone
+-- a change of the state that neither asks nor commits, as a part that fails only where memory ran
+-- out
 module _ {W : Type 0} {reached : W → Origin → W → State → Type 0} {replies : W → List Answer} where
   pub change_failed : (change : State → State) → ((s : State) → Grows (change s) s) → (place : Place) (move : State → Move) → ((s : State) → MoveGrows s (move s)) → (p : Open) (old mid new : W) (failed : Failure RunFault)
       (o2 : Open) (flow : Flow) → Doing reached replies (λ u. u) (λ place s. let w : Did = Well tt (change s) in w) old mid (Err failed) → Acted reached replies (failing place p failed) mid new o2 flow
@@ -154,7 +155,7 @@ module _ (place : Place) (to : ℕ) (o : Open) (name : Option (List ℕ)) (seat 
           (λ s. given_is (code_at at) s e ∙ ap (λ x. given_called place (code_at at) x to s o) is
           ∙ deeper_none place s o o.left (λ left. given_entered place left (code_at at) c caller to s o) none) acted
 
-      -- memory was wanting where variables are copied to the caller
+      -- memory ran out where variables are copied to the caller
       pub copy_failed : (old mid new : W) (failed : Failure RunFault) (o2 : Open) (flow : Flow)
           → Doing reached replies (λ u. u) (λ place s. let w : Did = Well tt (copied_to_caller c s) in w) old mid (Err failed) → Acted reached replies (failing place o failed) mid new o2 flow
           → (failed ≡ failure.NoMemory → (flow ≡ flows.Over ends.NoMemory) × (new ≡ mid)) → Acted reached replies (λ s. given_called place (given_by name seat) seat to s o) old new o2 flow

@@ -88,7 +88,7 @@ module _ {W : Type 0} {reached : W → Origin → W → State → Type 0} {repli
         (λ s e. back_thrown to o s frames frame (counted ∙ ap (λ v. length v.frames) e) (current ∙ ap (λ v. v.current) e) (λ t. On (given_back_to place to o name seat c caller is s (Raised f spot t))) f spot ran back new o2 flow
         (λ t. refl) gone kept_replies acted)
 
-    -- it ended the page, or memory was wanting
+    -- it ended the page, or memory ran out
     pub given_over : (end : End) → (end ≡ ends.Normal → ⊥) → ((f : RunFault) (spot : Place) → end ≡ ends.Raised f spot → ⊥) → Ran reached replies (ServesSo stores served) (CodeRuns caller at left) entered ran end
         → Stepped reached replies (ServesSo stores served) seat move old ran o (flows.Over end)
     given_over end normal raised run =

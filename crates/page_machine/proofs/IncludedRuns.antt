@@ -103,7 +103,7 @@ module _ {W : Type 0} {reached : W → Origin → W → State → Type 0} {store
         behind_run (ends.Redirect location) (λ t. Ended (redirects location) t) (redirect_is location) new o (flows.Go to) run
         (λ s e f. back_redirected to o s frames frame (counted ∙ ap (λ v. length v.frames) e) (current ∙ ap (λ v. v.current) e) bodies place location ran mid new (were ∙ f) one first two second)
 
-    -- by a forward, or memory was wanting
+    -- by a forward, or memory ran out
     pub included_over : (end : End) → ((location : List ℕ) → end ≡ ends.Redirect location → ⊥) → (end ≡ ends.Normal → ⊥) → ((f : RunFault) (spot : Place) → end ≡ ends.Raised f spot → ⊥)
         → Ran reached replies (ServesSo stores served) (page_runs program params left) entered ran end
         → Stepped reached replies (ServesSo stores served) seat (λ serving s. included_run place program params left to s o) old ran o (flows.Over end)

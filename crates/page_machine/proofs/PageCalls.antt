@@ -129,7 +129,7 @@ pub include_failed_is : (serving : Serving) (place : Place) (failed : Failure Ru
 include_failed_is serving place (failure.Fault f) to s o = refl
 include_failed_is serving place failure.NoMemory to s o = refl
 
--- memory was wanting for a target, or not
+-- memory for a target ran out, or not
 is_short : (found : Result machine_target.Target (Failure RunFault)) → (found ≡ Err failure.NoMemory) ⊎ (found ≡ Err failure.NoMemory → ⊥)
 is_short (Ok t) = inr (λ e. absurd (cc))
 is_short (Err (failure.Fault f)) = inr (λ e. absurd (cc))
@@ -153,7 +153,7 @@ module _ (place : Place) (to : ℕ) (seat : Seat) (o p : Open) (ds : List Datum)
         go false = refl
 
     module _ {W : Type 0} {reached : W → Origin → W → State → Type 0} {replies : W → List Answer} {serves : W → Serving → Type 0} where
-      -- memory was wanting for the flush
+      -- memory for the flush ran out
       pub include_unflushed : (old new : W) (o2 : Open) → Changes reached (λ s. s) old new → replies new ≡ replies old
           → Stepped reached replies serves seat (λ serving s. called_out serving seat place to (call.Include flush params) s o) old new o2 (flows.Over ends.NoMemory)
       include_unflushed old new o2 changes same =
@@ -352,7 +352,7 @@ module _ (place : Place) (program : Program) (params : List Param) (left : ℕ) 
           };
     }
 
-    -- the beginning failed: memory was wanting
+    -- the beginning failed: memory ran out
     pub page_failed : (old new : W) (failed : Failure RunFault) → Doing reached replies (λ u. u) (λ place. page_begun program) old new (Err failed)
         → Ran reached replies serves (λ serving s d. PageRuns serving program params left s d) old new ends.NoMemory
     page_failed old new (failure.Fault f) does = record {

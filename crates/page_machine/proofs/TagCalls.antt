@@ -150,6 +150,6 @@ module _ (place : Place) (c : TagCall) (behind : ℕ) (seat : Seat) (o : Open) (
     pub tag_deep : (old new : W) (o2 : Open) (flow : Flow) → o.left ≡ 0 → Acted reached replies (λ s. On (thrown fault.TooDeep place s o)) old new o2 flow → Acted reached replies entered_move old new o2 flow
     tag_deep old new o2 flow none acted = acted_as entered_move (λ s. On (thrown fault.TooDeep place s o)) old new o2 flow (λ s. deeper_none place s o o.left _ none) acted
 
-    -- memory was wanting, and nothing but that
+    -- memory ran out, and nothing but that
     pub tag_short : (old new : W) (o2 : Open) → Changes reached (λ s. s) old new → replies new ≡ replies old → Acted reached replies entered_move old new o2 (flows.Over ends.NoMemory)
     tag_short old new o2 changes same = acted_spent entered_move old new o2 entered_grows changes same

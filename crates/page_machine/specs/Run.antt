@@ -99,8 +99,8 @@ abbrev pub DepthSo : (old new : ℕ) → RunEnd → Type 0
 DepthSo old new (ends.Forward path params) = new ≤ level_limit
 DepthSo old new other = new ≡ old
 
--- a page's run ended so, and the target of a forward is as deep as the levels say that are left; where memory was wanting, the run went no further than any does
--- from there
+-- a page's run ended so, and the target of a forward is as deep as the levels say that are left;
+-- where memory ran out, the run went no further than any does from there
 abbrev pub PageEndsSo : ((a : List Answer) → Did → Type 0) → (depth : ℕ) → RunEnd → State → Type 0
 PageEndsSo runs depth ends.Normal s = (future : List Answer) → runs future (Well tt (given future s))
 PageEndsSo runs depth (ends.Forward path params) s = (left : ℕ) × (depth ≡ level_limit - left) × ((future : List Answer) → runs future (Ended (forwards path params left) (given future s)))

@@ -35,7 +35,8 @@ MoveEnds serving seat (On c) d = Runs serving seat c d
 MoveEnds serving seat (Into callee first back) d = (r : Did) × Runs serving callee first r × Runs serving seat (back r) d
 MoveEnds serving seat Stuck d = ⊥
 
--- what ends so, for whatever answers are still to come; where memory was wanting, it went no further than whatever ends from there
+-- what ends so, for whatever answers are still to come; where memory ran out, it went no further
+-- than whatever ends from there
 abbrev pub EndsSo : (List Answer → Did → Type 0) → End → State → Type 0
 EndsSo runs ends.Normal s = (future : List Answer) → runs future (Well tt (given future s))
 EndsSo runs (ends.Forward path params left) s = (future : List Answer) → runs future (Ended (forwards path params left) (given future s))

@@ -76,7 +76,7 @@ fn import_target(alloc: Global, seat: &Seat, values: &[Value]) -> Result<Target,
     find_target(alloc, seat, values)
 }
 
-// Commits what is buffered, where that is asked. Where memory is wanting, the state is as before.
+// Commits what is buffered, where that is asked. Where memory runs out, the state is as before.
 fn flush_if<W: World>(flush: bool, world: &mut W) -> Result<(), AllocError>
     requires covered { W.covered world.old }
     ensures covered { W.covered world.new }

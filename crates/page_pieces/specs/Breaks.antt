@@ -51,7 +51,7 @@ IsBreakAt None setting file spot text fault = ⊥
 abbrev pub IsBreak : Setting → List ℕ → Spot → List ℕ → Break → Type 0
 IsBreak setting file spot text fault = IsBreakAt (mark_at setting text) setting file spot text fault
 
--- the reading breaks off so, unless memory was wanting
+-- the reading breaks off so, unless memory ran out
 abbrev pub BreaksOff : Setting → List ℕ → Spot → List ℕ → Failure Break → Type 0
 BreaksOff setting file spot text failure.NoMemory = Unit {0}
 BreaksOff setting file spot text (failure.Fault fault) = IsBreak setting file spot text fault

@@ -2,7 +2,7 @@
 use pg_text::{BadPath, Failure};
 use std::alloc::{AllocError, AllocFailed};
 
-/// Why a row has no answer: what is wrong with its words, or that memory was wanting.
+/// Why a row has no answer: what is wrong with its words, or that memory ran out.
 #[derive(Drop)]
 pub enum Unreadable {
     NoMemory,

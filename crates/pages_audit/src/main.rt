@@ -20,7 +20,7 @@ fn main(rt: HostRuntime) -> ExitCode {
     ExitCode::from(status)
 }
 
-// Audits standard input: the status that comes of it, or that of what was wanting before.
+// Audits standard input, and answers the status: that of the audit, or one for why there was none.
 fn audited(rt: &HostRuntime) -> Result<u8, u8> {
     let words = words(rt)?;
     let Ok(input) = BufReader::new(rt.alloc(), rt.reader()) else {
@@ -31,7 +31,7 @@ fn audited(rt: &HostRuntime) -> Result<u8, u8> {
     Ok(audit_words(rt.alloc(), &words, &mut source, &mut sink))
 }
 
-// The words, without the program's name; or else the status: 5 where memory was wanting, 1 where
+// The words, without the program's name; or else the status: 5 where memory ran out, 1 where
 // one of them is no text.
 fn words(rt: &HostRuntime) -> Result<Vec<String>, u8> {
     let given = match env::args(rt) {

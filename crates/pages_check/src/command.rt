@@ -20,8 +20,7 @@ use whole_input::read_up_to;
 /// Reads a page from the source, and writes `ok` or the line of its fault to the sink, with a line
 /// feed. The words are `check` and the page's path, which is resolved in the root folder; the page
 /// is the only file of its site. The answer is the program's status: 0 for a good page, 6 for a
-/// fault, 1 for other words, 3 and 4 where reading or writing failed, and 5 where memory was
-/// wanting.
+/// fault, 1 for other words, 3 and 4 where reading or writing failed, and 5 where memory ran out.
 pub fn check<S: Source, K: Sink, L: Ledger>(
     alloc: Global,
     words: &[String],

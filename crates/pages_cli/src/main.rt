@@ -20,8 +20,8 @@
 //! fault: status 0 or 6. `pages load N` talks with a generated site of N pages in memory, and
 //! writes five numbers of that. `pages --help` says how the commands are called, and `pages
 //! --version` which version this is. For other words the status is 1, and how each is called goes
-//! to standard error; where reading or writing failed the status is 3 and 4, and where memory was
-//! wanting 5.
+//! to standard error; where reading or writing failed the status is 3 and 4, and where memory ran
+//! out it is 5.
 #![tactic(auto)]
 
 ghost use Rattle.std.specs.Prelude.{◌≡◌, ◌≢◌, ◌<◌, None, map, string_bytes};
@@ -73,7 +73,7 @@ fn is_alone(words: &[String], name: &str) -> bool {
 }
 
 // Writes the help to standard output, and answers the status: 4 where that failed, 5 where memory
-// was wanting.
+// ran out.
 fn shown(rt: &HostRuntime) -> u8 {
     let Ok(text) = help(rt.alloc()) else {
         return 5;
@@ -91,7 +91,7 @@ fn versioned(rt: &HostRuntime) -> u8 {
     }
 }
 
-// Says on standard error how the commands are called, where there is memory for that.
+// Says on standard error how the commands are called, unless memory runs out.
 fn refuse(rt: &HostRuntime) {
     if let Ok(text) = usage(rt.alloc()) {
         let text = text.as_str();
@@ -99,8 +99,8 @@ fn refuse(rt: &HostRuntime) {
     }
 }
 
-// The words of the command, without the program's name; or else the status: 5 where memory was
-// wanting, 1 where one of them is no text.
+// The words of the command, without the program's name; or else the status: 5 where memory ran out,
+// 1 where one of them is no text.
 fn words(rt: &HostRuntime) -> Result<Vec<String>, u8> {
     let given = match env::args(rt) {
         Ok(given) => given,

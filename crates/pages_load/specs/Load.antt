@@ -80,7 +80,7 @@ pub record IsSpoken (number : ℕ) (steps now : ℕ) (history : List Entry) (ans
   pub talked : HasTalked (opening_of first_seed) (telling (0 ∷ [])) still steps now (Some (generated number)) later 0 after (Some []) (Some answers) ended
   pub history_is : talked.history ≡ history
 
--- a conversation that ended so is whole: memory wasn't wanting in it, and nothing outside failed
+-- a conversation that ended so is whole: memory didn't run out in it, and nothing outside failed
 abbrev pub IsWhole : Ended → Type 0
 IsWhole Done = ⊤
 IsWhole (Refused fault) = ⊤

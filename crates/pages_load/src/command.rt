@@ -14,7 +14,7 @@ use std::alloc::Global;
 
 /// Talks with a generated site in memory, and writes five lines with the numbers of that to the
 /// sink. The words are `load` and how many pages it has, from 1 to 1,000. The answer is the
-/// program's status: 0, 1 for other words, 4 where writing failed, and 5 where memory was wanting.
+/// program's status: 0, 1 for other words, 4 where writing failed, and 5 where memory ran out.
 pub fn load<K: Sink, L: Ledger>(
     alloc: Global,
     words: &[String],

@@ -60,7 +60,7 @@ fn converse<L: Ledger>(
 }
 
 // Gives an error where the conversation wasn't whole: its source and its sink are in memory, and
-// fail only where that is wanting.
+// fail only where that runs out.
 fn check_whole(ended: Ended) -> Result<(), AllocError>
     ensures { OnOk result (IsWhole ended) }
 {

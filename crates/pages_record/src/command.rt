@@ -16,7 +16,7 @@ use std::alloc::Global;
 /// most, and is read whole before anything is written. The output is a journal for each connection,
 /// one behind the other. The moments of all are those of this clock. The answer is the program's
 /// status: 0 where each was recorded, 1 for other words, 2 where the input is no such list, 3 and 4
-/// where reading or writing failed, and 5 where memory was wanting, or a count of the site has come
+/// where reading or writing failed, and 5 where memory ran out, or a count of the site has come
 /// to 2^63.
 pub fn play_record<S: Source, K: Sink, C: Clock, L: Ledger>(
     alloc: Global,

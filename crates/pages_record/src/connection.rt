@@ -66,7 +66,7 @@ fn moments_of<C: Clock>(alloc: Global, clock: &NotedClock<C>) -> Result<Listed<u
     Ok(Listed::new(Vec::from_slice(alloc, moments)?))
 }
 
-// The number by which a talk names how it ended, or none where memory was wanting: a source and a
+// The number by which a talk names how it ended, or none where memory ran out: a source and a
 // sink in memory fail for nothing else.
 fn end_number(ended: Ended) -> Option<u8>
     ensures { result ≡ end_number ended }

@@ -29,7 +29,7 @@ use std::thread::Threads;
 /// Serves a new site without files on two ports: to readers by as many workers as the words say,
 /// and by one more to editors; and on a third, where the words name one, by one more to those who
 /// are shown drafts. The answer is the program's status: 1 for other words, 7 where a listener
-/// can't be had, 8 where the workers can't have a thread each, 5 where memory was wanting.
+/// can't be had, 8 where the workers can't have a thread each, 5 where memory ran out.
 /// Otherwise it isn't meant to end. What it has to say at the start goes to `notices`, and the
 /// journal of each round to `journals`.
 pub fn serve<R: Threads + Wait + Sync, B: Bind, W: Clocks + Sync, J: Sink, K: Sink>(
@@ -107,8 +107,8 @@ fn among<R: Threads + Wait + Sync, A: Accept + Sync + Drop, W: Clocks + Sync, K:
     unreachable!()
 }
 
-// Serves one round after the other, and writes the journal of each. It ends where memory is
-// wanting. Where drafts are shown there are no rounds.
+// Serves one round after the other, and writes the journal of each. It ends where memory runs out.
+// Where drafts are shown there are no rounds.
 fn rounds<R: Threads + Wait + Sync, A: Accept + Sync + Drop, W: Clocks + Sync, J: Sink>(
     platform: Platform<'_, R, W>,
     mut site: Site<Made>,

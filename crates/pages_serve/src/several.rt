@@ -22,7 +22,7 @@ use std::sync::Wait;
 use std::thread::Threads;
 
 /// Serves a site without files for each name: to readers by as many workers as are said, and to
-/// editors by one more. It ends where memory is wanting; else it lasts as long as the listeners,
+/// editors by one more. It ends where memory runs out; else it lasts as long as the listeners,
 /// and then the sites are dropped.
 pub(crate) fn serve_contexts<R: Threads + Wait + Sync, A: Accept + Sync, W: Clocks + Sync>(
     platform: Platform<'_, R, W>,

@@ -1,4 +1,4 @@
--- A connection for whose site there is no memory.
+-- A connection for whose site memory ran out.
 use Rattle.std.proofs.Common.{ℕ, ◌<◌, List, [], Option, false, inl, refl}
 use Rattle.conversation.specs.declared.ended.Ended.TheVariants.{NoMemory}
 use Rattle.edges.proofs.Own.{front_same}

@@ -3,7 +3,7 @@ ghost use Rattle.std.specs.Prelude.{◌≡◌, IfOk};
 use crate::{Bytes, PageFault, Path, Place, Text};
 use std::alloc::AllocError;
 
-/// A type whose values can be copied to equal ones, where memory suffices.
+/// A type whose values can be copied to equal ones, unless memory runs out.
 pub trait Duplicate {
     fn duplicate(&self) -> Result<Self, AllocError>
         ensures { IfOk result (λ copy. copy ≡ self.now) };

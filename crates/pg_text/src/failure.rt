@@ -1,6 +1,6 @@
 use std::alloc::{AllocError, AllocFailed};
 
-/// Why a call has no answer: it has a fault of its own, or memory was wanting.
+/// Why a call has no answer: it has a fault of its own, or memory ran out.
 #[derive(Debug, Drop, PartialEq, Eq)]
 pub enum Failure<E> {
     NoMemory,

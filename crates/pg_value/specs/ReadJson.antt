@@ -9,13 +9,13 @@ use Rattle.pg_value.specs.declared.value.Value.{Value}
 use Rattle.pg_value.specs.declared.json.JsonFault.{JsonFault}
 use Rattle.pg_value.specs.declared.json.JsonFault.TheVariants as fault
 
--- a reader answers this fault, or memory was wanting
+-- a reader answers this fault, or memory ran out
 abbrev pub Refuses : Option Data → Failure JsonFault → Type 0
 Refuses found NoMemory = ⊤
 Refuses found (Fault fault.NotJson) = found ≡ None
 Refuses found (Fault other) = ⊥
 
--- a number isn't written as a whole number of 64 bits, or memory was wanting
+-- a number isn't written as a whole number of 64 bits, or memory ran out
 abbrev pub FailsToConvert : {A : Type 0} → Option A → Failure JsonFault → Type 0
 FailsToConvert found NoMemory = ⊤
 FailsToConvert found (Fault fault.Decimal) = found ≡ None

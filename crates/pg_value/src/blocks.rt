@@ -160,7 +160,7 @@ fn make_room(blocks: &mut Vec<Block>, key: &str) -> Result<(), AllocError>
 }
 
 // Puts the value under the key, in the place of what stood there: copies one block. More entries
-// than can be counted are refused as for want of memory.
+// than can be counted are refused as if memory ran out.
 pub fn put(blocks: &mut Vec<Block>, key: Text, value: Value) -> Result<(), AllocError>
     requires { AreBlocks blocks.old.items }
     ensures ok { OnOk result (joined blocks.new.items

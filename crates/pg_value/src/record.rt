@@ -102,7 +102,7 @@ impl Record {
 
     /// Puts the value under the key, in the place of what stood there. Where other records share
     /// the entries, few are copied, and of many those that stand by the key. A record of 2^63
-    /// entries, which no memory holds, is refused as for want of it.
+    /// entries, which no memory holds, is refused as if memory ran out.
     pub fn insert(&mut self, key: Text, value: Value) -> Result<(), AllocError>
         ensures ok { OnOk result (self.new ≡ with_entry self.old key (datum_of value)) }
         ensures err { OnErr result (self.new ≡ self.old) }

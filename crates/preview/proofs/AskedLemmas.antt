@@ -139,7 +139,7 @@ module _ (needs : Needs) (x : Opening) (pass : ℕ) (close : Bool) (request : Re
       (λ text is. subst (λ test. MatchBool test (IsUntold request old text new) (MatchBool (takes_method request.method) (IsUnasked needs x pass old text new ⊎ IsDropped needs x pass request close old text new) ((new ≡ old) × (text ≡ [])))) (sym edits) is)
       served
 
--- memory was wanting for telling that the request has another method
+-- memory ran out while it was told that the request has another method
 leaves_other : (needs : Needs) (x : Opening) (pass : ℕ) (request : Request) (close : Bool) (at : PreviewStand) (text : List ℕ) → is_editors request.target ≡ false → takes_method request.method ≡ false → text ≡ []
     → Leaves needs x pass request close at text at
 leaves_other needs x pass request close at text pages other none =

@@ -48,7 +48,7 @@ module _ (close : Bool) (request : Request) (draft later : List Edit) (seen : Li
       close request (preview_stand draft seen steps) (preview_stand later seen steps) (told_text told close (shows_body request.method)) before after taken now answer
       (record { told = told; drafts = drafts; read = refl; text_is = refl; broken_is = refl }) (record { result = taken_as told; drafts = drafts; read = refl; text_is = refl }) is
 
--- memory was wanting for it
+-- memory ran out for an editor's message
 pub edit_starved : (close : Bool) (request : Request) (draft later : List Edit) (seen : List Entry) (steps faults : ℕ) (taken : Option (List ℕ)) → IsDrafted (message request) draft later seen seen (Err failure.NoMemory)
     → ServedEdited close request (preview_stand draft seen steps) (preview_stand later seen steps) faults faults taken taken NoMemory
 edit_starved close request draft later seen steps faults taken drafts =

@@ -1,4 +1,4 @@
--- A preview connection to a site for which there is no memory.
+-- A preview connection to a site for which memory ran out.
 use Rattle.std.proofs.Common.{ℕ, List, [], Option, false, inl, refl}
 use Rattle.conversation.specs.declared.ended.Ended.TheVariants.{NoMemory}
 use Rattle.edges.proofs.ToldBytes.{appends_none, consumes_none}

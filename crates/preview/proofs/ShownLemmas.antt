@@ -26,7 +26,7 @@ use Rattle.source_tree.specs.declared.edit.Edit.{Edit}
 use Rattle.source_tree.specs.declared.fault.TreeFault.{TreeFault}
 use Rattle.source_tree.specs.declared.file.File.{File}
 
--- memory was wanting, and nothing was written
+-- memory ran out, and nothing was written
 pub starved_silently : {W : Type 0} (serves : Bool → W → Exchange → W → Type 0) (starves : Bool → W → Request → List ℕ → W → Type 0) (close : Bool) (request : Request) (a b : W) (faults : ℕ) (taken : Option (List ℕ))
     → starves close a request [] b → Served serves starves close request a b faults faults taken taken NoMemory
 starved_silently serves starves close request a b faults taken left = record { text = []; left = left; failed = false; sent = appends_none taken; cause = λ is. absurd (cc) }

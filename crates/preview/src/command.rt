@@ -12,7 +12,7 @@ use std::alloc::Global;
 
 /// Runs one preview connection over a site without files, and answers the program's status: 0 where
 /// it is done, 1 for other words, 2 where the bytes show a fault, 3 and 4 where reading or writing
-/// failed, and 5 where memory was wanting. The words are `preview`, or `preview`, `--seed` and 64
+/// failed, and 5 where memory ran out. The words are `preview`, or `preview`, `--seed` and 64
 /// hexadecimal digits; without them the seed is 32 zeros.
 pub fn preview_play<S: Source, K: Sink, L: Ledger>(
     alloc: Global,

@@ -68,7 +68,7 @@ pub record IsNotTaken (request : Request) (close : Bool) (old : PreviewStand) (t
   pub text_is : text ≡ plain status.MethodNotAllowed close (codes "MethodNotAllowed") (shows_body request.method)
   pub broken_is : broken ≡ false
 
--- memory was wanting for an editor's message: before it was done, or, where it was done, for telling so
+-- memory ran out for an editor's message: before it was done, or after that, before it was told
 pub record IsUntold (request : Request) (old : PreviewStand) (text : List ℕ) (new : PreviewStand) : Type 0 where
   pub result : Result EditorAnswer (Failure EditorFault)
   pub drafts : IsDrafted (message request) old.edits new.edits old.seen new.seen result
@@ -128,7 +128,7 @@ module _ (needs : Needs) (x : Opening) (pass : ℕ) where
         Hides needs old.edits (pictured needs x pass request.cookie old.seen new.seen picture) request close old.steps text
         new.steps
 
-  -- memory was wanting for a request, and this was to be written
+  -- memory ran out for a request, and this was to be written
   abbrev pub Leaves : Request → (close : Bool) → (old : PreviewStand) → (text : List ℕ) → (new : PreviewStand) → Type 0
   Leaves request close old text new =
       MatchBool (is_editors request.target) (IsUntold request old text new)

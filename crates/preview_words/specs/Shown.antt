@@ -47,7 +47,7 @@ module _ (needs : Needs) (own : Opening) (session : Option ℕ) where
         IsAnswered needs own 0 (own_request session request) close (standing_of [] no_time steps) text broken
         (standing_of history no_time later) 0
 
-  -- memory was wanting for it there
+  -- memory ran out for it there
   pub record IsRunDropped (request : Request) (close : Bool) (steps : ℕ) (text : List ℕ) (later : ℕ) : Type 0 where
     pub history : List Entry
     pub drops :
@@ -70,7 +70,7 @@ module _ (needs : Needs) (tree : List File) (picture : Picture) where
       (IsPlain status.ContentTooLarge (codes "TreeTooLarge Version") request close steps text broken later)
       (IsRun needs (own_opening tree picture) picture.session request close steps text broken later)
 
-  -- memory was wanting: nothing was told and nothing run, or the run was dropped
+  -- memory ran out: nothing was told and nothing run, or the run was dropped
   abbrev pub HidesTree : Request → (close : Bool) → (steps : ℕ) → (text : List ℕ) → (later : ℕ) → Type 0
   HidesTree request close steps text later =
       IsSilent steps text later
@@ -92,7 +92,8 @@ module _ (needs : Needs) (edits : List Edit) (picture : Picture) where
       (ShowsTree needs (drafted_tree edits picture) picture request close steps text broken later)
       (λ reason. IsPlain status.ContentTooLarge (fault_text (fault.TreeTooLarge reason)) request close steps text broken later)
 
-  -- memory was wanting: nothing was told and nothing run, or the tree keeps its limits and the run was dropped
+  -- memory ran out: nothing was told and nothing run, or the tree keeps its limits and the run was
+  -- dropped
   abbrev pub Hides : Request → (close : Bool) → (steps : ℕ) → (text : List ℕ) → (later : ℕ) → Type 0
   Hides request close steps text later =
       IsSilent steps text later

@@ -55,7 +55,7 @@ impl<P: Compiled> Store<P> {
     }
 
     /// Keeps the value for the path, in the place of the one that was kept for it. Where memory
-    /// ends all is as before.
+    /// runs out all is as before.
     pub fn put(&mut self, path: Path, made: Arc<P>) -> Result<(), AllocError>
         ensures ok { OnOk result (kept_in self.new.shelves.items
             ≡ with_value path (arc_value made) (kept_in self.old.shelves.items)) }

@@ -78,7 +78,8 @@ pub record StopsRight (left later old new : Option (List ℕ)) : Type 0 where
   pub right : IsRightRecord connections text
   pub written : Appends old new text
 
--- the site of the command has a sound opening, and one pass; so what the command writes whole is right, where it is done, where its sink failed, and where memory was wanting
+-- the site of the command has a sound opening, and one pass; so what the command writes whole is
+-- right, where it is done, where its sink failed, and where memory ran out
 pub record CommandsAreRight : Type 0 where
   pub first : (seed : List ℕ) → (is_sound (opening_of seed) ≡ true) × ((opening_of seed).passes ≡ 1)
   pub done : (seed : List ℕ) (left later old new : Option (List ℕ)) (steps now : ℕ) → Comes (opening_of seed) left later old new steps now Done → WritesRight left later old new

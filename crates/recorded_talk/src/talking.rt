@@ -103,7 +103,7 @@ fn run_again<N: Ledger>(
 }
 
 // The number by which a talk names how it ended. A source in memory doesn't fail, and a sink in
-// memory only for want of it.
+// memory only where memory runs out.
 fn number_of(ended: Ended) -> Result<u8, AllocError>
     ensures { IfOk result (λ number. IsByNumber number ended) }
 {

@@ -44,7 +44,7 @@ whole_open (reply.Whole status content_type location body) pieces h none = none
 
 module _ (unfolds : ChainsUnfold) (grow : RunsGrowOn) (served : Served) (status : Status) (page : Page) (params : List Param) (left : ℕ) (few : left ≤ 100) (request : Request) (tree : List File) (stands : State → Type 0) (s : State) (old new : List Answer)
     (depth : ℕ) (held : Held) where
-  -- memory was wanting while the page ran
+  -- memory ran out while the page ran
   pub chained_short : {E F : Type 0} (e : E) (f : F) → Played served status page params left stands s old new depth held {E = E} (Err e) → Chained (chain_answers served status left page params) request tree stands s old new held {E = F} (Err f)
   chained_short e f played = record {
     got = played.got;
@@ -97,7 +97,7 @@ module _ (unfolds : ChainsUnfold) (grow : RunsGrowOn) (served : Served) (status 
         );
       }
 
-  -- memory was wanting to tell its target
+  -- memory ran out before its target was told
   pub chained_lost : {E F : Type 0} (path : List ℕ) (more : List Param) (f : F) → Played served status page params left stands s old new depth held {E = E} (Ok (gone.Forward path more))
       → Chained (chain_answers served status left page params) request tree stands s old new held {E = F} (Err f)
   chained_lost path more f played =
@@ -139,7 +139,7 @@ module _ (unfolds : ChainsUnfold) (grow : RunsGrowOn) (served : Served) (status 
         );
       }
 
-  -- its target is no page: what is told of it, unless memory was wanting
+  -- its target is no page: what is told of it, unless memory ran out
   pub chained_end : {E F : Type 0} (path : List ℕ) (more : List Param) (result : Result ChainEnd F) → ((p : List ℕ) → served.pages p ≡ paged_at tree p) → IfOk result (IsTargetEnd tree status path)
       → Played served status page params left stands s old new depth held {E = E} (Ok (gone.Forward path more)) → Chained (chain_answers served status left page params) request tree stands s old new held result
   chained_end path more (Ok (ended.Done r)) pages told played = chained_told path more r pages told played

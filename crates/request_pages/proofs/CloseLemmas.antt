@@ -96,7 +96,7 @@ closed_whole {E = E} answers stands s after old new held status content_type loc
 fault_grows : RunsGrowOn → (served : Served) (page : Page) (params : List Param) (r : Raise) (s : State) → s.writer.pieces ≡ [] → (future : List Answer) → Grows s (end_state (fault_answers served page params r future s))
 fault_grows grow served page params r s none future = adds_given future s (end_state (fault_answers served page params r future s)) (grow.error served page params r (given future s) none)
 
--- without memory nothing more was done
+-- where memory ran out nothing more was done
 pub closed_short : {E : Type 0} → RunsGrowOn → (served : Served) (page : Page) (params : List Param) (r : Raise) (stands : State → Type 0) (s : State) (old new : List Answer) (held : Held) (e : E) → new ≡ old → stands s → s.writer.pieces ≡ []
     → Closed (fault_answers served page params r) stands s old new held {E = E} (Err e)
 closed_short grow served page params r stands s old new held e same stood none = record {
@@ -115,7 +115,7 @@ page_grows grow served page params r path target s named is none future =
     (subst (λ f. Grows (fetched path s) (end_state (error_answer served r params path f (given future s)))) (sym is)
     (let g = grow.chain (with_exception r served) (first_fault r) status_is.InternalServerError level_limit target params (with_no_visits (fetched path (given future s))) (grow.first r) none in record { asked = g.asked; order = g.order; pieces = g.pieces; session = g.session }))
 
--- without memory behind the fetch of an error page nothing more was done
+-- where memory ran out after the fetch of an error page nothing more was done
 pub closed_fetched : {E : Type 0} → RunsGrowOn → (served : Served) (tree : List File) (page : Page) (params : List Param) (r : Raise) (path : List ℕ) (target : Page) (stands : State → Type 0) (s : State) (old new : List Answer) (held : Held) (e : E) → error_path page ≡ Some path
     → served.pages path ≡ good target → new ≡ old → stands (fetched path s) → s.writer.pieces ≡ [] → Closed (fault_answers served page params r) stands s old new held {E = E} (Err e)
 closed_fetched grow served tree page params r path target stands s old new held e named is same stood none = record {
@@ -204,7 +204,8 @@ begun_again origin scopes held taken faults around raise asking s h = record {
   fresh = h.fresh;
 }
 
--- what a look at a path leaves where memory was wanting in it, by what is answered from the state before it and from the one behind the fetch of a page
+-- what a look at a path leaves where memory ran out in it, by what is answered from the state
+-- before it and from the one behind the fetch of a page
 module _ (answers : List Answer → State → Answered) (tree : List File) (path : List ℕ) (origin : Origin) (scopes : ScopeState) (held : Held) (taken : Option (List ℕ)) (faults : ℕ) (around : Around) (old new : Asking) (s : State)
     (stands : StandsFor origin scopes held taken faults around old s) (none : s.writer.pieces ≡ []) (short : (future : List Answer) → Grows s (end_state (answers future s)))
     (behind : (read : Result Page PageFault) → paged_at tree path ≡ found_as true (Some read) None → (future : List Answer) → Grows (fetched path s) (end_state (answers future s))) where
@@ -249,7 +250,7 @@ module _ (grow : RunsGrowOn) (served : Served) (tree : List File) (pages : (p : 
   fault_behind (Ok target) is future = page_grows grow served page params r path target s named (pages path ∙ is) none future
   fault_behind (Err fault) is future = subst (λ a. Grows (fetched path s) (end_state a)) (sym (says_found served page params r path (bad fault) s future named (pages path ∙ is))) (plain_grows (fetched path s) future)
 
-  -- without memory in a look at an error page's path nothing more was done
+  -- where memory ran out in a look at an error page's path nothing more was done
   pub closed_looked : {E : Type 0} (e : E) (origin : Origin) (scopes : ScopeState) (held : Held) (taken : Option (List ℕ)) (faults : ℕ) (around : Around) (old new : Asking) → StandsFor origin scopes held taken faults around old s
       → HasLooked old new path (file_at path tree) ⊎ (new ≡ old) → Closed (fault_answers served page params r) (Reached origin scopes held taken faults around new) s old.answers new.answers held {E = E} (Err e)
   closed_looked e origin scopes held taken faults around old new stands looked =

@@ -35,7 +35,7 @@ pub failed_known : {E : Type 0} (failure : Failure) (answers : OnFault → List 
     → (path : List ℕ) × IsProgramOf (arc_value failure.program) tree path × IsPageAt chained.ends.0 tree path × (chained.after.writer.pieces ≡ [])
 failed_known failure answers request tree stands s old new held chained = let made = chained.ends.1 in (made.0, made.1, made.2, chained.ends.2)
 
--- memory was wanting while the page ran
+-- memory ran out while the page ran
 pub first_lost : {E F : Type 0} (e : E) (f : F) → RunsGrowOn → (served : Served) (page : Page) (request : Request) (tree : List File) (ran stands : State → Type 0) (s : State) (old new : List Answer) (held : Held) → ((t : State) → ran t → stands t)
     → Chained (chain_answers served status_is.Ok 100 page request.params) request tree ran s old new held {E = E} (Err e) → Closed (first_answers served page request.params) stands s old new held {E = F} (Err f)
 first_lost e f grow served page request tree ran stands s old new held goes chained = record {

@@ -90,7 +90,7 @@ started_writer start before held started taken faults writer head size autoflush
     let begun : Stands start before (fresh head size autoflush shown) taken faults (empty_writer size autoflush) = record { holds = refl; committed = refl; streamed = unsent start before held.failed taken faults sent } in
     subst (λ held. Stands start before held taken faults (empty_writer size autoflush)) (sym is) begun
 
--- memory was wanting before the run began
+-- memory ran out before the run began
 pub played_short : {E : Type 0} → ForwardsLeaveFewer → StepsAndPiecesGrow → (served : Served) (status : Status) (page : Page) (params : List Param) (left : ℕ) (stands : State → Type 0) (s : State) (answers : List Answer) (depth : ℕ) (held : Held) (e : E)
     → stands s → s.writer.pieces ≡ [] → Played served status page params left stands s answers answers depth held {E = E} (Err e)
 played_short leaves grows served status page params left stands s answers depth held e stood none = record {

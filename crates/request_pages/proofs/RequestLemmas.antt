@@ -103,7 +103,7 @@ module _ (grow : RunsGrowOn) (served : Served) (tree : List File) (pages : (p : 
       subst (λ a. Grows (fetched path s) (end_state a)) (sym (says_at served request path (good page) s future named shown (pages path ∙ is))) (first_grows grow served page request.params (fetched path s) future none)
   request_behind (Err fault) is future = subst (λ a. Grows (fetched path s) (end_state a)) (sym (says_at served request path (bad fault) s future named shown (pages path ∙ is))) (plain_grows (fetched path s) future)
 
-  -- without memory in a look at its path nothing more was done
+  -- where memory ran out in a look at its path nothing more was done
   pub request_looked : {E : Type 0} (e : E) (origin : Origin) (scopes : ScopeState) (held : Held) (taken : Option (List ℕ)) (faults : ℕ) (around : Around) (old new : Asking) → StandsFor origin scopes held taken faults around old s
       → HasLooked old new path (file_at path tree) ⊎ (new ≡ old) → Closed (request_answers served request) (Reached origin scopes held taken faults around new) s old.answers new.answers held {E = E} (Err e)
   request_looked e origin scopes held taken faults around old new stands looked =

@@ -1,4 +1,4 @@
--- How far a request came for which memory was wanting, by the run of its page.
+-- How far a request came for which memory ran out, by the run of its page.
 use Rattle.std.proofs.Common.{◌≡◌, ℕ, Bool, true, false, List, [], ◌∷◌, ◌++◌, Option, Some, None, refl, sym, ap, subst, ◌∙◌}
 use Rattle.std.specs.Prelude.{if◌then◌else◌}
 use Rattle.edges.specs.History.{IsFront}

@@ -56,7 +56,8 @@ abbrev pub end_answer : OnFault → Held → Page → Request → ChainEnd → S
 end_answer at_fault held page request (ended.Done r) s = reply_answer held r s
 end_answer at_fault held page request (ended.Failed failure) s = at_fault page (params_of request failure.own) (raise_of failure.raise) s
 
--- a chain answers as it ended, whatever is done with its fault and whatever answers are still to come; without memory it went no further than it goes, behind its head
+-- a chain answers as it ended, whatever is done with its fault and whatever answers are still to
+-- come; where memory ran out it went no further than it goes, behind its head
 abbrev pub ChainedSo : {E : Type 0} → (answers : OnFault → List Answer → Answered) → Request → List File → Held → (after : State) → Result ChainEnd E → Type 0
 ChainedSo answers request tree held after (Ok end) =
     (last : Page) × IsEndPage tree end last × IsEndOpen end after.writer.pieces × ((at_fault : OnFault) (future : List Answer) → answers at_fault future ≡ end_answer at_fault held last request end (given future after))

@@ -22,8 +22,8 @@ use Rattle.site_words.specs.Law.{Answer}
 use Rattle.site_words.specs.Running.{Asking}
 use Rattle.page_meaning.specs.Growth.{IsOrdered}
 
--- the scopes, the writer with its sink, the session and what was asked of the port stand for a state; its counts may be others, since
--- memory may be wanting before they are raised
+-- the scopes, the writer with its sink, the session and what was asked of the port stand for a
+-- state; its counts may be others, since memory may run out before they are raised
 pub record Reached (origin : Origin) (scopes : ScopeState) (held : Held) (taken : Option (List ℕ)) (faults : ℕ) (around : Around) (asking : Asking) (s : State) : Type 0 where
   pub scopes_are : s.scopes ≡ scopes
   pub asked : s.asked ≡ origin.asked ++ asking.asked
@@ -37,7 +37,8 @@ abbrev pub IsReplyOpen : Reply → List (List ℕ) → Type 0
 IsReplyOpen (reply.Written broken) pieces = pieces ≡ [] → broken ≡ false
 IsReplyOpen (reply.Whole status content_type location body) pieces = pieces ≡ []
 
--- the reply is the answer, whatever answers are still to come; without memory the request went no further than it goes, behind its head
+-- the reply is the answer, whatever answers are still to come; where memory ran out the request
+-- went no further than it goes, behind its head
 abbrev pub ClosedSo : {E : Type 0} → (answers : List Answer → Answered) → Held → (after : State) → Result Reply E → Type 0
 ClosedSo answers held after (Ok r) = IsReplyOpen r after.writer.pieces × ((future : List Answer) → answers future ≡ reply_answer held r (given future after))
 ClosedSo answers held after (Err e) = (future : List Answer) → GoesWithin held.head after (answers future)

@@ -46,7 +46,8 @@ abbrev pub TargetSo : (left depth : ℕ) → Gone → (l : ℕ) → Type 0
 TargetSo left depth (gone.Forward path more) l = (l < left) × (depth ≡ level_limit - l)
 TargetSo left depth other l = ⊤
 
--- the run of a page answers as it ended, whatever answers are still to come; without memory it went no further than the page goes
+-- the run of a page answers as it ended, whatever answers are still to come; where memory ran out
+-- it went no further than the page goes
 abbrev pub GoneSo : {E : Type 0} → (means : List Answer → Did) → Page → List Param → (left depth : ℕ) → Held → (after : State) → Result Gone E → Type 0
 GoneSo means page params left depth held after (Ok g) =
     (l : ℕ) × TargetSo left depth g l × IsOpen g after.writer.pieces

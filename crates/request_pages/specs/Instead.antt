@@ -43,7 +43,7 @@ InsteadSo answers tree page r stands reached s old new held (instead.Told answer
 pub record ComesInstead (answers : List Answer → State → Answered) (tree : List File) (page : Page) (r : Raise) (stands reached : State → Type 0) (s : State) (old new : List Answer) (held : Held) (comes : Instead) : Type 0 where
   pub so : InsteadSo answers tree page r stands reached s old new held comes
 
--- this holds, unless memory was wanting
+-- this holds, unless memory ran out
 abbrev pub UnlessShort : Instead → Type 0 → Type 0
 UnlessShort (instead.Page program line) fact = fact
 UnlessShort (instead.Told answer) fact = OnOk answer fact

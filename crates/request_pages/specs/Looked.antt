@@ -17,7 +17,7 @@ looked_at path (found.Bad fault) s = fetched path s
 looked_at path (found.Plain text) s = s
 looked_at path found.Absent s = s
 
--- a look found what stands at the path; without memory a page there may have been fetched
+-- a look found what stands at the path; where memory ran out a page there may have been fetched
 abbrev pub LookedSo : {E : Type 0} → (made : Program → List File → List ℕ → Type 0) → (faulty : PageFault → List File → List ℕ → Type 0) → List File → List ℕ → (stands : State → Type 0) → State → (old new : Asking) → Result (Paged Program) E → Type 0
 LookedSo made faulty tree path stands s old new (Ok paged) = IsPaged made faulty tree path paged × stands (looked_at path paged s) × (new.answers ≡ old.answers)
 LookedSo made faulty tree path stands s old new (Err e) = HasLooked old new path (file_at path tree) ⊎ (new ≡ old)

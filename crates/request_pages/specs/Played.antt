@@ -28,8 +28,8 @@ session_claim id = if is_some id then 0 else 64
 abbrev pub IsFunded : Around → Asking → Type 0
 IsFunded around asking = RUN_PROMISE + session_claim around.id ≤ around.charge + asking.left
 
--- a page's run answers as it ended, whatever answers are still to come; without memory it went no further than the page goes, behind the
--- head of what answers
+-- a page's run answers as it ended, whatever answers are still to come; where memory ran out it
+-- went no further than the page goes, behind the head of what answers
 abbrev pub PlayedSo : {E : Type 0} → (runs : List Answer → Did) → Status → Page → List Param → (left depth : ℕ) → Held → (after : State) → Result Gone E → Type 0
 PlayedSo runs status page params left depth held after (Ok g) =
     (l : ℕ) × TargetSo left depth g l × IsOpen g after.writer.pieces

@@ -1,4 +1,4 @@
--- How far a request came for which memory was wanting.
+-- How far a request came for which memory ran out.
 use Rattle.std.specs.Prelude.{None}
 use Rattle.http_out.specs.declared.head.Head.{Head}
 use Rattle.page_answers.specs.Dropped.{HeadsSo}

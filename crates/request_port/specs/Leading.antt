@@ -20,8 +20,9 @@ abbrev pub IsLast : {Z : Type 0} → List File → Option (List ℕ × Arc Made 
 IsLast tree None = ⊤
 IsLast tree (Some found) = IsMade (arc_value found.1) tree found.0
 
--- the same request of the same port did these turns; it was read no more than they read, and exactly that where memory was never wanting to
--- find a page; where it was, nothing more was done
+-- the same request of the same port did these turns; it was read no more than they read, and
+-- exactly that where memory never ran out while a page was found; where it did, nothing more was
+-- done
 pub record Leads {Q L H : Type 0} (needs : Needs) (pass : Q → ℕ) (opening : Q → Opening) (home : Q → H) (seen : Q → List Entry) (old new : RequestPort Q L) : Type 0 where
   pub port : new.port.ghost_name ≡ old.port.ghost_name
   pub steps : new.steps.ghost_name ≡ old.steps.ghost_name

@@ -40,7 +40,7 @@ module _ {Q L H : Type 0} {needs : Needs} {pass : Q → ℕ} {opening : Q → Op
     whole = λ s. (s, refl, omega arith);
   }
 
-  -- memory that was wanting to find a page stays wanting
+  -- that memory ran out while a page was found stays so
   still_starved : (first second : RequestPort Q L) → Leads needs pass opening home seen first second → first.starved ≡ true → second.starved ≡ true
   still_starved first second a starved = go second.starved refl
     where

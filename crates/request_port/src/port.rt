@@ -22,7 +22,7 @@ pub struct RequestPort<'a, Q, L: Ledger> {
     pub tree: &'a Tree,
     /// The number of the request on its port.
     pub request: u64,
-    /// Whether memory was ever wanting to find a page; from then on no step is done.
+    /// Whether memory ever ran out while a page was found; from then on no step is done.
     pub starved: bool,
     /// The page that was found last, with its path.
     pub last: Option<(Path, Arc<Made>)>,
@@ -35,7 +35,7 @@ impl<'a, Q, L: Ledger> RequestPort<'a, Q, L> {
     ghost use Rattle.site_words.specs.Running.{IsPaged};
 
     /// What stands at a path that was looked at last, without another Fetch. A page that wasn't
-    /// found last isn't told, as where memory is wanting.
+    /// found last isn't told, as where memory runs out.
     pub fn again(&self, path: &Path) -> Result<Paged<Program>, AllocError>
         requires last { IsLast self.now.tree.now self.now.last }
         ensures paged { IfOk result (λ found. IsPaged IsProgramOf IsFaultOf self.now.tree.now path.now found) }

@@ -100,7 +100,7 @@ module _ {W : Type 0} {reached : W → Origin → W → State → Type 0} {repli
     };
   }
 
-  -- memory was wanting before anything was done
+  -- memory ran out before anything was done
   pub acted_short : (move : State → Move) (w : W) (o : Open) → ((s : State) → MoveGrows s (move s)) → Acted reached replies move w w o (flows.Over ends.NoMemory)
   acted_short move w o grows = record {
     by = λ first origin s stands. record {
@@ -112,7 +112,7 @@ module _ {W : Type 0} {reached : W → Origin → W → State → Type 0} {repli
     };
   }
 
-  -- memory was wanting in a part
+  -- memory ran out in a part
   pub acted_part_short : {A B : Type 0} {view : A → B} {part : Place → State → Went B} (place : Place) (move : State → Move) (old new : W) (o : Open)
       → ((s : State) → MoveGrows (state_of (part place s)) (move s)) → Doing reached replies view part old new (Err failure.NoMemory) → Acted reached replies move old new o (flows.Over ends.NoMemory)
   acted_part_short {part = part} place move old new o grows does = record {

@@ -33,7 +33,7 @@ then_move_grows o (Ended leaving t) go h = same t
 then_move_grows o (Awaits step t) go h = same t
 
 module _ {W : Type 0} {reached : W → Origin → W → State → Type 0} {replies : W → List Answer} where
-  -- memory was wanting behind a change that is none
+  -- memory ran out after a change that is none
   pub acted_spent : (move : State → Move) (old new : W) (o : Open) → ((s : State) → MoveGrows s (move s)) → Changes reached (λ s. s) old new → replies new ≡ replies old
       → Acted reached replies move old new o (flows.Over ends.NoMemory)
   acted_spent move old new o grows changes same = record {
@@ -61,7 +61,7 @@ module _ {W : Type 0} {reached : W → Origin → W → State → Type 0} {repli
         acted_behind place (λ s. On (then_at o (part place s) go)) (λ t. On (go (view a) t)) old new new a o2 (flows.Go to) (λ s t w. ap (λ x. On (then_at o x go)) w) does
         (acted_on (λ t. On (go (view a) t)) new o2 to (λ t. ap On (e t)))
 
-    -- memory was wanting behind a part that went well
+    -- memory ran out after a part that went well
     pub well_short : (go : B → State → Config) (old new : W) (a : A) (o2 : Open) → ((b : B) (t : State) → Grows t (config_state (go b t))) → Doing reached replies view part old new (Ok a)
         → Acted reached replies (λ s. On (then_at o (part place s) go)) old new o2 (flows.Over ends.NoMemory)
     well_short go old new a o2 grows does =

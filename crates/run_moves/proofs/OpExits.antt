@@ -64,7 +64,7 @@ abbrev pub failure_of : {A : Type 0} → Result A (Failure RunFault) → Failure
 failure_of (Ok a) = failure.NoMemory
 failure_of (Err f) = f
 
--- where memory was wanting for what an operation leaves, it was wanting for what it did
+-- where memory ran out for what an operation leaves, it ran out for what the operation did
 none_short : (done : Result Unit (Failure RunFault)) → none_of done ≡ Err failure.NoMemory → done ≡ Err failure.NoMemory
 none_short (Ok u) e = absurd (ok_err None failure.NoMemory e)
 none_short (Err f) e = ap Err (ap failure_of e)

@@ -52,7 +52,7 @@ pushed_short made value failed stack after is e = subst (λ x. Pushed x stack (E
 pub pushed_not : (made : Result Value (Failure RunFault)) (failed : Failure RunFault) (stack : List Datum) → made ≡ Err failed → Pushed made stack (Err failed) stack
 pushed_not made failed stack is = subst (λ x. Pushed x stack (Err failed) stack) (sym is) (refl, refl)
 
--- where memory was wanting for what was made, it is wanting for what was done
+-- where memory ran out for what was made, it ran out for what was done
 made_short : (stack after : List Datum) (made : Result Value (Failure RunFault)) (done : Result Unit (Failure RunFault)) → Pushed made stack done after → made ≡ Err failure.NoMemory → done ≡ Err failure.NoMemory
 made_short stack after (Ok value) done pushed e = absurd (ok_err value failure.NoMemory e)
 made_short stack after (Err failed) (Ok done) pushed e = absurd pushed

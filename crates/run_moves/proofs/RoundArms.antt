@@ -199,7 +199,7 @@ module _ {W : Type 0} {reached : W → Origin → W → State → Type 0} {repli
             ∙ ap (λ x. status_record vs (record { item = Ok Rattle.pg_value.specs.Datum.null; index = r.index; count = x; is_last = mark.is_last }) (datum_of v)) (sym n)
             ∙ ap (λ x. status_record vs (record { item = Ok Rattle.pg_value.specs.Datum.null; index = r.index; count = r.count; is_last = x }) (datum_of v)) (sym l)
 
-    -- where memory was wanting behind its visit
+    -- where memory ran out after its visit
     pub round_short : (old new : W) (done : Result Unit (Failure RunFault)) → IsErrAnd done (λ f. f ≡ failure.NoMemory) → Doing reached replies (λ (u : Unit {0}). u) (λ place. visit place) old new (Ok tt)
         → Doing reached replies (λ (u : Unit {0}). u) (λ place. round_begun place variable status vs r) old new done
     round_short old new done is does =

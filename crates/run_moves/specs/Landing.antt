@@ -11,7 +11,7 @@ use Rattle.pg_text.specs.declared.place.Place.{Place}
 use Rattle.pg_value.specs.declared.fault.RunFault.{RunFault}
 use Rattle.pg_value.specs.declared.value.Value.{Value}
 
--- where a fault leads; where memory was wanting nothing is said
+-- where a fault leads; where memory ran out nothing is said
 abbrev pub failing : Place → Open → Failure RunFault → State → Move
 failing place o (failure.Fault fault) s = On (thrown fault place s o)
 failing place o failure.NoMemory s = Stuck

@@ -38,7 +38,8 @@ is_quick (op.Binary o) = true
 is_quick (op.Coerce c) = true
 is_quick other = false
 
--- what was made is pushed, and where it failed nothing is; where memory was wanting to push it, no more is said
+-- what was made is pushed, and where it failed nothing is; where memory ran out while it was
+-- pushed, no more is said
 abbrev pub Pushed : Result Value (Failure RunFault) → List Datum → Result ⊤ (Failure RunFault) → List Datum → Type 0
 Pushed (Ok value) stack (Ok done) after = after ≡ datum_of value ∷ stack
 Pushed (Ok value) stack (Err failed) after = failed ≡ failure.NoMemory

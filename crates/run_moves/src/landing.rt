@@ -18,7 +18,7 @@ use pg_value::{RunFault, Value};
 use run_world::World;
 use std::alloc::Global;
 
-/// Goes on where a fault of an instruction leads; where memory was wanting the run is over.
+/// Goes on where a fault of an instruction leads; where memory ran out the run is over.
 #[inline(never)]
 pub fn fail<W: World>(
     alloc: Global,

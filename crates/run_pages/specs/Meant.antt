@@ -27,8 +27,9 @@ served_at tree request around = record { request = request; pages = paged_at tre
 abbrev pub page_mean : Served → (left : ℕ) → Page → List Param → State → Did
 page_mean served left page params s = page_run (nodes_mean served (below served left)) page params s
 
--- a page's run ended as the page means, whatever answers are still to come, and the target of a forward is as deep as the levels say that are left; where memory
--- was wanting, the run went no further than the page goes
+-- a page's run ended as the page means, whatever answers are still to come, and the target of a
+-- forward is as deep as the levels say that are left; where memory ran out, the run went no further
+-- than the page goes
 abbrev pub EndsAsMeant : (means : List Answer → Did) → (depth : ℕ) → RunEnd → State → Type 0
 EndsAsMeant means depth ends.Normal s = (future : List Answer) → means future ≡ Well tt (given future s)
 EndsAsMeant means depth (ends.Forward path params) s = (left : ℕ) × (depth ≡ level_limit - left) × ((future : List Answer) → means future ≡ Ended (forwards path params left) (given future s))

@@ -155,7 +155,7 @@ module _ {P K : Type 0} {taken : K → Option (List ℕ)} {faults : K → ℕ} {
       }
 
   module _ (leads_on : (first second third : P) → leads first second → leads second third → leads first third) where
-    -- memory was wanting before anything was asked
+    -- memory ran out before anything was asked
     pub unasked_doing : {A B : Type 0} {view : A → B} {part : Place → State → Went B} (w : Stage P K) (port : P) (n : ℕ) → leads w.port.now port → tree port ≡ tree w.port.now → asking port ≡ asking w.port.now
         → n ≡ w.around.now.charge → ((place : Place) (s : State) → has_committed s.writer ≡ w.writer.now.committed → Grows s (state_of (part place s)))
         → Doing (Reached taken faults leads asking tree) (λ w. (asking w.port.now).answers) view part w (asked_stage w port n) (Err failure.NoMemory)
@@ -229,7 +229,7 @@ module _ {P K : Type 0} {taken : K → Option (List ℕ)} {faults : K → ℕ} {
     };
   }
 
-  -- a session that was given where memory was wanting for the head to name it
+  -- a session that was given, where memory ran out for the cookie that names it
   pub fresh_short : ((first second third : P) → leads first second → leads second third → leads first third) → (w : Stage P K) (port : P) (scopes : ScopeState) (id : List ℕ)
       → is_some w.around.now.id ≡ false → scopes ≡ with_session w.scopes.now → leads w.port.now port → tree port ≡ tree w.port.now
       → (asking port).asked ≡ (asking w.port.now).asked ++ fresh ∷ [] → (asking port).answers ≡ (asking w.port.now).answers ++ id_told id ∷ [] → (asking port).left + 64 ≡ (asking w.port.now).left

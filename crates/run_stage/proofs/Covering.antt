@@ -107,7 +107,7 @@ covered_looked attributes id visited n m old new path file c looked claims is =
     let low = look_low (page_claim path) n claims c.charge in
     covered_asked attributes id visited n m old new c looked.has_session (omega (arith, is, low)) (omega (arith, is, looked.left, look_claimed path file))
 
--- so does one for which memory was wanting, whether it was looked for or not
+-- so does one for which memory ran out, whether it was looked for or not
 pub covered_short : (attributes : Option Entries) (id : Option (List ℕ)) (visited n m : ℕ) (old new : Asking) (path : List ℕ) (file : Option File) → Covered attributes id visited n old → HasLooked old new path file ⊎ (new ≡ old)
     → (page_claim path ≡ 0) ⊎ ((n < 1048576) × (page_claim path ≤ 2208)) → m ≡ n + page_claim path → Covered attributes id visited m new
 covered_short attributes id visited n m old new path file c (inl looked) claims is = covered_looked attributes id visited n m old new path file c looked claims is

@@ -138,7 +138,7 @@ module _ {P K : Type 0} {taken : K → Option (List ℕ)} {faults : K → ℕ} {
     };
   }
 
-  -- memory was wanting before anything was looked for
+  -- memory ran out before anything was looked for
   pub unlooked_doing : (leads_on : (first second third : P) → leads first second → leads second third → leads first third) → (w : Stage P K) (port : P) (serving : Serving) (path : List ℕ) → (is_page path && nat_le charge_limit w.around.now.charge) ≡ false
       → leads w.port.now port → tree port ≡ tree w.port.now → asking port ≡ asking w.port.now → (n : ℕ) → n ≡ w.around.now.charge + page_claim path → (n ≡ w.around.now.charge) ⊎ (n ≤ 4197000)
       → Doing (Reached taken faults leads asking tree) (λ w. (asking w.port.now).answers) (λ (p : Paged Program). paged_of (stored_of p)) (λ place. ask_page (served_of serving) place path) w (asked_stage w port n)
@@ -229,7 +229,7 @@ module _ {P K : Type 0} {taken : K → Option (List ℕ)} {faults : K → ℕ} {
             };
       }
 
-      -- memory was wanting to tell what stands there
+      -- memory ran out before it was told what stands there
       pub untold_doing : Doing (Reached taken faults leads asking tree) (λ w. (asking w.port.now).answers) (λ (p : Paged Program). paged_of (stored_of p)) (λ place. ask_page (served_of serving) place path) w (asked_stage w port n)
           (Err failure.NoMemory)
       untold_doing = record {
@@ -249,7 +249,7 @@ module _ {P K : Type 0} {taken : K → Option (List ℕ)} {faults : K → ℕ} {
             };
       }
 
-  -- memory was wanting to tell what stands there, whether it was looked for or not
+  -- memory ran out before it was told what stands there, whether that was looked for or not
   pub short_doing : (made : Program → List File → List ℕ → Type 0) (faulty : PageFault → List File → List ℕ → Type 0) (leads_on : (first second third : P) → leads first second → leads second third → leads first third)
       (w : Stage P K) (port : P) (serving : Serving) (path : List ℕ) (allowed : (is_page path && nat_le charge_limit w.around.now.charge) ≡ false) (stores : StoresSo made faulty (tree w.port.now) serving.stored)
       (on : leads w.port.now port) (same : tree port ≡ tree w.port.now)

@@ -174,7 +174,7 @@ module _ {P K : Type 0} {taken : K → Option (List ℕ)} {faults : K → ℕ} {
       goes place s e (Err failure.NoMemory) h = λ future.
           adds_given future (in_writer (without_body s.writer) s) _ (result_adds place (body_answer (innermost s.writer.kept)) (in_writer (without_body s.writer) (given future s)))
 
--- a change of the writer that may lack memory
+-- a change of the writer for which memory may run out
 module _ {P K : Type 0} (taken : K → Option (List ℕ)) (faults : K → ℕ) (leads : P → P → Type 0) (asking : P → Asking) (tree : P → List File) where
   pub writer_ok : {A E : Type 0} (w : Stage P K) (change : Writer → Writer) → ((writer : Writer) → IsFront writer.pieces (change writer).pieces) → (held : Held) (sink : K) (result : Result A E)
       → ((start : Option (List ℕ)) (before : ℕ) (writer : Writer) → Stands start before w.writer.now (taken w.sink.now) (faults w.sink.now) writer → OnOk result (Stands start before held (taken sink) (faults sink) (change writer)))

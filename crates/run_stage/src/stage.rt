@@ -142,8 +142,8 @@ impl<'a, P: AppPort<Program>, K: Sink> World for Stage<'a, P, K> {
         Ok(reply)
     }
 
-    // Gives the request a session. It stands also where memory is wanting for the head to name it;
-    // no other failure comes.
+    // Gives the request a session. The session stands also where memory for the cookie that names
+    // it runs out; no other failure comes.
     fn fresh(&mut self) -> Result<(), Failure<RunFault>> {
         let made = self.port.fresh()?;
         self.scopes.start_session();
@@ -158,7 +158,7 @@ impl<'a, P: AppPort<Program>, K: Sink> World for Stage<'a, P, K> {
         Ok(())
     }
 
-    // A page is charged also where memory is wanting to make it, since it was fetched.
+    // A page is charged also where memory runs out while it is made, since it was fetched.
     fn page(&mut self, path: &Path) -> Result<Paged<Program>, Failure<RunFault>> {
         if is_refused(path, self.around.charge) {
             return Err(Failure::Fault(RunFault::AppTooMuch));

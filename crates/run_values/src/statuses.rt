@@ -69,8 +69,8 @@ impl Statuses {
     }
 
     /// The status of a round with this item, as a record. A place or a count past the largest
-    /// number is answered as want of memory: no contract ties them to the visits of a request, of
-    /// which there are far fewer.
+    /// number is answered as if memory ran out: no contract ties them to the visits of a request,
+    /// of which there are far fewer.
     pub fn status(&mut self, mark: &Mark, current: Value) -> Result<Value, AllocError>
         ensures status { IfOk result (λ made. datum_of made ≡ status_record self.old (round_at mark.now)
             (datum_of current)) }
@@ -175,7 +175,7 @@ fn is_truth(value: &Value, holds: bool) -> bool
     matches!(value, Value::Bool(old) if *old == holds)
 }
 
-// A place or a count as a value. One past the largest number is answered as want of memory.
+// A place or a count as a value. One past the largest number is answered as if memory ran out.
 fn number(count: u64) -> Result<Value, AllocError>
     ensures { IfOk result (λ made. datum_of made ≡ number (pos count)) }
 {

@@ -19,7 +19,7 @@ pub adds_given : (a : List Answer) (s t : State) → Grows (given a s) t → Gro
 adds_given a s t g = record { asked = g.asked; order = g.order; pieces = g.pieces; session = g.session }
 
 module _ {W : Type 0} {reached : W → Origin → W → State → Type 0} {replies : W → List Answer} where
-  -- memory was wanting before anything was done
+  -- memory ran out before anything was done
   pub short_doing : {A B : Type 0} {view : A → B} {part : Place → State → Went B} (w : W) → ((place : Place) → Adds (part place)) → Doing reached replies view part w w (Err failure.NoMemory)
   short_doing {part = part} w adds = record {
     by = λ first origin s stands. record {

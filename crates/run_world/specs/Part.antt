@@ -1,4 +1,4 @@
--- What a call does of the meaning of a page, and what it does where memory is wanting.
+-- What a call does of the meaning of a page, and what it does where memory runs out.
 use Rattle.std.specs.Prelude.{◌≡◌, List, ◌++◌, Result, Ok, Err}
 use Rattle.pg_text.specs.declared.failure.Failure.{Failure}
 use Rattle.pg_text.specs.declared.failure.Failure.TheVariants as failure
@@ -14,8 +14,8 @@ use Rattle.page_meaning.specs.Went.{Went, Well, Raised}
 abbrev pub given : List Answer → State → State
 given answers s = record s { answers = answers }
 
--- a part that was done went so, whatever answers are still to come: well, with a result that is seen so; by a fault at its place; or, where
--- memory was wanting, no further than the part goes
+-- a part that was done went so, whatever answers are still to come: well, with a result that is
+-- seen so; by a fault at its place; or, where memory ran out, no further than the part goes
 abbrev pub WentSo : {A B : Type 0} → (view : A → B) → Place → (List Answer → Went B) → State → Result A (Failure RunFault) → Type 0
 WentSo view place part s (Ok a) = (future : List Answer) → part future ≡ Well (view a) (given future s)
 WentSo view place part s (Err (failure.Fault fault)) = (future : List Answer) → part future ≡ Raised fault place (given future s)

@@ -149,7 +149,7 @@ impl Scopes {
     }
 
     /// Puts an empty frame behind the others, and makes it current. A frame whose number is over
-    /// the greatest `u32` is refused as for want of memory.
+    /// the greatest `u32` is refused as if memory ran out.
     pub fn push_frame(&mut self) -> Result<(), AllocError>
         ensures ok { OnOk result (self.new ≡ with_frame self.old) }
         ensures err { OnErr result (self.new ≡ self.old) }

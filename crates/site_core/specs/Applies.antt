@@ -21,7 +21,8 @@ module _ {P : Type 0} (needs : Needs) (made : P → List File → List ℕ → T
     pub gift : FitsGift made x (after needs x front) pass o given.reply given.gift
     pub reply_is : given.reply ≡ reply_to needs x (after needs x front) pass o
 
-  -- the answer is the step's, and what it leaves is the history with this entry; where it is refused or there is no memory the site is as it was
+  -- the answer is the step's, and what it leaves is the history with this entry; where it is
+  -- refused or memory ran out the site is as it was
   abbrev pub Applies : Lived → Lived → ℕ → Op → Acted (Given P) Refusal → Type 0
   Applies old new pass o (Did given) = Replies old.opening old.history pass o given × (new ≡ with_entry old pass o given.reply)
   Applies old new pass o (Refused refusal) = (step needs old.opening (after needs old.opening old.history) pass o ≡ Refused refusal) × (new ≡ old)

@@ -162,8 +162,8 @@ impl<P: Compiled> Site<P> {
         session_id(self.alloc, self.opening.seed, number)
     }
 
-    /// Does one operation of a pass, which adds one entry; or refuses it or finds no memory, which
-    /// leaves all as it was. The last operation of a request takes no memory and is never refused.
+    /// Does one operation of a pass, which adds one entry. Where it is refused or memory runs out
+    /// all is as it was. The last operation of a request takes no memory and is never refused.
     #[inline(always)]
     pub fn apply(&mut self, pass: u8, act: Act<P>) -> Acted<Given<P>, Refusal>
         requires may { May self.old.opening self.old.history pass (own pass self.old.history) act.op }

@@ -42,7 +42,7 @@ pub type Worker<'a, P, G, R, E> = Served<SharedPort<'a, P, G, R>, E>;
 
 /// Serves one round of all listeners, each pass of the site in a thread: the last for previews,
 /// where there are any, the one before it for editors, one connection after the other, and the
-/// others for readers. Where there is no memory the site is dropped.
+/// others for readers. Where memory runs out the site is dropped.
 pub fn round<
     P: Compiled + Send + Sync,
     R: Threads + Wait + Sync,

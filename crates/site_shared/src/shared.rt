@@ -44,7 +44,7 @@ impl<P: Compiled, G: Gate + Drop> Model for SharedSite<P, G> {
 }
 
 /// Shares a site, on which no request is under way, among as many passes as its opening says. Where
-/// there is no memory the site is dropped.
+/// memory runs out the site is dropped.
 pub fn start<P: Compiled, G: Gate + Drop>(
     alloc: Global,
     site: Site<P>,

@@ -40,7 +40,8 @@ module _ {P : Type 0} (needs : Needs) (made : P → List File → List ℕ → T
     pub gift : FitsGift made x (state_of x history old) pass o done.given.reply done.given.gift
     pub moves : Moves x (length history) old new (entry_of pass o done.reply)
 
-  -- what an operation comes to: it is done as the step says, or refused as it says, or there is no memory; where it isn't done all is as it was
+  -- what an operation comes to: it is done as the step says, or refused as it says, or memory ran
+  -- out; where it isn't done all is as it was
   abbrev pub Works : Opening → List Entry → Parts P → Parts P → ℕ → Op → Acted (Done P) Refusal → Type 0
   Works x history old new pass o (Did done) = IsDone x history old new pass o done
   Works x history old new pass o (Refused refusal) = (refusal_of needs x (state_of x history old) pass o ≡ Some refusal) × (new ≡ old)

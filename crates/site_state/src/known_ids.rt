@@ -66,7 +66,7 @@ impl KnownIds {
         known.is(seed, number, text)
     }
 
-    // Keeps the text in the place of its number, where there is memory for that.
+    // Keeps the text in the place of its number, unless memory runs out.
     fn note(&mut self, seed: [u8; 32], number: u64, text: &Text)
         requires { is_id seed number text.now ≡ true }
     {

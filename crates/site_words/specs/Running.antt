@@ -49,14 +49,14 @@ abbrev pub keeps_limits : AppReply → Type 0
 keeps_limits (answer.Value value) = is_over (datum_of value) ≡ false
 keeps_limits other = ⊤
 
--- a step was answered; without memory all is as it was
+-- a step was answered; where memory ran out all is as it was
 abbrev pub IsTold : Asking → Asking → AppStep → {E : Type 0} → Result AppReply E → Type 0
 IsTold old new step (Ok reply) =
     (new.asked ≡ old.asked ++ asks.app step ∷ []) × (new.answers ≡ old.answers ++ told reply ∷ []) × (new.has_session ≡ old.has_session) × (new.left + (64 + step_weight step + answer_weight reply) ≡ old.left)
     × (fits_step_reply step reply ≡ true) × keeps_limits reply
 IsTold old new step (Err e) = new ≡ old
 
--- the request has a session; without memory all is as it was
+-- the request has a session; where memory ran out all is as it was
 abbrev pub IsGivenSession : Asking → Asking → {E : Type 0} → Result Fresh E → Type 0
 IsGivenSession old new (Ok fresh) =
     (new.asked ≡ old.asked ++ asks.fresh ∷ []) × (new.answers ≡ old.answers ++ id fresh.id ∷ []) × (new.has_session ≡ true) × (new.left + 64 ≡ old.left)
@@ -79,7 +79,7 @@ pub record HasLooked (old new : Asking) (path : List ℕ) (found : Option File) 
   pub has_session : new.has_session ≡ old.has_session
   pub left : old.left ≤ new.left + look_claim path found
 
--- what stands at a path was looked for; where memory was wanting it may not have been
+-- what stands at a path was looked for; where memory ran out it may not have been
 abbrev pub Looks : Asking → Asking → List ℕ → Option File → {A E : Type 0} → Result A E → Type 0
 Looks old new path found (Ok a) = HasLooked old new path found
 Looks old new path found (Err e) = HasLooked old new path found ⊎ (new ≡ old)

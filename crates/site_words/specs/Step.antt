@@ -92,6 +92,6 @@ abbrev pub stepped : Option Refusal → Reply → Acted Reply Refusal
 stepped None r = Did r
 stepped (Some refusal) r = Refused refusal
 
--- what the operation comes to where there is memory
+-- what the operation comes to unless memory runs out
 abbrev pub step : Needs → Opening → State → ℕ → Op → Acted Reply Refusal
 step needs x s pass o = stepped (refusal_of needs x s pass o) (reply_to needs x s pass o)

@@ -18,7 +18,8 @@ pub record IsAlone (w : Connection) : Type 0 where
 abbrev pub TellsMoments : Moments → Type 0
 TellsMoments told = (moments : List ℕ) × (told ≡ telling moments)
 
--- the connection came to its end by its bytes: no fault of the outside ended it, nor want of memory
+-- the connection came to its end by its bytes: no fault of the outside ended it, and memory didn't
+-- run out
 abbrev pub IsByBytes : Ended → Type 0
 IsByBytes ended.Done = ⊤
 IsByBytes (ended.Refused fault) = ⊤

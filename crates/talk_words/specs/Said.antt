@@ -36,7 +36,7 @@ way_of role false = Asks
 abbrev pub way : Connection → Request → Way
 way w request = way_of w.role (is_editors request.target)
 
--- what an editor's message came to where memory wasn't wanting
+-- what an editor's message came to where memory didn't run out
 abbrev pub taken_as : Result EditorAnswer EditorFault → Result EditorAnswer (Failure EditorFault)
 taken_as (Ok answer) = Ok answer
 taken_as (Err fault) = Err (Fault fault)
@@ -80,14 +80,15 @@ Says w Edits request close old text broken new = IsEdited w request close old te
 Says w Nowhere request close old text broken new = IsNowhere request close old text broken new
 Says w Asks request close old text broken new = Answers w.needs w.opening w.pass request close old.at text broken new.at × (new.draft ≡ old.draft)
 
--- memory was wanting for an editor's message: before it was done, or, where it was done, for telling so; nothing was written
+-- memory ran out for an editor's message: before it was done, or after that, before it was told;
+-- nothing was written
 pub record IsUntold (w : Connection) (request : Request) (old : Stand) (text : List ℕ) (new : Stand) : Type 0 where
   pub result : Result EditorAnswer (Failure EditorFault)
   pub takes : Takes w.needs w.opening w.pass (message request) old.draft new.draft old.at.seen new.at.seen result
   pub quiet : IsQuiet old new
   pub text_is : text ≡ []
 
--- memory was wanting for a request, and this was to be written
+-- memory ran out for a request, and this was to be written
 abbrev pub Leaves : Connection → Way → Request → (close : Bool) → (old : Stand) → (text : List ℕ) → (new : Stand) → Type 0
 Leaves w Edits request close old text new = IsUntold w request old text new
 Leaves w Nowhere request close old text new = (new ≡ old) × (text ≡ [])
@@ -97,6 +98,6 @@ Leaves w Asks request close old text new = Drops w.needs w.opening w.pass reques
 abbrev pub IsSaid : Connection → (close : Bool) → (old : Stand) → Exchange → (new : Stand) → Type 0
 IsSaid w close old e new = Says w (way w e.request) e.request close old e.text e.broken new
 
--- a request of a connection for which memory was wanting
+-- a request of a connection for which memory ran out
 abbrev pub IsLeft : Connection → (close : Bool) → (old : Stand) → Request → (text : List ℕ) → (new : Stand) → Type 0
 IsLeft w close old request text new = Leaves w (way w request) request close old text new

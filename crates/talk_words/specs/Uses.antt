@@ -70,7 +70,8 @@ pub record AreUsedUp (w : Connection) (number : ℕ) (old : Stand) (exchanges : 
   pub used : AreUsed w number old exchanges calls new
   pub did : HasDone w.needs w.opening w.pass old.at.seen new.at.seen calls
 
--- each exchange uses its own entries, once and in order, and so do those of a whole connection; at want of memory a request uses a part of them
+-- each exchange uses its own entries, once and in order, and so do those of a whole connection;
+-- where memory ran out a request uses a part of them
 pub record EachOnce : Type 0 where
   pub said : (w : Connection) (close : Bool) (old new : Stand) (e : Exchange) → Legal w.needs w.opening old.at.seen → IsSaid w close old e new → HasUsed w e.request old new IsEnd
   pub left : (w : Connection) (close : Bool) (old new : Stand) (request : Request) (text : List ℕ) → Legal w.needs w.opening old.at.seen → IsLeft w close old request text new → HasUsed w request old new IsAbandoning

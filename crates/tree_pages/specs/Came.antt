@@ -21,7 +21,7 @@ unit_bytes tree (Some unit) = bytes_of (text_in tree) unit.deps
 abbrev pub bytes_at : List File → (path : List ℕ) → ℕ
 bytes_at tree path = unit_bytes tree (unit_in tree path)
 
--- the steps of reading a page: its bytes, or none where memory was wanting for it
+-- the steps of reading a page: its bytes, or, where memory ran out, perhaps none
 abbrev pub HasCounted : {A E : Type 0} → List File → (path : List ℕ) → (old new : ℕ) → Result A E → Type 0
 HasCounted tree path old new (Ok made) = new ≡ old + bytes_at tree path
 HasCounted tree path old new (Err e) = (new ≡ old) ⊎ (new ≡ old + bytes_at tree path)

@@ -14,7 +14,7 @@ use translator::translate;
 use unit_build::build;
 
 /// What is made of the page at a path of a tree where a file stands. `steps` counts the bytes of
-/// the files that it needs, each once, unless memory is wanting before they are read.
+/// the files that it needs, each once, unless memory runs out before they are read.
 pub fn make<L: Ledger>(
     alloc: Global,
     tree: &Tree,

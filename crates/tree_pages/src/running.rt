@@ -27,7 +27,7 @@ use site_words::AppPort;
 use source_tree::Tree;
 use std::alloc::Global;
 
-/// What comes of the page at a path: it has a fault, it ran, or memory was wanting before it could
+/// What comes of the page at a path: it has a fault, it ran, or memory ran out before it could
 /// run.
 #[derive(Drop)]
 pub enum PageEnd {

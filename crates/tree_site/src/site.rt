@@ -11,7 +11,8 @@ use source_tree::Tree;
 use std::alloc::{AllocError, Global};
 
 /// A site of the files of a tree that one request asks. It answers the steps by what is prepared,
-/// in order, notes them, and finds no memory where what is prepared next is no answer to a step.
+/// in order, notes them, and answers that memory ran out where what is prepared next is no answer
+/// to a step.
 #[derive(Drop)]
 pub struct TreeSite<'a> {
     alloc: Global,

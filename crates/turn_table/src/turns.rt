@@ -38,7 +38,7 @@ impl<O: Object> Model for Turns<O> {
 
 impl<O: Object> Turns<O> {
     /// Starts turns on an object for 1 to 64 passes, each of which has seen the object's whole
-    /// history. Where there is no memory the object is dropped.
+    /// history. Where memory runs out the object is dropped.
     pub fn start(alloc: Global, object: O, passes: u8) -> Result<(Turns<O>, Passes<O>), AllocError>
         requires some { 1 ≤ passes }
         requires few { passes ≤ 64 }
@@ -67,7 +67,7 @@ impl<O: Object> Turns<O> {
 
     /// Does an operation of the pass in its turn. It may wait for the turn without end.
     ///
-    /// Done, it adds one entry to the history. Refused or without memory it adds none.
+    /// Done, it adds one entry to the history. Refused, or where memory ran out, it adds none.
     pub fn act<R: Wait>(&self, rt: &R, pass: &mut Pass<O>, op: O::Op) -> Acted<O::Reply, O::Refusal>
         requires from { IsPassOf self.now pass.old }
         requires may { O.may self.now.opening pass.old.seen pass.old.number
