@@ -70,6 +70,7 @@ impl<'u> Children<'u> {
         !self.given.is_empty()
     }
 
+    /// Adds an action that is an act of its own.
     pub fn add_act(&mut self, act: Act<'u>) -> Result<(), AllocError>
         ensures { OnOk result (Adds self.old self.new (with_node (act_of act.entry))) }
     {
@@ -94,6 +95,7 @@ impl<'u> Children<'u> {
         }
     }
 
+    /// Adds what `jsp:param` or `c:param` gives.
     pub fn add_param(&mut self, param: ActParam<'u>) -> Result<(), AllocError>
         ensures { OnOk result (Adds self.old self.new (with_param (param_before param.entry))) }
     {
@@ -101,6 +103,7 @@ impl<'u> Children<'u> {
         Ok(())
     }
 
+    /// Adds a branch of a choice: `c:when` or `c:otherwise`.
     pub fn add_branch(&mut self, branch: ActBranch<'u>) -> Result<(), AllocError>
         ensures { OnOk result (Adds self.old self.new (with_branch (branch_before branch.entry))) }
     {

@@ -34,6 +34,7 @@ pub(crate) enum Role {
 }
 
 impl Role {
+    // What an action of this kind is to the one in which it stands.
     fn of(kind: &ActionKind) -> Self
         ensures { result ≡ role_of (kind_of kind.now) }
     {

@@ -125,6 +125,7 @@ impl Deps {
         }
     }
 
+    // The same, where each path is looked up, and each of its names.
     fn remove_each(&mut self, paths: &Names)
         ensures { self.new ≡ without_paths paths.now self.old }
     {
@@ -133,6 +134,7 @@ impl Deps {
         }
     }
 
+    // The same, where all paths that need something are gone over once, and all names.
     fn remove_together(&mut self, paths: &Names)
         ensures { self.new ≡ without_paths paths.now self.old }
     {

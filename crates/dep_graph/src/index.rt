@@ -79,6 +79,7 @@ fn add(index: &mut Vec<Named>, name: &Path, path: &Path) -> Result<(), AllocErro
     }
 }
 
+// The path needs this name, too, which others need already.
 fn add_user(named: &mut Named, path: &Path) -> Result<(), AllocError>
     ensures ok { OnOk result (named.new ≡ record {
       name = named.old.name;
@@ -115,6 +116,7 @@ fn remove(index: &mut Vec<Named>, name: &Path, path: &Path)
     }
 }
 
+// Takes the path out of the users of one name, of which none may be left.
 fn remove_user(alloc: Global, named: &mut Named, path: &Path)
     ensures { named.new ≡ record { name = named.old.name; users = without_name path.now named.old.users } }
 {
@@ -163,6 +165,7 @@ fn is_used(named: &Named) -> bool
     !named.users.is_empty()
 }
 
+// Takes these paths out of the users of every name, of which none may be left.
 fn let_all_go(index: &mut Vec<Named>, paths: &Names)
     ensures { index.new.items ≡ map (let_go paths.now) index.old.items }
 {
@@ -172,6 +175,7 @@ fn let_all_go(index: &mut Vec<Named>, paths: &Names)
     }
 }
 
+// Takes these paths out of the users of one name.
 fn let_go(alloc: Global, named: &mut Named, paths: &Names)
     ensures { named.new ≡ let_go paths.now named.old }
 {

@@ -47,6 +47,7 @@ fn truth_text(holds: bool) -> &'static str
     if holds { "true" } else { "false" }
 }
 
+// The text of a value as it stands in a list or a record, where null is `null`.
 fn inner_text(alloc: Global, value: &Value) -> Result<String, AllocError>
     ensures { IfOk result (λ text. string_bytes text ≡ inner_text (datum_of value.now)) }
 {
@@ -80,6 +81,7 @@ fn write_value(value: &Value, text: &mut String) -> Result<(), AllocError>
     }
 }
 
+// Writes the items of a list, with a comma and a space between them.
 #[cycle(write)]
 #[tactic(auto, using(pg_value::proofs::Sizes::sizes, crate::proofs::Joined::joined), unfolding(crate::specs::Text::null_text, crate::specs::Text::true_text, crate::specs::Text::false_text))]
 fn write_items(items: &[Value], text: &mut String) -> Result<(), AllocError>
@@ -93,6 +95,7 @@ fn write_items(items: &[Value], text: &mut String) -> Result<(), AllocError>
     Ok(())
 }
 
+// Writes the entries of a record, those at once that stand together.
 #[cycle(write)]
 #[tactic(auto, using(pg_value::proofs::Sizes::sizes, crate::proofs::Joined::joined), unfolding(crate::specs::Text::null_text, crate::specs::Text::true_text, crate::specs::Text::false_text))]
 fn write_record(entries: &Record, text: &mut String) -> Result<(), AllocError>

@@ -29,6 +29,8 @@ fn misplaced_faults(around: &[Host]) -> Faults
     Faults::one(TranslationFault::BadNesting).and(child_faults(around))
 }
 
+// No fault where the element is a part of the action around it, else those of one outside its
+// place.
 fn unless_part(is_part: bool, around: &[Host]) -> Faults
     ensures { result ≡ in_order (unless_part is_part (map host_made around.now)) }
 {

@@ -16,6 +16,7 @@ fn is_token_mark(b: u8) -> bool
     b"!#$%&'*+-.^_`|~".iter().any(|mark| b == *mark)
 }
 
+// Whether a byte may stand in a token of HTTP: a letter, a digit or one of the marks.
 fn is_token_byte(b: u8) -> bool
     ensures { result ≡ is_token_byte b }
 {

@@ -33,6 +33,7 @@ impl<'a> Directive<'a> {
     ghost use Rattle.page_directives.specs.Directive.{before_in, is_at_same, is_named};
     ghost use Rattle.page_directives.specs.Taglibs.{prefix_in, target_in};
 
+    /// The directive with these parts. What its attributes name as a target is found here, once.
     pub fn new(
         alloc: Global,
         name: &'a str,

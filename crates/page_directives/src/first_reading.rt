@@ -33,6 +33,8 @@ impl<'a> Model for FirstReading<'a> {
 }
 
 impl<'a> FirstReading<'a> {
+    /// The first reading with these directives. Where they decide that there is neither a buffer
+    /// nor flushing is found here, once.
     pub fn new(directives: Vec<Directive<'a>>) -> Self
         ensures { result ≡ directives.entry.items }
     {

@@ -55,6 +55,7 @@ fn is_tag_folder(path: &str) -> bool
     path == "/WEB-INF/tags" || begins("/WEB-INF/tags/", path)
 }
 
+// The folder that a `tagdir` names by a path from the root: `/WEB-INF/tags`, or one below it.
 fn tagdir_target(alloc: Global, tagdir: Option<&str>) -> Result<Option<Target>, AllocError>
     ensures { IfOk result (λ target. target ≡ tagdir_target (option_map (λ text. text.now) tagdir.entry)) }
 {
@@ -71,6 +72,7 @@ fn tagdir_target(alloc: Global, tagdir: Option<&str>) -> Result<Option<Target>, 
     }
 }
 
+// The library that a `uri` names, by its present name or by its old address.
 #[tactic(auto, unfolding(crate::specs::Tables::core_uris, crate::specs::Tables::function_uris))]
 fn uri_target(uri: Option<&str>) -> Option<Target>
     ensures { result ≡ uri_target (option_map (λ text. text.now) uri.entry) }

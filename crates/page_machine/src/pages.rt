@@ -54,6 +54,8 @@ pub(crate) struct Target {
     params: Listed<Param>,
 }
 
+// What the values of an include or an import name: the first is its address, the others are its
+// parameters, each a name and a value.
 fn find_target(alloc: Global, seat: &Seat, values: &[Value]) -> Result<Target, Failure<RunFault>>
     requires { 1 ≤ length values.now }
     ensures { TargetSo (page_run_of (seat_of seat.now)) (map datum_of values.now) result }

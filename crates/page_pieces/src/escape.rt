@@ -12,6 +12,7 @@ pub(crate) struct Escape {
     pub shields: bool,
 }
 
+// An escape of so many bytes, as the answer that one stands there.
 fn meaning(len: usize, means: &'static str, shields: bool) -> Option<Escape>
     ensures { option_map escape_of result ≡ escape len means.now shields }
 {

@@ -125,6 +125,7 @@ fn with_name(
     Ok(known)
 }
 
+// Whether the text is one of these, which are compared one after the other.
 fn contains(texts: &[Text], text: &str) -> bool
     ensures { result ≡ contains_text text.now texts.now }
 {

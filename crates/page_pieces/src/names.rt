@@ -41,6 +41,7 @@ pub fn behind_white(text: &str) -> &str
     text.split_at(white_len(text)).1
 }
 
+// How many bytes at the front may stand in a name behind its first byte.
 fn name_bytes(text: &[u8]) -> usize
     ensures value { result ≡ prefix_len is_name_byte text.now }
     ensures within { result ≤ length text.now }

@@ -21,12 +21,14 @@ pub(crate) fn around_quote(quote: u8, text: &str) -> Option<(&str, &str)>
     None
 }
 
+// Whether a byte ends the value: the quote does, unless a backslash before it takes it along.
 fn ends_value(quote: u8, escaped: bool, b: u8) -> bool
     ensures { result ≡ ends_value quote escaped b }
 {
     !escaped && b == quote
 }
 
+// Whether a byte takes the next one along: a backslash does, unless it was taken along itself.
 fn takes_next(escaped: bool, b: u8) -> bool
     ensures { result ≡ takes_next escaped b }
 {

@@ -58,6 +58,7 @@ fn tag_read(text: &str) -> Result<TagName<'_>, Misread>
     }
 }
 
+// What a tag is by the end of its head: an element without a body where that is `/>`, else a start.
 fn start_piece(end: HeadEnd, tag: Tag) -> Piece
     ensures { result ≡ start_piece end tag }
 {

@@ -94,6 +94,7 @@ fn is_same(outer_prefix: &Text, outer_name: &Text, prefix: &str, name: &str) -> 
     outer_prefix.as_str() == prefix && outer_name.as_str() == name
 }
 
+// Whether a text could be the end of an element with this name, if more bytes came.
 fn is_begun(text: &str, prefix: &Text, name: &Text) -> bool
     ensures { result ≡ could_end prefix.now name.now text.now }
 {
@@ -109,6 +110,7 @@ fn source<'a>(body: &'a str, rest: &str) -> &'a str
     body.split_at(body.len() - rest.len()).0
 }
 
+// The nodes before an element with a body of its own, and behind them the element with that body.
 fn close_own(
     alloc: Global,
     file: &Path,

@@ -172,6 +172,7 @@ fn clear<P: Drop>(shelves: &mut Vec<Shelf<P>>, paths: &Names)
     }
 }
 
+// The same, where the shelf of each path is looked up.
 fn take_out_each<P: Drop>(shelves: &mut Vec<Shelf<P>>, paths: &Names)
     requires { AreRising shelf_path shelves.old.items }
     ensures { shelves.new.items ≡ others shelf_path paths.now shelves.old.items }

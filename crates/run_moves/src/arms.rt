@@ -203,6 +203,7 @@ pub(crate) fn catch_end<W: World>(pc: usize, opened: &mut Open, world: &mut W) -
     Flow::Go(pc + 1)
 }
 
+// Whether the site answered that the variable was absent, and has the value now.
 fn is_created(reply: &AppReply) -> bool
     ensures { result ≡ tells_created (told reply.now) }
 {

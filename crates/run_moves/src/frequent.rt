@@ -148,6 +148,7 @@ fn push_copy(value: &Value, stack: &mut Stack) -> Result<(), Failure<RunFault>>
     push_made(made, stack)
 }
 
+// A copy of a value, whose only failure is that memory ran out.
 #[inline(always)]
 fn copied(value: &Value) -> Result<Value, Failure<RunFault>>
     ensures { AnswersAs datum_of (Ok (datum_of value.now)) result }

@@ -141,6 +141,7 @@ fn ask_redirect<W: World>(
     Ok(Text::copy_of(alloc, address)?)
 }
 
+// Whether an address has a control byte, which no field of a head may have.
 fn has_control(url: &[u8]) -> bool
     ensures { result ≡ list_any is_control url.now }
 {

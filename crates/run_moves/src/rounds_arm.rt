@@ -82,6 +82,7 @@ fn new_loop(alloc: Global, kind: &LoopKind, opened: &Open) -> Result<Loop, Failu
     })
 }
 
+// A copy of the name of a loop's variable, where it has one.
 fn copied(name: &Option<Name>) -> Result<Option<Name>, AllocError>
     ensures { IfOk result (λ copy. copy ≡ name.now) }
 {

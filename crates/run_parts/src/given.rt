@@ -45,6 +45,7 @@ pub fn fragment_given<'a>(name: &Text, call: &'a CallSeat) -> Given<'a>
     Given::Nothing
 }
 
+// How many cells stand behind a call for its body: none for a body that is absent or a text.
 fn size_of_body(body: &CallBody) -> usize
     ensures { result ≡ body_size body.now }
 {

@@ -117,6 +117,8 @@ pub(crate) fn assign<W: World>(
     }
 }
 
+// The same in application scope, by a step of the site: X20 of the value stands before the X22 of
+// the step.
 fn assign_in_application<W: World>(
     name: &Name,
     value: Value,

@@ -58,6 +58,7 @@ fn sound_app(opening: &Opening) -> bool
     are_light(opening.app.as_slice())
 }
 
+// Whether each value keeps the limits of a value.
 fn are_light(entries: &[(Text, Value)]) -> bool
     ensures { result ≡ list_all (λ e. not (is_over e.1)) (map entry_of entries.now) }
 {
@@ -107,6 +108,8 @@ fn has_number(sessions: &[KeptSession], number: u64) -> bool
     sessions.iter().any(|session| session.number == number)
 }
 
+// Whether the session's number was given out, its last use isn't later than the opening's moment,
+// and its attributes keep their limit.
 fn is_sound_session(opening: &Opening, session: &KeptSession) -> bool
     ensures { result ≡ is_sound_session opening.now session.now }
 {

@@ -40,6 +40,7 @@ impl Ends {
         }
     }
 
+    // The bell of a request, which other requests may have too.
     fn bell_of(&self, request: u64) -> &Bell {
         &self.bells[(request % BELLS as u64) as usize]
     }
@@ -144,6 +145,7 @@ impl Bell {
         self.rung.park(rt, (rung & 0xffff_ffff) as u32);
     }
 
+    // Listens no more.
     fn leave(&self) {
         self.listening.fetch_sub(1, Ordering::SeqCst);
     }

@@ -77,6 +77,7 @@ impl Door {
         }
     }
 
+    /// The listener of this door is bound to this port.
     pub(crate) fn open(&self, port: u16) {
         self.port.store(port, Ordering::SeqCst);
     }

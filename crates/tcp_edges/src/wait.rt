@@ -65,8 +65,9 @@ struct HeadEnd {
 const END: [u8; 4] = *b"\r\n\r\n";
 
 impl HeadEnd {
+    // Notes that these bytes came. Once the whole end came, what comes behind it changes nothing.
     fn note(&mut self, bytes: &[u8]) {
-        // So do most pieces: a whole request without a body.
+        // Most pieces end so: each is a whole request without a body.
         if bytes.ends_with(&END) {
             self.matched = END.len();
             return;

@@ -29,6 +29,7 @@ impl Model for WrittenDirective {
 }
 
 impl WrittenDirective {
+    // A directive as it was read, put where its copies share it.
     pub(crate) fn new(
         alloc: Global,
         name: Text,

@@ -35,6 +35,7 @@ pub(crate) fn fill_nodes(
     Ok(all)
 }
 
+// The same of one node: an element by its body, an include directive by the front of `found`.
 #[cycle(filling)]
 #[tactic(auto, using(crate::proofs::PlacedLemmas::element_placed, crate::proofs::PlacedLemmas::include_placed))]
 fn fill_node(

@@ -57,6 +57,7 @@ impl First {
         &self.prefixes
     }
 
+    // The names of the files that the directives include, in reading order, found or not.
     pub fn names(&self) -> &[Path]
         ensures { result.now ≡ self.now.names }
     {
@@ -86,6 +87,7 @@ impl First {
         self.prefixes.append(part.prefixes())
     }
 
+    // Adds the name of a file that a directive includes.
     fn push_name(&mut self, name: &Path) -> Result<(), AllocError>
         ensures { OnOk result (self.new ≡ and_name name.now self.old) }
     {
@@ -93,6 +95,7 @@ impl First {
     }
 }
 
+// Adds the directives of a part: the plain ones, and behind them its include directive.
 fn push_directives(directives: &mut Listed<WrittenDirective>, part: &Part) -> Result<(), AllocError>
     ensures { OnOk result (directives.new ≡ directives.old ++ in_part part.now) }
 {

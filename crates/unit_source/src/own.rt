@@ -51,6 +51,7 @@ fn add_directives(
     Ok(())
 }
 
+// The same of one node: a directive, or an element by its body.
 #[cycle(own)]
 #[tactic(auto, using(crate::proofs::OwnLemmas::element_directives))]
 fn add_node_directives(

@@ -50,12 +50,14 @@ impl Part {
         })
     }
 
+    // The directives before the include directive, or before the end of the file.
     pub fn plain(&self) -> &[WrittenDirective]
         ensures { result.now ≡ self.now.plain }
     {
         self.plain.as_slice()
     }
 
+    // The include directive that ends the part: the last part of a file has none.
     pub fn include(&self) -> Option<&WrittenDirective>
         ensures directive { option_map (λ d. d.now) result ≡ self.now.include }
         ensures are_plain { ArePlain self.now.plain }
@@ -63,6 +65,7 @@ impl Part {
         self.include.as_ref()
     }
 
+    // The prefixes that all these directives register, gathered once.
     pub fn prefixes(&self) -> &Prefixes
         ensures { result.now ≡ prefixes_of (in_part self.now) }
     {

@@ -68,6 +68,7 @@ fn is_leaf(node: &Node) -> bool
     }
 }
 
+// Nodes in place, without text that is white space alone where `trims` says so.
 #[cycle(placing)]
 #[tactic(auto, using(crate::proofs::PlacingLemmas::one_placed))]
 fn placed_nodes(alloc: Global, nodes: Vec<Node>, trims: bool) -> Result<Vec<PlacedNode>, AllocError>
@@ -262,6 +263,7 @@ fn break_at(
     Ok(nodes)
 }
 
+// Whether the end of an element wasn't read.
 fn is_open(closing: Closing) -> bool
     ensures { result ≡ is_open closing }
 {

@@ -55,6 +55,7 @@ fn add_directives<'n>(
     Ok(())
 }
 
+// The same of one node. Behind an include directive come those of the file that it includes.
 #[cycle(order)]
 #[tactic(auto, using(crate::proofs::OrderLemmas::element_ordered, crate::proofs::OrderLemmas::include_ordered))]
 fn add_node_directives<'n>(

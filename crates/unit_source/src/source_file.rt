@@ -52,6 +52,7 @@ impl SourceFile {
         })
     }
 
+    // The same file, which shares what was read of it.
     pub fn copy(&self) -> Result<Self, AllocError>
         ensures { IfOk result (λ copy. copy ≡ self.now) }
     {

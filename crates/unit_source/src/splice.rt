@@ -109,6 +109,8 @@ fn take_steps(
     Ok(())
 }
 
+// Takes one step. What an include directive comes to goes to the back of `found`, and the prefixes
+// that it brings to this file are registered.
 #[cycle(splicing)]
 #[tactic(auto, using(crate::proofs::StepLemmas::registers_taken, crate::proofs::StepLemmas::includes_taken))]
 fn take_step(

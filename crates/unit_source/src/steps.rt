@@ -61,6 +61,7 @@ pub(crate) fn add_steps(
     Ok(())
 }
 
+// The same of one node: an element by its body, a level deeper.
 #[cycle(steps)]
 #[tactic(auto, using(crate::proofs::StepLemmas::element_steps, crate::proofs::StepLemmas::include_steps))]
 fn add_node_steps(

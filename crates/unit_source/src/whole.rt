@@ -29,6 +29,8 @@ fn lacks_file(nodes: &[PlacedNode]) -> bool
     false
 }
 
+// Whether the node is such a directive, or one whose file has such a directive directly. Those in
+// elements don't count.
 #[cycle(lacking)]
 #[tactic(auto, using(crate::proofs::PlacedLemmas::element_placed, crate::proofs::PlacedLemmas::include_placed, crate::proofs::WholeLemmas::lacks_include))]
 fn is_lacking_at(node: &PlacedNode) -> bool
