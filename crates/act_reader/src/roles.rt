@@ -50,7 +50,7 @@ impl Role {
     }
 }
 
-/// Adds an action in which this stands.
+/// Adds an action, in which `inner` stands, to the children of the action around it.
 pub(crate) fn add_action<'u>(
     alloc: Global,
     action: &'u Action,

@@ -151,8 +151,8 @@ fn is_fragment(decl: &TagDecl, name: &Text) -> bool
     }
 }
 
-// The code of a part that is handed down, with its end. It begins anew, whatever stands open where
-// the call is.
+// The code of a part that is handed down, with its end. Nothing stands open where it begins,
+// whatever does where the call is.
 #[cycle(nodes)]
 fn whole(alloc: Global, page: &Page, place: &Place, body: &[Act]) -> Result<Code, AllocError>
     ensures { IfOk result (λ code. code ≡ handed_code place.now

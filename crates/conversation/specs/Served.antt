@@ -29,7 +29,8 @@ pub record IsStarved {W : Type 0} (starves : Bool → W → Request → List ℕ
   pub sent : Sent taken now text failed
   pub cause : failed ≡ true → Rose before after
 
--- by the outcome: before and after are the sink's count of faults, taken and now its bytes
+-- what an outcome says of the answer to one request: before and after are the sink's count of
+-- faults, taken and now its bytes
 abbrev pub Served : {W : Type 0} → (Bool → W → Exchange → W → Type 0) → (Bool → W → Request → List ℕ → W → Type 0) → Bool → Request → W → W → ℕ → ℕ → Option (List ℕ) → Option (List ℕ) → Outcome → Type 0
 Served serves starves close request old new before after taken now Whole = IsServed serves close request false old new taken now
 Served serves starves close request old new before after taken now Broken = IsServed serves close request true old new taken now

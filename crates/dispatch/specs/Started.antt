@@ -51,21 +51,22 @@ abbrev pub started : Request → (close shown : Bool) → (number : ℕ) → Lis
 started request close shown number tree found begun steps taken faults =
     record { request = request; close = close; shown = shown; number = number; tree = tree; found = found; begun = begun; steps = steps; taken = taken; faults = faults }
 
--- this is its number, and so it is answered
+-- a request that has just begun has this number, and is answered so
 pub record IsAt (p : Start) (number : ℕ) (close shown : Bool) : Type 0 where
   pub number_is : p.number ≡ number
   pub close_is : p.close ≡ close
   pub shown_is : p.shown ≡ shown
 
--- from where its response is counted
+-- from where the response of such a request is counted
 abbrev pub origin_of : Start → Origin
 origin_of p = record { start = p.taken; before = p.faults; asked = [] }
 
--- what it is answered under these answers to its steps
+-- what such a request is answered under these answers to its steps
 abbrev pub meant : Start → List Answer → Answered
 meant p answers = respond (paged_at p.tree) p.request p.found answers
 
--- it was begun at a moment of the clock, from this standing; this is what the clock tells of its moments then
+-- such a request was begun at a moment of the clock, from this standing; moments is what the clock
+-- tells then
 pub record HasBegun (x : Opening) (pass : ℕ) (old : Standing) (moments : Moments) (p : Start) : Type 0 where
   pub moment : ℕ
   pub told : Tells old.moments moments moment
@@ -77,13 +78,14 @@ pub record HasBegun (x : Opening) (pass : ℕ) (old : Standing) (moments : Momen
   pub shown : p.shown ≡ shows_body p.request.method
   pub takes : takes_method p.request.method ≡ true
 
--- what came of it by the outcome: the pass has seen this then, so much was read, and the sink has taken this
+-- what an outcome says of such a request: new is what the pass has seen in the end, now how much
+-- was read, taken what the sink has taken, and faults its count
 abbrev pub Came : Opening → (pass : ℕ) → (old : Standing) → (moments : Moments) → Start → (new : List Entry) → (now : ℕ) → (taken : Option (List ℕ)) → (faults : ℕ) → Outcome → Type 0
 Came x pass old moments p new now taken faults outcome =
     Served (λ close old (e : Exchange) new. Answers needs_at x pass e.request close old e.text e.broken new) (λ close old asked text new. Drops needs_at x pass asked close old text new) p.close p.request old (standing_of new moments now) p.faults
     faults p.taken taken outcome
 
--- it did these turns, and what it keeps stands for this state
+-- such a request did these turns, and what it keeps stands for this state
 pub record Ran (x : Opening) (pass : ℕ) (p : Start) (new : List Entry) (course : Course) (taken : Option (List ℕ)) (faults : ℕ) : Type 0 where
   pub turns : List Turn
   pub did : HasDone needs_at x pass p.begun new (all_calls p.number turns)
@@ -93,7 +95,8 @@ pub record Ran (x : Opening) (pass : ℕ) (p : Start) (new : List Entry) (course
   pub stood : Reached (origin_of p) course.scopes course.writer taken faults course.around asking after
   pub headed : IsHeaded p.close p.shown course.around course.writer
 
--- its pages ran to their end, and this is their reply, whatever answers are still to come
+-- the pages of such a request ran to their end, and this is their reply, whatever answers are still
+-- to come
 pub record Replies (x : Opening) (pass : ℕ) (p : Start) (new : List Entry) (now : ℕ) (course : Course) (taken : Option (List ℕ)) (faults : ℕ) (reply : Reply) : Type 0 where
   pub ran : Ran x pass p new course taken faults
   pub whole : list_all is_whole ran.turns ≡ true
@@ -101,7 +104,7 @@ pub record Replies (x : Opening) (pass : ℕ) (p : Start) (new : List Entry) (no
   pub is_open : IsReplyOpen reply ran.after.writer.pieces
   pub means : (future : List Answer) → meant p (answers_of x.seed ran.turns ++ future) ≡ reply_answer course.writer reply (given future ran.after)
 
--- memory ran out, and its pages went no further than they go, behind this head
+-- memory ran out, and the pages of such a request went no further than they go, behind this head
 pub record Starves (x : Opening) (pass : ℕ) (p : Start) (new : List Entry) (now : ℕ) (head : Head) (reached : State) : Type 0 where
   pub turns : List Turn
   pub stops : are_whole_but_last turns ≡ true
@@ -111,7 +114,7 @@ pub record Starves (x : Opening) (pass : ℕ) (p : Start) (new : List Entry) (no
   pub read : now ≤ p.steps + all_bytes p.tree turns
   pub means : (more : List Answer) → GoesWithin head reached (meant p (answers_of x.seed turns ++ more))
 
--- the run of its pages replies, or memory ran out
+-- the run of such a request's pages replies, or memory ran out
 abbrev pub RunsSo : {E : Type 0} → Opening → (pass : ℕ) → Start → (new : List Entry) → (now : ℕ) → Course → (taken : Option (List ℕ)) → (faults : ℕ) → Result Reply E → Type 0
 RunsSo x pass p new now course taken faults (Ok reply) = Replies x pass p new now course taken faults reply
 RunsSo x pass p new now course taken faults (Err e) = (ran : Ran x pass p new course taken faults) × Starves x pass p new now course.writer.head ran.after

@@ -94,7 +94,7 @@ fn line_of(alloc: Global, refusal: &Refusal) -> Result<Vec<u8>, AllocError>
     full_line(alloc, *weight, *promised)
 }
 
-// The body of the response is shown.
+// Whether the response to a request shows its body.
 pub(crate) fn shows_body(request: &Request) -> bool
     ensures { result ≡ shows_body request.now.method }
 {

@@ -97,7 +97,7 @@ impl ReadBuffer {
     }
 }
 
-// Lets it have at least so many bytes, of which zeros stand behind those that it had.
+// Makes the list at least so many bytes long, by zeros at its end.
 fn lengthen(bytes: &mut Vec<u8>, len: usize) -> Result<(), AllocError>
     ensures front { take (length bytes.old.items) bytes.new.items ≡ bytes.old.items }
     ensures long { OnOk result (len ≤ length bytes.new.items) }

@@ -76,7 +76,7 @@ impl Rest {
         self.scan.head_len(front_of(self.bytes.as_slice()))
     }
 
-    // Drops the first bytes, and the mark with them.
+    // Drops the first bytes. The others count as not looked through.
     pub(crate) fn drop_front(&mut self, count: usize)
         requires { count ≤ length self.old }
         ensures { self.new ≡ drop count self.old }

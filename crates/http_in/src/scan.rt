@@ -14,7 +14,7 @@ pub enum Scan {
     Head(usize),
 }
 
-// The bytes of what ends a head. All but one of them may stand at the end of the bytes already.
+// How many bytes the empty line has that ends a head. All but one of them may have come already.
 const EMPTY_LINE_BYTES: usize = 4;
 
 impl Scan {

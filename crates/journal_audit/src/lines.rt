@@ -5,8 +5,7 @@ ghost use Rattle.journal_audit.specs.Lines.{line_of, no_line};
 use crate::verdict::{AuditFault, Verdict, Why};
 use std::alloc::{AllocError, Global};
 
-/// The line that tells an answer, where one does: none tells of a failed source, or of want of
-/// memory.
+/// The line that tells an answer. None does where the source failed or memory ran out.
 pub(crate) fn line_of(
     alloc: Global,
     answer: &Result<Verdict, AuditFault>,

@@ -25,8 +25,8 @@ pub struct Journal {
 /// other: the next call reads on behind this one.
 ///
 /// Errors: `NotThere` where bytes come and don't begin with a journal; `TooLong` where more bytes
-/// come than may be read, and those don't begin with one; `Failed` where the source failed; want of
-/// memory. After an error the source has given some of the bytes.
+/// come than may be read, and those don't begin with one; `Failed` where the source failed;
+/// `NoMemory` where memory ran out. After an error the source has given some of the bytes.
 pub fn next_journal<S: Source>(
     alloc: Global,
     source: &mut S,

@@ -56,8 +56,8 @@ fn is_one_name(alloc: Global, value: &[Part]) -> Result<bool, AllocError>
     }
 }
 
-/// The faults of a value by what its attribute takes. What an expression in it has of its own isn't
-/// told here.
+/// The faults of a value by what its attribute takes. The faults of an expression in the value
+/// aren't told here.
 #[tactic(auto, unfolding(crate::specs::Check::taken_faults))]
 pub fn taken_faults(
     alloc: Global,

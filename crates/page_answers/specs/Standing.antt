@@ -24,7 +24,7 @@ pub record Standing : Type 0 where
 abbrev pub standing_of : List Entry → Moments → ℕ → Standing
 standing_of seen moments steps = record { seen = seen; moments = moments; steps = steps }
 
--- the clock answered a moment, and what comes of it is this
+-- the clock answered a moment, and what is said of that moment holds
 pub record AtMoment (old new : Standing) (comes : ℕ → Type 0) : Type 0 where
   pub moment : ℕ
   pub told : Answers old.moments new.moments moment

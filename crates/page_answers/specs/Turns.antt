@@ -25,7 +25,7 @@ pub data Turn : Type 0 where
   missed : (path : List ℕ) → (kept : Bool) → Turn
   unoffered : (path : List ℕ) → Turn
 
--- the step that was asked
+-- the step that a page asked in a turn
 abbrev pub step_of : Turn → asks.Step
 step_of (stepped step r) = asks.app step
 step_of (made session) = asks.fresh
@@ -33,7 +33,7 @@ step_of (hit path) = asks.fetch path
 step_of (missed path kept) = asks.fetch path
 step_of (unoffered path) = asks.fetch path
 
--- the answer that the page got, of a site with this seed; the fetch of a page has none
+-- the answer that the page got in a turn, of a site with this seed; the fetch of a page has none
 abbrev pub answer_of : (seed : List ℕ) → Turn → List Answer
 answer_of seed (stepped step r) = told r ∷ []
 answer_of seed (made session) = id (id_of seed session) ∷ []
@@ -41,7 +41,7 @@ answer_of seed (hit path) = []
 answer_of seed (missed path kept) = []
 answer_of seed (unoffered path) = []
 
--- the entries that it used, each with its reply
+-- the entries that a turn used, each with its reply
 abbrev pub calls_of : (request : ℕ) → Turn → List (Op × Reply)
 calls_of request (stepped step r) = (op.App request step, reply.App r) ∷ []
 calls_of request (made session) = (op.Fresh request, reply.Made session) ∷ []
@@ -58,7 +58,8 @@ names_of (Some unit) = unit.deps
 abbrev pub page_bytes : List File → (path : List ℕ) → ℕ
 page_bytes tree path = bytes_of (text_in tree) (names_of (unit_in tree path))
 
--- the bytes that were read for it: those of the files on which a page depends that was made anew
+-- the bytes that were read for a turn: those of the files on which a page depends that was made
+-- anew
 abbrev pub bytes_for : List File → Turn → ℕ
 bytes_for tree (stepped step r) = 0
 bytes_for tree (made session) = 0
@@ -66,18 +67,18 @@ bytes_for tree (hit path) = 0
 bytes_for tree (missed path kept) = page_bytes tree path
 bytes_for tree (unoffered path) = page_bytes tree path
 
--- it was done whole
+-- the step of a turn was done whole
 abbrev pub is_whole : Turn → Bool
 is_whole (unoffered path) = false
 is_whole other = true
 
--- only the last wasn't done whole, if any
+-- of these turns only the last wasn't done whole, if any
 abbrev pub are_whole_but_last : List Turn → Bool
 are_whole_but_last [] = true
 are_whole_but_last (turn ∷ []) = true
 are_whole_but_last (turn ∷ next ∷ turns) = is_whole turn && are_whole_but_last (next ∷ turns)
 
--- the same of all steps of a request, in order
+-- the same of all turns of a request, in order
 
 abbrev pub steps_of : List Turn → List asks.Step
 steps_of turns = map step_of turns

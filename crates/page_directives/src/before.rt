@@ -39,8 +39,8 @@ pub enum Where {
 pub struct Before<'a> {
     directives: Vec<Directive<'a>>,
     prefixes: Prefixes,
-    // What the directives said first; after an error it isn't there, and the directives are asked
-    // one after the other.
+    // What the directives said first. Once memory ran out it isn't there, and the directives are
+    // asked one after the other.
     known: Option<Known<'a>>,
 }
 
@@ -81,8 +81,8 @@ impl<'a> Before<'a> {
         self.prefixes.contains(prefix)
     }
 
-    // The text of the first attribute of that name, of those that directives that give settings
-    // gave and of others behind them.
+    // The text of the first attribute of that name: among those of the directives that give
+    // settings, and behind them among `own`.
     pub(crate) fn value<'b>(
         &'b self,
         in_tag: bool,
@@ -113,7 +113,7 @@ impl<'a> Before<'a> {
         }
     }
 
-    /// From now on a directive stands before.
+    /// Adds a directive to those that stood before.
     pub fn push(&mut self, directive: Directive<'a>) -> Result<(), AllocError>
         ensures before { OnOk result (self.new
             ≡ record self.old { directives = self.old.directives ++ directive.entry ∷ [] }) }
@@ -125,7 +125,7 @@ impl<'a> Before<'a> {
         Ok(())
     }
 
-    /// Meets a directive: its faults, and from now on it stands before.
+    /// The faults of a directive, which is then added to those that stood before.
     pub fn meet(
         &mut self,
         stands: Where,
@@ -143,8 +143,8 @@ impl<'a> Before<'a> {
         Ok(faults)
     }
 
-    /// Meets template text: the prefixes that stand in it before a colon and a name, behind a `<`,
-    /// stand before from now on. After an error some of them do.
+    /// Adds the prefixes that stand in template text behind a `<`, before a colon and a name. Where
+    /// memory runs out some of them are added.
     pub fn meet_text(&mut self, text: &str) -> Result<(), AllocError>
         ensures { OnOk result (self.new ≡ record self.old {
           prefixes = self.old.prefixes
@@ -200,7 +200,7 @@ fn include_faults(directive: &Directive) -> Faults
     ).and(Faults::one_if(attributes.repeats(), TranslationFault::BadAttribute)))
 }
 
-// Whether the directives that give settings stand there.
+// Whether the directives that give settings may stand there.
 fn may_give(in_tag: bool, stands: Where) -> bool
     ensures { result ≡ may_give in_tag stands }
 {

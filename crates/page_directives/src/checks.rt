@@ -46,7 +46,7 @@ pub(crate) fn row_of(name: &str, table: Table) -> Option<Check>
     None
 }
 
-// The fault of a text as a value.
+// The fault that a text has as the value of an attribute of which this is checked.
 #[tactic(auto, unfolding(crate::specs::Checks::refused))]
 fn refused(check: Check, text: &str) -> Faults
     ensures { result ≡ in_order (refused (check_of check) text.now) }

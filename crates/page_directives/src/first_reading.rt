@@ -14,8 +14,8 @@ use std::marker::Model;
 #[derive(Drop)]
 pub struct FirstReading<'a> {
     directives: Vec<Directive<'a>>,
-    // Behind how many of them `page` directives have decided that there is neither a buffer nor
-    // flushing, and `tag` directives.
+    // Behind how many of the directives those with the name `page` have decided that there is
+    // neither a buffer nor flushing, and the same of `tag`.
     page_turn: usize,
     tag_turn: usize,
 }
@@ -65,7 +65,7 @@ impl<'a> FirstReading<'a> {
     }
 }
 
-// The same of directives and of their turn.
+// The same, where the directives have decided so behind `turn` of them.
 #[tactic(auto, using(crate::proofs::FirstLemmas::never, crate::proofs::FirstLemmas::away, crate::proofs::FirstLemmas::unbuffers_is))]
 fn unbuffers_at(in_tag: bool, turn: usize, first: &[Directive], directive: &Directive) -> bool
     requires { IsTurn in_tag first.now turn }

@@ -43,14 +43,14 @@ pub(crate) fn value_given<'a>(
     own.plain(name)
 }
 
-// Whether a directive has this name and an attribute of that one.
+// Whether a directive is called `giver`, and has an attribute called `name`.
 fn gives(giver: &str, directive: &Directive, name: &str) -> bool
     ensures { result ≡ (is_named giver.now directive.now && has_name name.now directive.now.attributes) }
 {
     directive.is_named(giver) && has_name(directive.attributes().as_slice(), name)
 }
 
-// Whether a value is another than the first of its attribute.
+// Whether a value differs from the first one that its attribute was given.
 fn differs(value: Option<&str>, first: Option<&str>) -> bool
     ensures { result ≡ differs (option_map (λ text. text.now) value.entry)
         (option_map (λ text. text.now) first.entry) }

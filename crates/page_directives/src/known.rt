@@ -147,7 +147,7 @@ fn add_target<'a>(
     Ok(())
 }
 
-/// What is known behind one more directive, where what is known before it is there.
+/// What is known with one more directive, unless memory ran out for what was known before.
 pub(crate) fn known_behind<'a>(
     known: Option<Known<'a>>,
     directive: &Directive<'a>,

@@ -38,7 +38,7 @@ pub enum RunEnd {
     NoMemory,
 }
 
-/// Runs a page, whose Fetch was charged before. What `around` counts is raised, and its depth is
+/// Runs a page, whose Fetch was charged before. The counts of `around` are raised, and its depth is
 /// that of the target where the page ends by a forward.
 pub fn run<P: AppPort<Program>, K: Sink>(
     alloc: Global,

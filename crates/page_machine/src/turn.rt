@@ -111,7 +111,7 @@ fn frequent_of(cell: &Cell) -> Option<&Op>
     }
 }
 
-// The instruction that a run is at, with the run that it calls.
+// Does the instruction that a run is at, with the run that it calls, if it calls one.
 #[cycle(machine)]
 #[inline(never)]
 fn turn<W: World>(
@@ -142,7 +142,7 @@ fn turn<W: World>(
     }
 }
 
-// One call, with the run that it goes into.
+// Does one call, with the run that it goes into.
 #[cycle(machine)]
 #[inline(never)]
 fn call_out<W: World>(

@@ -96,7 +96,8 @@ evaluated_names coercion no_attributes = []
 evaluated_names coercion (written name parts place rest) = name_of_evaluated (coercion name) name ++ evaluated_names coercion rest
 evaluated_names coercion (given name trim nodes place rest) = name_of_evaluated (coercion name) name ++ evaluated_names coercion rest
 
--- names with the values that belong to them, before others: the last comes first, so that it is found first
+-- names with the values that belong to them, put before others: the last pair comes first, so that
+-- it is found first
 abbrev pub table_onto : Values → List (List ℕ) → List Datum → Values
 table_onto table (name ∷ names) (d ∷ ds) = table_onto ((name, d) ∷ table) names ds
 table_onto table names ds = table
@@ -109,7 +110,7 @@ table_of names ds = table_onto [] names ds
 abbrev pub value_at : List ℕ → Values → Option Datum
 value_at name values = entry_at name values
 
--- its text, or the empty text where it isn't one
+-- the text of such a value, or the empty text where it isn't given or is no text
 abbrev pub text_in : Option Datum → List ℕ
 text_in (Some (text t)) = t
 text_in other = []
@@ -118,7 +119,7 @@ text_in other = []
 abbrev pub text_at : List ℕ → Values → List ℕ
 text_at name values = text_in (value_at name values)
 
--- its truth value, or else
+-- the truth value that was given, or else the default
 abbrev pub truth_or : Bool → Option Datum → Bool
 truth_or default (Some (truth b)) = b
 truth_or default other = default

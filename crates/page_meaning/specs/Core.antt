@@ -25,7 +25,7 @@ use Rattle.out_buffer.specs.Writer.{with_bodies}
 abbrev pub trimmed_body : Place → (State → Did) → State → Went (List ℕ)
 trimmed_body place body s = then_do (keeping place body s) (λ t s1. Well (trimmed t) s1)
 
--- a text that was given and isn't null, or else
+-- the text that was given, or else what the other part gives: where none was given, or null
 abbrev pub text_or : Option Datum → (State → Went (List ℕ)) → State → Went (List ℕ)
 text_or None other s = other s
 text_or (Some null) other s = other s

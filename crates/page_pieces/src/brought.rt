@@ -93,7 +93,7 @@ impl Brought {
     }
 }
 
-// Whether these are in order with what begins at this byte behind them, from whether they are.
+// Whether what is brought is still in order with one more behind it that begins at this byte.
 fn stays_in_order(is_in_order: bool, brought: &[BroughtPrefixes], byte: u32) -> bool
     ensures before { result ≡ true → is_in_order ≡ true }
     ensures last { result ≡ true → (d : Bringing) → 0 < length brought.now →

@@ -13,8 +13,8 @@ use std::string::String;
 #[derive(Drop)]
 pub(crate) struct NameSet {
     items: Vec<Text>,
-    // The same to be looked up. It isn't there after an error: then they are looked through one
-    // after the other.
+    // The same to be looked up. Once memory ran out it isn't there: then the names are looked
+    // through one after the other.
     known: Option<BTreeSet<String>>,
 }
 
@@ -96,7 +96,7 @@ fn knows(known: &BTreeSet<String>, name: &str) -> bool
     known.contains(name)
 }
 
-// What is known with one more name, where what was known is there.
+// What is known with one more name, unless memory ran out for what was known before.
 fn known_with(
     alloc: Global,
     known: Option<BTreeSet<String>>,

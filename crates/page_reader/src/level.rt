@@ -67,8 +67,8 @@ impl Level<'_> {
         }
     }
 
-    // The nodes behind the element, where its body has these nodes and ends where this text is
-    // left.
+    // The nodes before the element and the element itself, whose body has these nodes and ends
+    // where `rest` begins. Where no level was left they are these nodes, with its head among them.
     pub fn close(
         self,
         alloc: Global,
@@ -101,7 +101,7 @@ fn is_begun(text: &str, prefix: &Text, name: &Text) -> bool
     could_end(text, prefix.as_str(), name.as_str())
 }
 
-// The body of an element, of which this much is left.
+// The part of a text before the rest of it that is left: the source of an element's body.
 #[tactic(auto, using(crate::proofs::StackLemmas::end_cut))]
 fn source<'a>(body: &'a str, rest: &str) -> &'a str
     requires { IsEndOf rest.now body.now }

@@ -23,11 +23,11 @@ use site_words::Snapped;
 use source_tree::{Tree, TreeFault};
 use std::alloc::Global;
 
-/// The last version of which a preview has one behind it.
+/// The last version of a live site behind which a preview's own site can have another.
 const LAST_VERSION: u64 = (1 << 63) - 2;
 
-/// Answers a request for a page by a picture of the site and a draft. Where it is run, it names the
-/// session of the site that is its own.
+/// Answers a request for a page by a picture of the site and a draft. Where the request is run,
+/// that is on a site of its own, whose session it names.
 pub(crate) fn show<K: Sink, L: Ledger>(
     alloc: Global,
     draft: &Draft,

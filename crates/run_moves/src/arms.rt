@@ -119,7 +119,7 @@ fn is_true(value: &Value) -> bool
     }
 }
 
-// The same, or that it isn't.
+// Whether a value is the truth value `true`, or, where `holds` is false, whether it isn't.
 fn is_same(holds: bool, value: &Value) -> bool
     ensures { result ≡ is_same_truth holds (is_true (datum_of value.now)) }
 {
@@ -213,7 +213,7 @@ fn is_created(reply: &AppReply) -> bool
     }
 }
 
-// Whether a bean was set where its variable was absent.
+// Sets a bean where its variable is absent, and answers whether it was.
 fn make_bean<W: World>(
     variable: &ScopedName,
     bean: &Bean,

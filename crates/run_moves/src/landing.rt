@@ -1,4 +1,4 @@
-// Where what an instruction made leads.
+// Where a run goes on after an instruction, by what that made.
 ghost use Rattle.std.specs.Prelude.{◌≡◌, ◌+◌, ◌<◌, ◌^◌, Err};
 ghost use Rattle.pg_text.specs.declared.failure.Failure.TheVariants as failure;
 ghost use Rattle.run_moves.specs.Acted.{Acted};

@@ -82,7 +82,8 @@ impl Loops {
         self.loops.last()
     }
 
-    /// The next round of the innermost loop begins: X18, X20. It isn't left behind.
+    /// The next round of the innermost loop begins: X18, X20. It stays the next one until
+    /// `advance`.
     pub fn begin_round<W: World>(
         &mut self,
         alloc: Global,
@@ -104,7 +105,8 @@ impl Loops {
         rounds_arm::begin_round(alloc, innermost, mark, world)
     }
 
-    /// The innermost loop goes on behind its next round.
+    /// The round that was the next one of the innermost loop has begun: the one behind it is the
+    /// next.
     pub fn advance(&mut self)
         ensures { self.new ≡ advanced self.old }
     {

@@ -95,7 +95,7 @@ impl Stack {
         self.values[at..].rotate_left(1);
     }
 
-    /// The outermost so many values alone.
+    /// Drops all but so many of the outermost values.
     pub fn cut(&mut self, left: usize)
         ensures { self.new ≡ last_of left self.old }
     {

@@ -31,7 +31,7 @@ pub(crate) fn remove_named<W: World>(name: &Option<Name>, world: &mut W)
     }
 }
 
-// Ends the loops inside the outermost so many. Their variables go.
+// Ends all loops but so many of the outermost. The variables of those that end go.
 fn unwind<W: World>(left: usize, loops: &mut Loops, world: &mut W)
     requires covered { W.covered world.old }
     ensures covered { W.covered world.new }

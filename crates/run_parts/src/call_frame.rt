@@ -29,7 +29,7 @@ pub fn first_frame(
     with_others(alloc, decl, &table, frame)
 }
 
-// With the record of the undeclared values, where they are taken: X20.
+// The frame with the record of the undeclared values, where the tag file takes them: X20.
 fn with_others(
     alloc: Global,
     decl: &TagDecl,

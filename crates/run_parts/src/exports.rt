@@ -188,7 +188,8 @@ fn make_all<W: World>(changes: &[Change], world: &mut W) -> Result<(), Failure<R
     Ok(())
 }
 
-/// Copies AT_BEGIN and NESTED variables from the current frame to the caller's, and comes back.
+/// Copies AT_BEGIN and NESTED variables from the current frame to the caller's. The current frame
+/// is then the same as before.
 pub fn copy_out<W: World>(
     alloc: Global,
     exports: &[Export],

@@ -38,7 +38,7 @@ pub fn values_taken(op: &Op) -> usize
     op.takes() as usize
 }
 
-// An operation that leaves no value.
+// What an operation comes to that leaves no value.
 fn none(done: Result<(), Failure<RunFault>>) -> Result<Option<Value>, Failure<RunFault>>
     ensures { result ≡ none_of done }
 {
@@ -48,7 +48,7 @@ fn none(done: Result<(), Failure<RunFault>>) -> Result<Option<Value>, Failure<Ru
     }
 }
 
-// An operation that leaves its value.
+// What an operation comes to that leaves the value that it made.
 fn one(made: Result<Value, Failure<RunFault>>) -> Result<Option<Value>, Failure<RunFault>>
     ensures { result ≡ one_of made }
 {

@@ -58,7 +58,7 @@ pub(crate) fn look_up<W: World>(
     Ok((Scope::Application, told(reply)))
 }
 
-/// The value of a variable; X6 where none is found, and that is a fault.
+/// The value of a variable. Where none is found, X6 if that is a fault (`strict`), else null.
 pub fn find<W: World>(strict: bool, name: &Name, world: &mut W) -> Result<Value, Failure<RunFault>>
     requires covered { W.covered world.old }
     ensures covered { W.covered world.new }
@@ -88,7 +88,7 @@ fn find_in_application<W: World>(
     nowhere(strict, told(reply))
 }
 
-// X6 of null where that is a fault.
+// A value that was found, or null: X6 of null where that is a fault.
 fn nowhere(strict: bool, value: Value) -> Result<Value, Failure<RunFault>>
     ensures { AnswersAs datum_of (nowhere_answer strict (datum_of value)) result }
 {

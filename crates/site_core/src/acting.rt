@@ -46,7 +46,7 @@ impl<P: Compiled, A: Actor<P>> Acting<P, A> {
         self.actor
     }
 
-    // An operation without a value.
+    // Does an operation with which no value is offered.
     #[inline(always)]
     fn ask(&mut self, op: Op) -> Acted<Given<P>, Refusal>
         requires may { May (A.opening self.old.actor) (A.seen self.old.actor) (A.pass self.old.actor)

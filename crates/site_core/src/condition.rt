@@ -130,7 +130,7 @@ fn finds(runs: &[Option<Request>], pass: u8, op: &Op) -> bool
     }
 }
 
-// A Roll comes where no request is under way.
+// Whether no request is under way, if the operation is a Roll.
 fn rests(runs: &[Option<Request>], op: &Op) -> bool
     ensures { result ≡ rests (map under_in runs.now) op.now }
 {

@@ -23,7 +23,8 @@ struct KnownId {
 }
 
 impl KnownId {
-    // Whether it is this session's id, and the text has its bytes.
+    // Whether this is the id of the session with the number, by the seed, and the text has its
+    // bytes.
     fn is(&self, seed: [u8; 32], number: u64, text: &Text) -> bool
         ensures { result ≡ true → is_id seed number text.now ≡ true }
     {
@@ -85,8 +86,8 @@ impl KnownIds {
     }
 }
 
-// The place of the id with this number, which others share whose numbers lie a multiple of all
-// places away.
+// The place of the id with this number. Ids share a place if their numbers are apart by a multiple
+// of the count of places.
 fn place_of(number: u64) -> usize
     ensures { result < MAX_SESSIONS }
 {

@@ -87,7 +87,7 @@ impl SessionList {
     }
 
     /// The session comes to the end of the list, in place of the one with its number. It takes no
-    /// memory, since that is there.
+    /// memory, since it has the room of that one.
     pub(crate) fn free(&mut self, session: Session)
         requires { has_named session.number self.old ≡ true }
         ensures { self.new ≡ others session.number self.old ++ session ∷ [] }

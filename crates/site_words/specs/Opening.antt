@@ -19,12 +19,13 @@ abbrev pub no_fault : Option TreeFault → Bool
 no_fault None = true
 no_fault (Some fault) = false
 
--- no two of them have one number
+-- no two sessions have one number
 abbrev pub are_distinct : List KeptSession → Bool
 are_distinct [] = true
 are_distinct (kept ∷ sessions) = not (list_any (λ (other : KeptSession). other.number == kept.number) sessions) && are_distinct sessions
 
--- the session was made before, was used by now at the latest, and is light enough
+-- the session was made before the opening, wasn't used after its moment, and has attributes within
+-- their limit
 abbrev pub is_sound_session : Opening → KeptSession → Bool
 is_sound_session x kept = nat_lt kept.number x.freshes && (nat_le kept.used x.moment && nat_le (attrs_weight kept.attrs) attrs_limit)
 

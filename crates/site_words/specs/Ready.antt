@@ -9,11 +9,11 @@ use Rattle.pg_text.specs.Names.{with_name}
 use Rattle.source_tree.specs.Changed.{changed}
 use Rattle.site_words.specs.Trees.{Needs, meets}
 
--- those with a changed name among their needs in the latest tree
+-- the ready paths with a changed name among their needs in the latest tree
 abbrev pub dirty_of : Needs → List File → List (List ℕ) → List (List ℕ) → List (List ℕ)
 dirty_of needs latest names ready = filter (λ path. meets (needs latest path) names) ready
 
--- those without a changed name among their needs in the latest tree
+-- the ready paths without a changed name among their needs in the latest tree
 abbrev pub clean_of : Needs → List File → List (List ℕ) → List (List ℕ) → List (List ℕ)
 clean_of needs latest names ready = filter (λ path. not (meets (needs latest path) names)) ready
 

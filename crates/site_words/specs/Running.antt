@@ -33,7 +33,7 @@ is_page path = ends_with nat_eq path (codes ".jsp") || ends_with nat_eq path (co
 abbrev pub page_claim : List ℕ → ℕ
 page_claim path = if is_page path then asks.page_charge path else 0
 
--- the answer to a step on the application's attributes
+-- a reply is of the kind that answers this step on the application's attributes
 abbrev pub fits_step_reply : AppStep → AppReply → Bool
 fits_step_reply (step.Get name) (answer.Value value) = true
 fits_step_reply (step.Set name value) answer.Done = true

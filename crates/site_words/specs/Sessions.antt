@@ -70,15 +70,15 @@ abbrev pub moment_after : ℕ → Op → ℕ
 moment_after moment (op.Begin cookie now) = max moment now
 moment_after moment other = moment
 
--- without the one of this number
+-- the sessions without the one of this number
 abbrev pub without : ℕ → List KeptSession → List KeptSession
 without number sessions = filter (λ (kept : KeptSession). not (kept.number == number)) sessions
 
--- the one of this number is used at this moment, and stays where it is
+-- the sessions, of which the one of this number is used at this moment, and stays where it is
 abbrev pub used_at : ℕ → ℕ → List KeptSession → List KeptSession
 used_at number moment sessions = map (λ (kept : KeptSession). if kept.number == number then record { number = kept.number; used = moment; attrs = kept.attrs } else kept) sessions
 
--- the one of this number comes to the end of the list
+-- the sessions, of which the one of this number comes to the end
 abbrev pub freed : ℕ → ℕ → List (List ℕ × Datum) → List KeptSession → List KeptSession
 freed number moment attrs sessions = without number sessions ++ record { number = number; used = moment; attrs = attrs } ∷ []
 
@@ -103,7 +103,7 @@ abbrev pub first_free : List (Option UnderWay) → List KeptSession → Option �
 first_free runs [] = None
 first_free runs (kept ∷ sessions) = unheld (holder_of kept.number runs) kept.number (first_free runs sessions)
 
--- where there are as many as there may be, the first free one is dropped
+-- the sessions, of which the first free one is dropped where there are as many as there may be
 abbrev pub with_room : List (Option UnderWay) → List KeptSession → List KeptSession
 with_room runs sessions = if nat_le most_sessions (length sessions) then unless_none (first_free runs sessions) sessions else sessions
 

@@ -58,7 +58,7 @@ impl<'a> DeclaredBefore<'a> {
         Ok(DeclaredBefore { before, names })
     }
 
-    // What gives settings among them.
+    // The directives, as they are asked for settings.
     pub(crate) fn settings(&self) -> &Before<'a>
         ensures { result.now.directives ≡ self.now }
     {

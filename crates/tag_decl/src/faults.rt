@@ -81,7 +81,7 @@ fn clash_faults(before: &DeclaredBefore, directive: &Directive) -> Faults
     }
 }
 
-// Whether a fragment has what fragments haven't.
+// Whether a fragment has an attribute `type` or `rtexprvalue`, which fragments may not have.
 fn is_bad_fragment(attributes: &Attributes) -> bool
     ensures { result ≡ (is_value (codes "true") (value_of (codes "fragment") attributes.now) &&
         (has_name (codes "type") attributes.now || has_name (codes "rtexprvalue") attributes.now)) }

@@ -41,17 +41,17 @@ abbrev pub taken_as : Result EditorAnswer EditorFault → Result EditorAnswer (F
 taken_as (Ok answer) = Ok answer
 taken_as (Err fault) = Err (Fault fault)
 
--- the status with which that is told
+-- the status with which it is told what an editor's message came to
 abbrev pub told_status : Result EditorAnswer EditorFault → Status
 told_status (Ok answer) = status.Ok
 told_status (Err fault) = status_of fault
 
--- its lines, without the end of the last
+-- the lines that tell it, without the end of the last
 abbrev pub told_lines : Result EditorAnswer EditorFault → List ℕ
 told_lines (Ok answer) = answer_text answer
 told_lines (Err fault) = fault_text fault
 
--- how it is told
+-- the whole answer that tells it
 abbrev pub told_text : Result EditorAnswer EditorFault → (close shown : Bool) → List ℕ
 told_text told close shown = plain (told_status told) close (told_lines told) shown
 

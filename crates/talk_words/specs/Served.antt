@@ -8,7 +8,8 @@ use Rattle.talk_words.specs.Connection.{Connection, Stand}
 use Rattle.talk_words.specs.Said.{Leaves, Says}
 use Rattle.talk_words.specs.declared.way.Way.{Way}
 
--- a request that goes this way; before and after are the sink's count of faults, taken and now its bytes
+-- what an outcome says of a request that goes this way: before and after are the sink's count of
+-- faults, taken and now its bytes
 abbrev pub ServedOn : Connection → Way → Bool → Request → Stand → Stand → ℕ → ℕ → Option (List ℕ) → Option (List ℕ) → Outcome → Type 0
 ServedOn w route close request a b before after taken now answer =
     Served (λ close old (e : Exchange) new. Says w route e.request close old e.text e.broken new) (λ close old request text new. Leaves w route request close old text new) close request a b before after taken now answer

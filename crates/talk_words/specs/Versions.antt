@@ -18,7 +18,7 @@ pub record Beginning : Type 0 where
   pub version : ℕ
   pub session : Option ℕ
 
--- its entry
+-- the entry of a request's beginning
 abbrev pub entry_of : Beginning → Entry
 entry_of b = record { pass = b.pass; op = op.Begin b.cookie b.moment; reply = reply.Begun b.request b.version b.session }
 

@@ -19,7 +19,7 @@ pub record Gone : Type 0 where
 abbrev pub gone : List (List ℕ) → Going → Gone
 gone names going = record { names = names; going = going }
 
--- more names
+-- what was read, with more names of files
 abbrev pub with_more : List (List ℕ) → Gone → Gone
 with_more names old = gone (old.names ++ names) old.going
 

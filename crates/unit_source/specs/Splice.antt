@@ -41,11 +41,11 @@ pub record Spliced : Type 0 where
 abbrev pub spliced : InPlace → List (List ℕ) → Going → Spliced
 spliced nodes names going = record { nodes = nodes; names = names; going = going }
 
--- prefixes more
+-- what was read, with more prefixes registered
 abbrev pub with_prefixes : List (List ℕ) → Going → Going
 with_prefixes prefixes going = record { prefixes = going.prefixes ++ prefixes; volume = going.volume }
 
--- a file more
+-- what was read, with a file of so many bytes more
 abbrev pub with_file : ℕ → Going → Going
 with_file bytes going = record { prefixes = going.prefixes; volume = and_file bytes going.volume }
 
@@ -106,7 +106,7 @@ abbrev pub registered : Leaf → Place → List (List ℕ)
 registered (leaves.Directive name attributes) place = option_to_list (prefix_in (directive name attributes place))
 registered kind place = []
 
--- nodes and then others
+-- one node, of each kind, and then what is read behind it
 abbrev pub leaf_then : Leaf → Place → Spliced → Spliced
 leaf_then kind place next = spliced (leaf kind place next.nodes) next.names next.going
 

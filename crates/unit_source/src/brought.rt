@@ -13,8 +13,8 @@ use page_pieces::{Brought, BroughtPrefixes};
 use pg_text::{Listed, Path};
 use std::alloc::AllocError;
 
-// What an include directive brings behind so much: the first readings of its file, and of what that
-// includes.
+// The first readings of the file that an include directive names, and of those that it includes,
+// where so much was read before.
 fn brought_first(
     files: &mut UnitFiles,
     chain: &Chain,
@@ -39,8 +39,8 @@ pub(crate) fn push_names(names: &mut Listed<Path>, more: &[Path]) -> Result<(), 
     Ok(())
 }
 
-// Adds what an include directive brings behind so much, and the names of the files that are read
-// for it; the answer is how much was read then.
+// Adds the prefixes that an include directive brings, where so much was read before, and the names
+// of the files that are read for them. The answer is how much was read then.
 fn add_brought(
     files: &mut UnitFiles,
     chain: &Chain,
@@ -66,8 +66,8 @@ fn add_brought(
     Ok(first.volume())
 }
 
-// The prefixes that the include directives of a file bring, whose chain, bytes and own directives
-// these are. The names of the files that are read for it are added.
+// The prefixes that the include directives among `own` bring: the directives of a file with this
+// chain and so many bytes. The names of the files that are read for them are added.
 pub(crate) fn read_brought(
     files: &mut UnitFiles,
     chain: &Chain,

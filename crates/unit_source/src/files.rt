@@ -108,7 +108,7 @@ fn place_of(files: &[SourceFile], path: &Path) -> Result<usize, usize>
     files.binary_search_by(|file| compare(file, path))
 }
 
-// How the path of a file stands to this one.
+// How the path of a file stands to this path, by their bytes.
 fn compare(file: &SourceFile, path: &Path) -> Ordering
     ensures { result ≡ path_cmp file.now.path path.now }
 {

@@ -38,7 +38,7 @@ impl Model for First {
 }
 
 impl First {
-    // So much was read, and nothing was met.
+    // A reading that begins where so much was read before.
     pub fn new(alloc: Global, volume: Volume) -> Self
         ensures { result ≡ told (none_read volume) }
     {
@@ -64,7 +64,7 @@ impl First {
         self.names.as_slice()
     }
 
-    // What was read.
+    // How much was read.
     pub fn volume(&self) -> Volume
         ensures { result ≡ self.now.volume }
     {

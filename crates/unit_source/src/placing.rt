@@ -177,7 +177,7 @@ pub(crate) fn add(nodes: &mut Vec<PlacedNode>, node: PlacedNode) -> Result<(), A
     Ok(())
 }
 
-// Puts a break among the nodes of its file.
+// Puts the fault at which the reading of a file broke off among the nodes of that file.
 #[cycle(breaking)]
 #[tactic(auto, using(crate::proofs::PlacingLemmas::fault_last, crate::proofs::PlacedLemmas::in_place_push))]
 fn with_fault(

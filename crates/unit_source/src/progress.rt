@@ -64,7 +64,7 @@ impl Progress {
         self.names.as_slice()
     }
 
-    // A name more.
+    // Adds the name of a file that was included.
     pub fn push_name(&mut self, name: &Path) -> Result<(), AllocError>
         ensures { OnOk result (self.new ≡ with_more (name.now ∷ []) self.old) }
     {
@@ -126,7 +126,7 @@ impl Progress {
         self.volume.count(bytes);
     }
 
-    // No file more is read.
+    // A limit was passed: no file more is read.
     pub fn fill(&mut self)
         ensures { self.new ≡ gone self.old.names (full self.old.going) }
     {

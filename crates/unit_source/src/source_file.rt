@@ -37,7 +37,7 @@ impl Model for SourceFile {
 }
 
 impl SourceFile {
-    // The file, which is read.
+    // Reads a file by itself.
     pub fn read(alloc: Global, path: Path, text: Text) -> Result<Self, AllocError>
         requires { length text ≤ MAX_FILE_BYTES }
         ensures { IfOk result (λ file. file ≡ source path text) }

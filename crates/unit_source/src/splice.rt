@@ -216,7 +216,7 @@ fn enter_source(
     enter_within(files, file, around, source, progress)
 }
 
-// The same where no more elements are open around it than may be.
+// The same where no more elements are open around the directive than may be.
 #[cycle(splicing)]
 fn enter_within(
     files: &mut UnitFiles,
