@@ -73,7 +73,7 @@ fn put_wanted(
     bring(code, &before, place, above, done)
 }
 
-// Where the last of these names is this one.
+// The last place among these names at which this one stands.
 fn last_place(names: &[Text], wanted: &str) -> Option<usize>
     ensures place { result ≡ last_place wanted.now names.now }
     ensures within { IfSome result (λ at. at < length names.now) }
@@ -92,7 +92,7 @@ fn found_with(at: usize, found: Option<usize>, is_it: bool) -> Option<usize>
     if is_it { Some(at) } else { found }
 }
 
-// Brings the value to the top that has so many and so many more above it.
+// Brings the value to the top that has `others` and `done` above it.
 fn bring(
     code: &mut Code,
     before: &Shape,

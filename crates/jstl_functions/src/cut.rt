@@ -62,7 +62,7 @@ pub(crate) fn before_part<'a>(text: &'a str, part: &str) -> &'a str
     }
 }
 
-// Without the characters up to U+0020 at both ends.
+// The text without the characters up to U+0020 at both ends.
 pub(crate) fn trim(text: &str) -> &str
     ensures { result.now ≡ trimmed_end (trimmed_front text.now) }
 {
@@ -91,7 +91,7 @@ fn low_front(bytes: &[u8]) -> usize
     bytes.iter().take_while(|byte| is_low(**byte)).count()
 }
 
-// How many stand last.
+// How many bytes stand last that are characters up to U+0020.
 fn low_end(bytes: &[u8]) -> usize
     ensures within { result ≤ length bytes.now }
     ensures value { result ≡ suffix_len is_low bytes.now }

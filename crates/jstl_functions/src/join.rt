@@ -10,7 +10,8 @@ use el_coercion::{made_text, to_text};
 use pg_value::{Failure, RunFault, Text, Value};
 use std::alloc::{AllocError, Global};
 
-// The texts of a list with another between them, and of a value that isn't a list its text.
+// The texts of a list's items, with another text between them; of a value that isn't a list, its
+// text.
 #[tactic(auto, using(crate::proofs::Contents::contents, crate::proofs::TooLong::measures))]
 pub(crate) fn join(alloc: Global, a: &Value, b: &Value) -> Result<Value, Failure<RunFault>>
     ensures { AnswersAs datum_of (and_then (join_of (datum_of a.now) (datum_of b.now)) measured) result }
@@ -45,7 +46,7 @@ fn joined(alloc: Global, texts: &[Text], between: &str) -> Result<Text, Failure<
     }
 }
 
-// A text, and each other one behind that which is between.
+// A text, and behind it each of the others, with `between` before it.
 fn joined_behind(
     alloc: Global,
     first: &str,

@@ -55,7 +55,7 @@ fn near_shape(before: &[Cell], shape: &Shared<Shape>) -> Result<Shared<Shape>, A
     shape.copy()
 }
 
-// The places are equal.
+// Whether the places are equal.
 fn is_same_place(a: &Place, b: &Place) -> bool
     ensures { IsTrue result → a.now ≡ b.now }
 {
@@ -65,7 +65,7 @@ fn is_same_place(a: &Place, b: &Place) -> bool
         && a.file.as_bytes() == b.file.as_bytes()
 }
 
-// The shapes are equal.
+// Whether the shapes are equal.
 fn is_same_shape(a: &Shape, b: &Shape) -> bool
     ensures { IsTrue result → a.now ≡ b.now }
 {
@@ -75,7 +75,7 @@ fn is_same_shape(a: &Shape, b: &Shape) -> bool
         && are_same(a.catches.as_slice(), b.catches.as_slice())
 }
 
-// The levels are equal, one by one.
+// Whether the levels are equal, one by one.
 fn are_same(a: &[Level], b: &[Level]) -> bool
     ensures { IsTrue result → a.now ≡ b.now }
 {

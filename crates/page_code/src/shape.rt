@@ -150,7 +150,8 @@ impl Shape {
     }
 }
 
-// A number with so much more; as many as 2^64 of anything would want more memory than there is.
+// A number with so much more. A sum of 2^64 or more is answered as if memory ran out: as many of
+// anything would take more than there is.
 fn increased(number: usize, by: usize) -> Result<usize, AllocError>
     ensures { IfOk result (λ n. n ≡ number + by) }
 {

@@ -92,8 +92,8 @@ impl<P: Compiled> Store<P> {
         self.deps.dirty(names)
     }
 
-    /// Takes out the values of these paths, which are those of all that is dirty where a publishing
-    /// clears it. It takes no memory.
+    /// Takes out the values of these paths: where a publishing clears the store, all that are
+    /// dirty. It takes no memory.
     pub fn clear(&mut self, paths: &Names)
         ensures left { kept_in self.new.shelves.items ≡ without_values paths.now (kept_in self.old.shelves.items) }
         ensures clean { (names : List (List ℕ)) →

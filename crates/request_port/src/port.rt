@@ -12,7 +12,7 @@ use std::sync::Arc;
 /// What a running page asks of its request, over the port on which the request was begun.
 #[derive(Drop)]
 pub struct RequestPort<'a, Q, L: Ledger> {
-    /// Where the pages that are made stand.
+    /// The allocator for the pages that are made.
     pub alloc: Global,
     /// The port of the connection.
     pub port: &'a mut Q,
@@ -35,7 +35,7 @@ impl<'a, Q, L: Ledger> RequestPort<'a, Q, L> {
     ghost use Rattle.site_words.specs.Running.{IsPaged};
 
     /// What stands at a path that was looked at last, without another Fetch. A page that wasn't
-    /// found last isn't told, as where memory runs out.
+    /// found last is answered as if memory ran out.
     pub fn again(&self, path: &Path) -> Result<Paged<Program>, AllocError>
         requires last { IsLast self.now.tree.now self.now.last }
         ensures paged { IfOk result (λ found. IsPaged IsProgramOf IsFaultOf self.now.tree.now path.now found) }

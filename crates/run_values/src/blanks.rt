@@ -32,7 +32,7 @@ fn blanks_first(bytes: &[u8]) -> usize
     bytes.iter().take_while(|byte| is_blank(**byte)).count()
 }
 
-// How many stand last.
+// How many spaces and tabs stand last.
 fn blanks_last(bytes: &[u8]) -> usize
     ensures within { result ≤ length bytes.now }
     ensures value { result ≡ suffix_len is_ows bytes.now }

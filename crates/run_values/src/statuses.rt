@@ -33,9 +33,9 @@ const LAST: usize = 6;
 #[derive(Drop)]
 pub struct Statuses {
     values: Vec<(Text, Value)>,
-    // That of the last round.
+    // The status of the last round.
     shown: Option<Record>,
-    // That of the round before.
+    // The status of the round before it.
     spare: Option<Record>,
 }
 
@@ -102,7 +102,7 @@ fn blank(alloc: Global, table: &[(Text, Value)]) -> Result<Record, AllocError>
     Record::new(Attrs::new(blank_entries(alloc, table)?))
 }
 
-// Its entries, in the order of their keys.
+// The entries of the status of no round, in the order of their keys.
 fn blank_entries(alloc: Global, table: &[(Text, Value)]) -> Result<Vec<(Text, Value)>, AllocError>
     ensures { IfOk result (λ made. map entry_of made.items ≡ status_entries (map entry_of table.now) no_round null) }
 {

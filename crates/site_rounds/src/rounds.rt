@@ -78,8 +78,8 @@ pub fn round<
     Ok(site)
 }
 
-// The passes once the round is over for each, in their order. All memory is taken first, so that
-// none is wanted once a worker is made.
+// The passes once the round is over for each, in their order. All memory is taken first, so that it
+// can't run out once a worker is made.
 fn served<
     P: Compiled + Send + Sync,
     R: Threads + Wait + Sync,
@@ -128,7 +128,7 @@ fn served<
     Ok(after)
 }
 
-// What answers connections to this site so.
+// What answers connections to this site by this talk.
 fn handler_of<'a, P: Compiled, G: Gate + Drop, R, T, W>(
     site: &'a SharedSite<P, G>,
     talk: &'a T,

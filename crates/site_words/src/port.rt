@@ -144,7 +144,8 @@ pub trait Port<P: Compiled> {
         ensures call { Calls P.needs (opening self.old) (pass self.old) (seen self.old) (seen self.new)
             (op.End request attrs) (Acted.Did Reply.Ended) };
 
-    /// Ends the request without its attributes. It takes no memory and is never refused.
+    /// Ends the request, whose session keeps the attributes that it had. It takes no memory and is
+    /// never refused.
     fn abandon(&mut self, request: u64)
         requires may { May (opening self.old) (seen self.old) (pass self.old)
             (own (pass self.old) (seen self.old)) (op.Abandon request) }

@@ -15,7 +15,7 @@ fn text_weight(bytes: usize) -> u64
     (bytes as u64).saturating_add(16)
 }
 
-// None where 64 bits don't hold the weight.
+// The weight of an edit, or None where 64 bits don't hold it.
 fn edit_weight(edit: &Edit) -> Option<u64>
     ensures { result ≡ weight_held (edit_weight edit.now) }
 {
@@ -27,7 +27,7 @@ fn edit_weight(edit: &Edit) -> Option<u64>
     }
 }
 
-// None where 64 bits don't hold the weight.
+// The weight of edits together, or None where 64 bits don't hold it.
 fn edits_weight(edits: &Edits) -> Option<u64>
     ensures { result ≡ weight_held (edits_weight edits.now) }
 {
@@ -38,7 +38,7 @@ fn edits_weight(edits: &Edits) -> Option<u64>
     Some(weight)
 }
 
-// None where 64 bits don't hold the weight.
+// The weight of names together, or None where 64 bits don't hold it.
 fn names_weight(names: &Names) -> Option<u64>
     ensures { result ≡ weight_held (names_weight names.now) }
 {
