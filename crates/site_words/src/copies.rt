@@ -1,22 +1,10 @@
 ghost use Rattle.std.specs.Prelude.{◌≡◌, true, IfOk, IsOk};
 ghost use Rattle.site_words.specs.Copies.{is_end};
 
-use crate::words::{AppReply, AppStep, Reply};
+use crate::words::{AppReply, Reply};
 use std::alloc::AllocError;
 
-/// An equal step.
-pub fn copy_step(step: &AppStep) -> Result<AppStep, AllocError>
-    ensures { IfOk result (λ copy. copy ≡ step.now) }
-{
-    match step {
-        AppStep::Get(name) => Ok(AppStep::Get(name.copy()?)),
-        AppStep::Set(name, value) => Ok(AppStep::Set(name.copy()?, value.copy()?)),
-        AppStep::Remove(name) => Ok(AppStep::Remove(name.copy()?)),
-        AppStep::Ensure(name, value) => Ok(AppStep::Ensure(name.copy()?, value.copy()?)),
-        AppStep::All => Ok(AppStep::All),
-    }
-}
-
+// An equal answer of a step.
 fn copy_answer(answer: &AppReply) -> Result<AppReply, AllocError>
     ensures { IfOk result (λ copy. copy ≡ answer.now) }
 {

@@ -16,7 +16,7 @@ mod words;
 pub use affixes::{has_prefix, has_suffix};
 pub use app_port::{AppPort, Paged};
 pub use compiled::Compiled;
-pub use copies::{copy_reply, copy_step};
+pub use copies::copy_reply;
 pub use edges::Acted;
 pub use ids::word;
 pub use limits::{
