@@ -19,8 +19,8 @@ pub enum Act<'a> {
     /// So many bodies are left.
     Leave(usize),
     Clear,
-    /// The head becomes that of a page that isn't there, with the id of a session.
-    NotFound,
+    /// The response begins a session.
+    Begin,
     /// How many bodies are kept, and whether something was committed.
     State,
     /// What stands in the buffer.
@@ -105,7 +105,7 @@ fn done(
             Ok(())
         }
         Act::Clear => clear(writer, told),
-        Act::NotFound => not_found(alloc, writer),
+        Act::Begin => begin(alloc, writer),
         Act::State => state(writer, told),
         Act::Rest => tell(told, text_of(writer.rest())),
         Act::Sink => tell(told, text_of(sink.taken())),
@@ -161,11 +161,9 @@ fn clear(writer: &mut Writer, told: &mut String) -> Result<(), AllocError> {
     }
 }
 
-fn not_found(alloc: Global, writer: &mut Writer) -> Result<(), AllocError> {
-    let head = Head::plain(Status::NotFound, false);
+fn begin(alloc: Global, writer: &mut Writer) -> Result<(), AllocError> {
     let id = Text::copy_of(alloc, "00ff")?;
     if !writer.committed() {
-        writer.set_head(head);
         writer.set_cookie(id);
     }
     Ok(())
