@@ -2,9 +2,8 @@ ghost use Rattle.std.specs.Prelude.{◌≡◌, ◌≤◌};
 ghost use Rattle.context_desk.specs.Several.{nothing_found};
 ghost use Rattle.context_desk.specs.Told.{IsTold};
 ghost use Rattle.edges.specs.Faults.{Rose};
-ghost use Rattle.http_out.specs.Methods.{shows_body};
 
-use conversation::Outcome;
+use conversation::{Outcome, shows_body};
 use edges::Sink;
 use http_in::Request;
 use http_out::{Status, tell_plain};
@@ -27,11 +26,4 @@ pub(crate) fn find_nothing<K: Sink>(
         Ok(true) => Outcome::WriteFault,
         Err(AllocError) => Outcome::NoMemory,
     }
-}
-
-// Whether the response to a request shows its body.
-fn shows_body(request: &Request) -> bool
-    ensures { result ≡ shows_body request.now.method }
-{
-    http_out::shows_body(request.method.as_bytes())
 }

@@ -9,10 +9,12 @@
 mod desk;
 mod ended;
 mod limits;
+mod methods;
 mod refusing;
 mod walking;
 
 pub use desk::{Desk, Outcome};
 pub use ended::Ended;
 pub use limits::MAX_REQUESTS;
+pub use methods::{shows_body, takes_method};
 pub use walking::walk;

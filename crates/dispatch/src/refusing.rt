@@ -5,14 +5,14 @@ ghost use Rattle.dispatch.specs.Refused.{IsTurnedAway};
 ghost use Rattle.edges.specs.Faults.{Rose};
 ghost use Rattle.http_out.specs.Full.{full_line};
 ghost use Rattle.page_answers.specs.Answers.{Answers};
-ghost use Rattle.http_out.specs.Methods.{shows_body, takes_method};
+ghost use Rattle.http_out.specs.Methods.{takes_method};
 ghost use Rattle.page_answers.specs.Dropped.{Drops};
 ghost use Rattle.page_answers.specs.Standing.{Standing};
 ghost use Rattle.site_words.specs.Answers.{IsFull};
 ghost use Rattle.site_words.specs.Trees.{Needs};
 ghost use Rattle.site_words.specs.declared.words.Opening.{Opening};
 
-use conversation::Outcome;
+use conversation::{Outcome, shows_body};
 use edges::Sink;
 use http_in::Request;
 use http_out::{Status, full_line, tell_plain};
@@ -92,11 +92,4 @@ fn line_of(alloc: Global, refusal: &Refusal) -> Result<Vec<u8>, AllocError>
         unreachable!()
     };
     full_line(alloc, *weight, *promised)
-}
-
-// The body of the response is shown.
-pub(crate) fn shows_body(request: &Request) -> bool
-    ensures { result ≡ shows_body request.now.method }
-{
-    http_out::shows_body(request.method.as_bytes())
 }

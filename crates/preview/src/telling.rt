@@ -10,10 +10,9 @@ ghost use Rattle.site_words.specs.Answers.{IsFull};
 ghost use Rattle.talk_words.specs.Said.{told_text};
 
 use crate::incoming::Incoming;
-use conversation::Outcome;
+use conversation::{Outcome, shows_body};
 use edges::Sink;
 use editor::{EditorAnswer, EditorFault, fault_text};
-use http_in::Request;
 use http_out::{Status, full_line, tell_plain};
 use pages_talk::tell_editor;
 use site_words::Refusal;
@@ -110,11 +109,4 @@ pub(crate) fn tell_fault<K: Sink>(
         return Outcome::NoMemory;
     };
     tell(alloc, incoming, Status::ContentTooLarge, &line, sink)
-}
-
-// Whether the response to a request shows its body.
-fn shows_body(request: &Request) -> bool
-    ensures { result ≡ shows_body request.now.method }
-{
-    http_out::shows_body(request.method.as_bytes())
 }
