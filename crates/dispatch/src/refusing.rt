@@ -72,7 +72,7 @@ pub(crate) fn full<K: Sink>(
     ensures failed { result ≡ Outcome.WriteFault → Rose (K.faults sink.old) (K.faults sink.new) }
 {
     let shown = shows_body(request);
-    let Ok(line) = line_of(alloc, refusal) else {
+    let Ok(line) = refusal_line(alloc, refusal) else {
         return Outcome::NoMemory;
     };
     match tell_plain(alloc, sink, Status::ServiceUnavailable, close, &line, shown) {
@@ -82,8 +82,8 @@ pub(crate) fn full<K: Sink>(
     }
 }
 
-// The line of a refusal that tells a full journal.
-fn line_of(alloc: Global, refusal: &Refusal) -> Result<Vec<u8>, AllocError>
+/// The line of a refusal that tells a full journal.
+pub fn refusal_line(alloc: Global, refusal: &Refusal) -> Result<Vec<u8>, AllocError>
     requires full { IsFull refusal.now }
     ensures line { (weight promised : ℕ) → refusal.now ≡ Refusal.JournalFull weight promised →
         IfOk result (λ line. line.items ≡ full_line weight promised) }

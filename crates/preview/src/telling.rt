@@ -1,5 +1,5 @@
 // Plain answers.
-ghost use Rattle.std.specs.Prelude.{◌≡◌, ◌≤◌, ℕ, IfOk};
+ghost use Rattle.std.specs.Prelude.{◌≡◌, ◌≤◌, ℕ};
 ghost use Rattle.context_desk.specs.Told.{IsTold};
 ghost use Rattle.edges.specs.Faults.{Rose};
 ghost use Rattle.editor.specs.Telling.{fault_text};
@@ -11,9 +11,10 @@ ghost use Rattle.talk_words.specs.Said.{told_text};
 
 use crate::incoming::Incoming;
 use conversation::{Outcome, shows_body};
+use dispatch::refusal_line;
 use edges::Sink;
 use editor::{EditorAnswer, EditorFault, fault_text};
-use http_out::{Status, full_line, tell_plain};
+use http_out::{Status, tell_plain};
 use pages_talk::tell_editor;
 use site_words::Refusal;
 use source_tree::TreeFault;
@@ -74,22 +75,10 @@ pub(crate) fn tell_full<K: Sink>(
     ensures later { K.faults sink.old ≤ K.faults sink.new }
     ensures failed { result ≡ Outcome.WriteFault → Rose (K.faults sink.old) (K.faults sink.new) }
 {
-    let Ok(line) = line_of(alloc, refusal) else {
+    let Ok(line) = refusal_line(alloc, refusal) else {
         return Outcome::NoMemory;
     };
     tell(alloc, incoming, Status::ServiceUnavailable, &line, sink)
-}
-
-// The line of a refusal that tells a full journal.
-fn line_of(alloc: Global, refusal: &Refusal) -> Result<Vec<u8>, AllocError>
-    requires full { IsFull refusal.now }
-    ensures line { (weight promised : ℕ) → refusal.now ≡ Refusal.JournalFull weight promised
-        → IfOk result (λ line. line.items ≡ full_line weight promised) }
-{
-    let Refusal::JournalFull { weight, promised } = refusal else {
-        unreachable!()
-    };
-    full_line(alloc, *weight, *promised)
 }
 
 /// Tells which limit the tree that a draft makes passes.
