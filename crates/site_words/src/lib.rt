@@ -10,6 +10,7 @@ pub mod laws;
 mod limits;
 mod pages;
 mod port;
+mod seed;
 mod weights;
 mod words;
 
@@ -25,6 +26,7 @@ pub use limits::{
 };
 pub use pages::{is_page, page_charge};
 pub use port::{Begun, Fresh, Port, Published, Snapped};
+pub use seed::seed_of;
 pub use weights::{
     answer_weight, entry_weight, is_over, op_weight, publishing_weight, reply_weight, step_weight,
 };
