@@ -1,15 +1,15 @@
 // Pages that are written act by act, and what is told of them.
-use crate::texts::whole;
 use edges::MemSink;
 use http_out::{ContentType, Head, Status};
 use out_buffer::{Failure, RunFault, Writer};
 use pg_text::Text;
+use row_text::written_out;
 use std::alloc::{AllocError, Global};
 
 /// What is done with the writer of a page, or asked of it.
 #[derive(Clone, Copy)]
 pub enum Act<'a> {
-    /// A text is put, which `whole` makes of this.
+    /// A text is put, which `written_out` makes of this.
     Put(&'a str),
     Flush,
     /// A body is kept from here on.
@@ -128,7 +128,7 @@ fn put(
     text: &str,
     told: &mut String,
 ) -> Result<(), AllocError> {
-    let text = whole(alloc, text)?;
+    let text = written_out(alloc, text, &[])?;
     match writer.put(sink, text.as_str()) {
         Ok(()) => Ok(()),
         Err(Failure::Fault(fault)) => tell(told, fault.name()),
