@@ -18,7 +18,7 @@ use contexts::CONTEXT_JOURNAL_LIMIT;
 use edges::{Accept, Bind, Clocks, Failed, OpenGate, Sink};
 use pg_value::Attrs;
 use serve_words::{Asked, Settings, settings_asked};
-use site_core::{Site, start};
+use site_core::{Site, SiteSettings, start};
 use site_rounds::{Listeners, Service, Talks, round};
 use site_words::JOURNAL_LIMIT;
 use source_tree::Tree;
@@ -186,15 +186,13 @@ fn site_of(alloc: Global, settings: &Settings) -> Result<Site<Made>, AllocError>
     ensures passes { IfOk result (λ site. site.opening.passes
         ≡ settings.now.workers + 1 + count_of settings.now.preview_port) }
 {
+    let of_site = SiteSettings {
+        seed: settings.seed,
+        limit: JOURNAL_LIMIT,
+        passes: passes_of(settings),
+        idle: settings.idle,
+    };
     let app = Attrs::empty(alloc);
     let tree = Tree::new(alloc);
-    start(
-        alloc,
-        settings.seed,
-        app,
-        tree,
-        JOURNAL_LIMIT,
-        passes_of(settings),
-        settings.idle,
-    )
+    start(alloc, of_site, app, tree)
 }
