@@ -33,11 +33,9 @@ use std::thread::Threads;
 /// Otherwise it isn't meant to end. What it has to say at the start goes to `notices`, and the
 /// journal of each round to `journals`.
 pub fn serve<R: Threads + Wait + Sync, B: Bind, W: Clocks + Sync, J: Sink, K: Sink>(
-    rt: &R,
-    alloc: Global,
+    platform: Platform<'_, R, W>,
     words: &[String],
     bind: &mut B,
-    clocks: &W,
     journals: &mut J,
     notices: &mut K,
 ) -> u8
@@ -54,10 +52,9 @@ pub fn serve<R: Threads + Wait + Sync, B: Bind, W: Clocks + Sync, J: Sink, K: Si
     let Ok(listeners) = listeners_of(bind, &settings) else {
         return 7;
     };
-    if !can_run(rt, usize::from(passes_of(&settings)) - 1) {
+    if !can_run(platform.rt, usize::from(passes_of(&settings)) - 1) {
         return 8;
     }
-    let platform = Platform { rt, alloc, clocks };
     match contexts {
         Some(names) => among(platform, names, &settings, listeners, notices),
         None => alone(platform, &settings, listeners, journals, notices),
