@@ -1,6 +1,6 @@
 ghost use Rattle.std.specs.Prelude.{◌≡◌, ◌≤◌};
 ghost use Rattle.context_desk.specs.Several.{nothing_found};
-ghost use Rattle.context_desk.specs.Told.{IsTold};
+ghost use Rattle.conversation.specs.Told.{IsTold};
 ghost use Rattle.edges.specs.Faults.{Rose};
 
 use conversation::{Outcome, shows_body};

@@ -1,6 +1,6 @@
 // Plain answers.
 ghost use Rattle.std.specs.Prelude.{◌≡◌, ◌≤◌, ℕ};
-ghost use Rattle.context_desk.specs.Told.{IsTold};
+ghost use Rattle.conversation.specs.Told.{IsTold};
 ghost use Rattle.edges.specs.Faults.{Rose};
 ghost use Rattle.editor.specs.Telling.{fault_text};
 ghost use Rattle.http_out.specs.Full.{full_line};
