@@ -14,7 +14,7 @@ use conversation::{Outcome, shows_body};
 use dispatch::refusal_line;
 use edges::Sink;
 use editor::{EditorAnswer, EditorFault, fault_text};
-use http_out::{Status, tell_plain};
+use http_out::Status;
 use pages_talk::tell_editor;
 use site_words::Refusal;
 use source_tree::TreeFault;
@@ -33,12 +33,7 @@ pub(crate) fn tell<K: Sink>(
     ensures later { K.faults sink.old ≤ K.faults sink.new }
     ensures failed { result ≡ Outcome.WriteFault → Rose (K.faults sink.old) (K.faults sink.new) }
 {
-    let shown = shows_body(&incoming.request);
-    match tell_plain(alloc, sink, status, incoming.close, line, shown) {
-        Ok(false) => Outcome::Whole,
-        Ok(true) => Outcome::WriteFault,
-        Err(AllocError) => Outcome::NoMemory,
-    }
+    conversation::tell(alloc, &incoming.request, incoming.close, status, line, sink)
 }
 
 /// Tells an editor what a message came to.
