@@ -10,11 +10,11 @@ ghost use Rattle.code_forms.specs.Codes.{form_code};
 ghost use Rattle.code_forms.specs.Forms.{calls, forwards_to, included_page};
 ghost use Rattle.code_lowering.specs.Lowering.{url_put};
 
+use crate::arranging::arranged_before;
 use crate::calls::import;
 use crate::evaluations::Evaluations;
-use crate::joining::{arranged_before, joined};
 use crate::variables::sets;
-use code_forms::{call, leave, operation};
+use code_forms::{call, joined, leave, operation};
 use page_acts::Variable;
 use page_code::{CallOut, Code, Leave, Op, Shape, values_of_address};
 use pg_text::{Listed, Place, Text};

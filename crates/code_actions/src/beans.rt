@@ -15,12 +15,12 @@ ghost use Rattle.pg_value.specs.Attrs.{entry_at};
 ghost use Rattle.pg_value.specs.Datum.{text};
 ghost use Rattle.pg_value.specs.Value.{value_of};
 
-use crate::joining::{arranged_before, joined};
+use crate::arranging::arranged_before;
 use crate::names::has;
 use crate::outputs::put_as_text;
 use crate::variables::{name_of, scoped};
 use code_expressions::constant;
-use code_forms::{ensured, operation};
+use code_forms::{ensured, joined, operation};
 use page_acts::Property;
 use page_code::{Bean, Code, Op, PropertyMode, Shape, Shared};
 use pg_text::{Listed, Place, Text};

@@ -11,12 +11,12 @@ ghost use Rattle.code_forms.specs.Codes.{form_code};
 ghost use Rattle.code_forms.specs.Forms.{does};
 ghost use Rattle.code_lowering.specs.Lowering.{has};
 
+use crate::arranging::arranged_before;
 use crate::beans::setting;
-use crate::joining::{arranged_before, joined};
 use crate::names::has;
 use crate::variables::sets_or_removes;
 use code_expressions::kept;
-use code_forms::{arranged, operation};
+use code_forms::{arranged, joined, operation};
 use page_acts::Variable;
 use page_code::{Code, PropertyMode, Shape};
 use pg_text::{Listed, Place, Text};

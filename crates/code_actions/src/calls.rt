@@ -8,9 +8,8 @@ ghost use Rattle.code_forms.specs.Codes.{form_code};
 ghost use Rattle.code_forms.specs.Forms.{calls, imported_page, own_body, own_fragment};
 ghost use Rattle.code_lowering.specs.Lowering.{kept_in, sets};
 
-use crate::joining::joined;
 use crate::variables::sets;
-use code_forms::{call, kept};
+use code_forms::{call, joined, kept};
 use page_acts::Variable;
 use page_code::{CallOut, Code, Shape};
 use pg_text::{Place, Text};

@@ -5,10 +5,10 @@ ghost use Rattle.page_acts.specs.Views.{variable_of};
 ghost use Rattle.code_forms.specs.Codes.{catch_code, form_code};
 ghost use Rattle.code_lowering.specs.Lowering.{keeps_fault};
 
-use crate::joining::{arranged_before, joined};
+use crate::arranging::arranged_before;
 use crate::parting::chosen_above;
 use crate::variables::{keeps_fault, sets_given};
-use code_forms::caught;
+use code_forms::{caught, joined};
 use page_acts::Variable;
 use page_code::{Code, Shape};
 use pg_text::{Listed, Place, Text};

@@ -5,8 +5,7 @@ ghost use Rattle.page_code.specs.Shapes.{cell, up};
 ghost use Rattle.page_code.specs.declared.instr.Instr.TheVariants as instr;
 ghost use Rattle.code_forms.specs.Codes.{arranged_code};
 
-use crate::joining::joined;
-use code_forms::arranged;
+use code_forms::{arranged, joined};
 use page_code::{Code, Instr, Shape};
 use pg_text::{Listed, Place, Text};
 use std::alloc::{AllocError, Global};

@@ -4,6 +4,7 @@
 #![tactic(auto)]
 
 mod addressing;
+mod arranging;
 mod beans;
 mod bodies;
 mod calls;
@@ -11,7 +12,6 @@ mod choices;
 mod choosing;
 mod enclosing;
 mod evaluations;
-mod joining;
 mod loops;
 mod names;
 mod outputs;

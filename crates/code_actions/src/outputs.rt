@@ -14,11 +14,10 @@ ghost use Rattle.code_lowering.specs.Expressions.{coerces, value_form};
 ghost use Rattle.code_lowering.specs.Lowering.{has, out_wanted};
 ghost use Rattle.el_reader.specs.El.{tree_of};
 
-use crate::joining::joined;
 use crate::names::has;
 use crate::parting::{chosen_above, where_null_above};
 use code_expressions::{coercion, kept, value};
-use code_forms::{arranged, operation, swapped};
+use code_forms::{arranged, joined, operation, swapped};
 use el_reader::El;
 use page_code::{Code, Coercion, Op, Shape};
 use pg_text::{Listed, Place, Text};

@@ -9,10 +9,9 @@ ghost use Rattle.code_lowering.specs.Lowering.{sets_or_removes};
 ghost use Rattle.pg_value.specs.Datum.{truth};
 ghost use Rattle.pg_value.specs.declared.scope.Scope.TheVariants as scope;
 
-use crate::joining::joined;
 use crate::parting::where_null_above;
 use code_expressions::constant;
-use code_forms::operation;
+use code_forms::{joined, operation};
 use page_acts::Variable;
 use page_code::{Code, Name, Op, ScopedName, Shape};
 use pg_text::{Place, Text};

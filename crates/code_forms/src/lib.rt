@@ -11,9 +11,11 @@ mod calling;
 mod cells;
 mod choosing;
 mod enclosing;
+mod joining;
 
 pub use arranging::{arranged, swapped};
 pub use calling::{Handed, ended, tag_call};
 pub use cells::{call, leave, operation};
 pub use choosing::{chosen, where_null};
 pub use enclosing::{caught, ensured, kept, looped};
+pub use joining::joined;

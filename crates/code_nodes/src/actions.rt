@@ -11,12 +11,12 @@ ghost use Rattle.unit_nodes.specs.Views.{page_view};
 ghost use Rattle.code_nodes.specs.Actions.{around_code, on_address_code, property_set_code};
 
 use crate::attributes::values;
-use crate::joining::joined;
 use crate::names::{evaluated_names, value_place};
 use crate::params::params;
 use crate::position::Position;
 use crate::tree::nodes;
 use code_actions::{Addressing, Enclosing, Evaluations, Params, SetProperty, set_property};
+use code_forms::joined;
 use page_acts::{Act, ActAttribute, ActParam, Property};
 use page_code::Code;
 use pg_text::Text;

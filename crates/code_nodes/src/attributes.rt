@@ -11,12 +11,12 @@ ghost use Rattle.unit_nodes.specs.Views.{page_view};
 ghost use Rattle.code_nodes.specs.Values.{attribute_place, behind_value, coerced_code, is_fragment};
 ghost use Rattle.code_nodes.specs.Values.{value_form};
 
-use crate::joining::joined;
 use crate::names::name_of;
 use crate::position::Position;
 use crate::tree::nodes;
 use code_actions::Evaluations;
 use code_expressions::{Evaluation, coerced, kept, parts as parts_code, visits};
+use code_forms::joined;
 use page_acts::ActAttribute;
 use page_code::{Code, Shape};
 use pg_text::Place;

@@ -12,12 +12,11 @@ ghost use Rattle.unit_nodes.specs.Views.{page_view, tag_view};
 ghost use Rattle.code_nodes.specs.Calls.{body_handed, is_fragment, with_fragments};
 
 use crate::attributes::values;
-use crate::joining::joined;
 use crate::names::evaluated_names;
 use crate::position::Position;
 use crate::tree::nodes;
 use code_actions::{Evaluations, call_tag};
-use code_forms::{Handed, ended};
+use code_forms::{Handed, ended, joined};
 use page_acts::{Act, ActAttribute, CallBody};
 use page_code::{Code, Shape};
 use pg_text::{Path, Place, Text};

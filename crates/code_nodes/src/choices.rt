@@ -10,12 +10,12 @@ ghost use Rattle.unit_meaning.specs.Shape.{page_of};
 ghost use Rattle.unit_nodes.specs.Views.{page_view};
 
 use crate::attributes::visited_values;
-use crate::joining::joined;
 use crate::names::evaluated_names;
 use crate::position::Position;
 use crate::tree::nodes;
 use code_actions::{Evaluations, TestedBranch, choice, when as when_code};
 use code_expressions::visits;
+use code_forms::joined;
 use page_acts::{Act, ActAttribute, ActBranch};
 use page_code::{Code, Shape};
 use std::alloc::{AllocError, Global};

@@ -6,7 +6,6 @@ mod actions;
 mod attributes;
 mod calls;
 mod choices;
-mod joining;
 mod names;
 mod params;
 mod position;

@@ -9,11 +9,11 @@ ghost use Rattle.unit_nodes.specs.Views.{page_view};
 ghost use Rattle.code_nodes.specs.Params.{name_and_value_code, param_form};
 
 use crate::attributes::visited_values;
-use crate::joining::joined;
 use crate::names::evaluated_names;
 use crate::position::Position;
 use crate::tree::nodes;
 use code_actions::{Evaluations, param as param_code, param_ground};
+use code_forms::joined;
 use page_acts::ActParam;
 use page_code::{Code, Shape};
 use std::alloc::{AllocError, Global};

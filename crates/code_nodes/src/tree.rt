@@ -11,13 +11,13 @@ ghost use Rattle.unit_nodes.specs.Views.{page_view};
 use crate::actions::{addressed, enclosed, properties};
 use crate::calls::call;
 use crate::choices::branches as branches_code;
-use crate::joining::joined;
 use crate::position::Position;
 use code_actions::{
     Addressing, Enclosing, UseBean, catch, do_body, get_property, invoke, remove, shown, template,
     use_bean,
 };
 use code_expressions::{first_visits, visits};
+use code_forms::joined;
 use page_acts::Act;
 use page_code::{Code, Shape};
 use std::alloc::{AllocError, Global};

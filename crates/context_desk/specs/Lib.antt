@@ -1,4 +1,3 @@
 pub mod Each
 pub mod Several
 pub mod Shares
-pub mod Told

@@ -1,14 +1,13 @@
 ghost use Rattle.std.specs.Prelude.{◌≡◌, ◌≤◌};
 ghost use Rattle.context_desk.specs.Several.{nothing_found};
-ghost use Rattle.context_desk.specs.Told.{IsTold};
+ghost use Rattle.conversation.specs.Told.{IsTold};
 ghost use Rattle.edges.specs.Faults.{Rose};
-ghost use Rattle.http_out.specs.Methods.{shows_body};
 
-use conversation::Outcome;
+use conversation::{Outcome, tell};
 use edges::Sink;
 use http_in::Request;
-use http_out::{Status, tell_plain};
-use std::alloc::{AllocError, Global};
+use http_out::Status;
+use std::alloc::Global;
 
 /// Tells that nothing is found where no context is named.
 pub(crate) fn find_nothing<K: Sink>(
@@ -21,17 +20,5 @@ pub(crate) fn find_nothing<K: Sink>(
     ensures later { K.faults sink.old ≤ K.faults sink.new }
     ensures failed { result ≡ Outcome.WriteFault → Rose (K.faults sink.old) (K.faults sink.new) }
 {
-    let shown = shows_body(request);
-    match tell_plain(alloc, sink, Status::NotFound, close, b"NotFound", shown) {
-        Ok(false) => Outcome::Whole,
-        Ok(true) => Outcome::WriteFault,
-        Err(AllocError) => Outcome::NoMemory,
-    }
-}
-
-// Whether the response to a request shows its body.
-fn shows_body(request: &Request) -> bool
-    ensures { result ≡ shows_body request.now.method }
-{
-    http_out::shows_body(request.method.as_bytes())
+    tell(alloc, request, close, Status::NotFound, b"NotFound", sink)
 }

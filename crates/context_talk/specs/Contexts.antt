@@ -8,8 +8,9 @@ use Rattle.context_words.specs.Parts.{lent_of}
 use Rattle.contexts.specs.Sites.{sites_of}
 use Rattle.conversation.specs.declared.ended.Ended.{Ended}
 use Rattle.edges.specs.Clock.{Moments}
-use Rattle.pages_talk.specs.Play.{first_seed, only_connection, seed_of}
+use Rattle.pages_talk.specs.Play.{first_seed, only_connection}
 use Rattle.site_core.specs.Lived.{Lived}
+use Rattle.site_words.specs.Seed.{seed_of}
 use Rattle.site_words.specs.declared.words.Entry.{Entry}
 use Rattle.talk_words.specs.Connection.{Connection}
 

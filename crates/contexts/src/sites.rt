@@ -8,7 +8,7 @@ ghost use Rattle.site_words.specs.Law.{May, own, run_of};
 use crate::limits::CONTEXT_JOURNAL_LIMIT;
 use context_names::{ContextNames, PortList};
 use pg_value::Attrs;
-use site_core::{Site, SoloPort, solo};
+use site_core::{Site, SiteSettings, SoloPort, solo};
 use site_state::{Act, Given};
 use site_words::{Acted, Compiled, IDLE_SECONDS, Refusal};
 use source_tree::Tree;
@@ -49,18 +49,15 @@ fn site_at<P: Compiled>(
     requires few { passes ≤ 64 }
     ensures { IfOk result (λ site. site ≡ site_at seed passes context) }
 {
-    let own = seed_at(seed, context);
+    let settings = SiteSettings {
+        seed: seed_at(seed, context),
+        limit: CONTEXT_JOURNAL_LIMIT,
+        passes,
+        idle: IDLE_SECONDS,
+    };
     let app = Attrs::empty(alloc);
     let tree = Tree::new(alloc);
-    site_core::start(
-        alloc,
-        own,
-        app,
-        tree,
-        CONTEXT_JOURNAL_LIMIT,
-        passes,
-        IDLE_SECONDS,
-    )
+    site_core::start(alloc, settings, app, tree)
 }
 
 // The seed of a context: its place is added to the last byte.

@@ -1,4 +1,5 @@
 pub mod Backward
 pub mod OneConversation
+pub mod ServedLemmas
 pub mod Told
 pub mod WalkLemmas

@@ -9,10 +9,14 @@
 mod desk;
 mod ended;
 mod limits;
+mod methods;
 mod refusing;
+mod telling;
 mod walking;
 
 pub use desk::{Desk, Outcome};
 pub use ended::Ended;
 pub use limits::MAX_REQUESTS;
+pub use methods::{shows_body, takes_method};
+pub use telling::tell;
 pub use walking::walk;

@@ -8,4 +8,5 @@ mod responding;
 mod serving;
 mod under_way;
 
+pub use refusing::refusal_line;
 pub use responding::respond;

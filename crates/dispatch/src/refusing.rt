@@ -5,14 +5,14 @@ ghost use Rattle.dispatch.specs.Refused.{IsTurnedAway};
 ghost use Rattle.edges.specs.Faults.{Rose};
 ghost use Rattle.http_out.specs.Full.{full_line};
 ghost use Rattle.page_answers.specs.Answers.{Answers};
-ghost use Rattle.http_out.specs.Methods.{shows_body, takes_method};
+ghost use Rattle.http_out.specs.Methods.{takes_method};
 ghost use Rattle.page_answers.specs.Dropped.{Drops};
 ghost use Rattle.page_answers.specs.Standing.{Standing};
 ghost use Rattle.site_words.specs.Answers.{IsFull};
 ghost use Rattle.site_words.specs.Trees.{Needs};
 ghost use Rattle.site_words.specs.declared.words.Opening.{Opening};
 
-use conversation::Outcome;
+use conversation::{Outcome, shows_body};
 use edges::Sink;
 use http_in::Request;
 use http_out::{Status, full_line, tell_plain};
@@ -72,7 +72,7 @@ pub(crate) fn full<K: Sink>(
     ensures failed { result ≡ Outcome.WriteFault → Rose (K.faults sink.old) (K.faults sink.new) }
 {
     let shown = shows_body(request);
-    let Ok(line) = line_of(alloc, refusal) else {
+    let Ok(line) = refusal_line(alloc, refusal) else {
         return Outcome::NoMemory;
     };
     match tell_plain(alloc, sink, Status::ServiceUnavailable, close, &line, shown) {
@@ -82,8 +82,8 @@ pub(crate) fn full<K: Sink>(
     }
 }
 
-// The line of a refusal that tells a full journal.
-fn line_of(alloc: Global, refusal: &Refusal) -> Result<Vec<u8>, AllocError>
+/// The line of a refusal that tells a full journal.
+pub fn refusal_line(alloc: Global, refusal: &Refusal) -> Result<Vec<u8>, AllocError>
     requires full { IsFull refusal.now }
     ensures line { (weight promised : ℕ) → refusal.now ≡ Refusal.JournalFull weight promised →
         IfOk result (λ line. line.items ≡ full_line weight promised) }
@@ -92,11 +92,4 @@ fn line_of(alloc: Global, refusal: &Refusal) -> Result<Vec<u8>, AllocError>
         unreachable!()
     };
     full_line(alloc, *weight, *promised)
-}
-
-// Whether the response to a request shows its body.
-pub(crate) fn shows_body(request: &Request) -> bool
-    ensures { result ≡ shows_body request.now.method }
-{
-    http_out::shows_body(request.method.as_bytes())
 }

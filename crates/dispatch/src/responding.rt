@@ -3,17 +3,16 @@ ghost use Rattle.conversation.specs.Served.{Served};
 ghost use Rattle.edges.specs.Faults.{Rose};
 ghost use Rattle.http_in.specs.declared.limits.TheConstants.{SESSION_ID_BYTES};
 ghost use Rattle.page_answers.specs.Answers.{Answers};
-ghost use Rattle.http_out.specs.Methods.{takes_method};
 ghost use Rattle.page_answers.specs.Dropped.{Drops};
 ghost use Rattle.page_answers.specs.Standing.{standing_of};
 ghost use Rattle.compiled_pages.specs.Pages.{needs_at};
 ghost use Rattle.pass_course.specs.Course.{IsIdle};
 ghost use Rattle.site_words.specs.Answers.{IsSamePort};
 
-use crate::refusing::{full, not_taken, shows_body};
+use crate::refusing::{full, not_taken};
 use crate::serving::serve;
 use compiled_pages::Made;
-use conversation::Outcome;
+use conversation::{Outcome, shows_body, takes_method};
 use edges::{Clock, Ledger, Sink, Steps};
 use http_in::Request;
 use request_pages::Incoming;
@@ -61,11 +60,4 @@ pub fn respond<Q: Port<Made>, K: Sink, C: Clock, L: Ledger>(
         Acted::Refused(refusal) => full(alloc, &refusal, request, close, sink),
         Acted::NoMemory => Outcome::NoMemory,
     }
-}
-
-// Whether the method is one of those that a page takes.
-fn takes_method(request: &Request) -> bool
-    ensures { result ≡ takes_method request.now.method }
-{
-    http_out::takes_method(request.method.as_bytes())
 }

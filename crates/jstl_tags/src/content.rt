@@ -19,7 +19,7 @@ pub(crate) enum Sort<'a> {
 }
 
 // Whether what stands there is one of these elements.
-pub(crate) fn is_of(sort: Sort, thing: Standing) -> bool
+fn is_of(sort: Sort, thing: Standing) -> bool
     ensures { result ≡ thing_is (is_of sort.entry) (standing_made thing.entry) }
 {
     let Standing::Element { prefix, name, .. } = thing else {

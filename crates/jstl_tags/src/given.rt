@@ -70,8 +70,8 @@ impl<'a> Given<'a> {
     }
 }
 
-// Whether parts may stand in the body of an element.
-pub(crate) fn takes_parts(element: &Element) -> bool
+/// Whether parts may stand in the body of an element.
+pub fn takes_parts(element: &Element) -> bool
     ensures { result ≡ takes_parts (opened_of element.now).tag }
 {
     let name = element.name.as_str();

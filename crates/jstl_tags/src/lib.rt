@@ -16,7 +16,7 @@ mod values;
 pub use check::{core_faults, is_bodiless, row_faults, split_faults};
 pub use core_name::CoreName;
 pub use core_table::core_row;
-pub use given::{Given, takes_of};
+pub use given::{Given, takes_of, takes_parts};
 pub use host::Host;
 pub use place::{child_faults, place_faults};
 pub use rows::{Holds, Row, Stands, Takes};

@@ -1,15 +1,15 @@
 // Pages that are written act by act, and what is told of them.
-use crate::texts::whole;
 use edges::MemSink;
 use http_out::{ContentType, Head, Status};
 use out_buffer::{Failure, RunFault, Writer};
 use pg_text::Text;
+use row_text::written_out;
 use std::alloc::{AllocError, Global};
 
 /// What is done with the writer of a page, or asked of it.
 #[derive(Clone, Copy)]
 pub enum Act<'a> {
-    /// A text is put, which `whole` makes of this.
+    /// A text is put, which `written_out` makes of this.
     Put(&'a str),
     Flush,
     /// A body is kept from here on.
@@ -19,8 +19,8 @@ pub enum Act<'a> {
     /// So many bodies are left.
     Leave(usize),
     Clear,
-    /// The head becomes that of a page that isn't there, with the id of a session.
-    NotFound,
+    /// The response begins a session.
+    Begin,
     /// How many bodies are kept, and whether something was committed.
     State,
     /// What stands in the buffer.
@@ -105,7 +105,7 @@ fn done(
             Ok(())
         }
         Act::Clear => clear(writer, told),
-        Act::NotFound => not_found(alloc, writer),
+        Act::Begin => begin(alloc, writer),
         Act::State => state(writer, told),
         Act::Rest => tell(told, text_of(writer.rest())),
         Act::Sink => tell(told, text_of(sink.taken())),
@@ -128,7 +128,7 @@ fn put(
     text: &str,
     told: &mut String,
 ) -> Result<(), AllocError> {
-    let text = whole(alloc, text)?;
+    let text = written_out(alloc, text, &[])?;
     match writer.put(sink, text.as_str()) {
         Ok(()) => Ok(()),
         Err(Failure::Fault(fault)) => tell(told, fault.name()),
@@ -161,11 +161,9 @@ fn clear(writer: &mut Writer, told: &mut String) -> Result<(), AllocError> {
     }
 }
 
-fn not_found(alloc: Global, writer: &mut Writer) -> Result<(), AllocError> {
-    let head = Head::plain(Status::NotFound, false);
+fn begin(alloc: Global, writer: &mut Writer) -> Result<(), AllocError> {
     let id = Text::copy_of(alloc, "00ff")?;
     if !writer.committed() {
-        writer.set_head(head);
         writer.set_cookie(id);
     }
     Ok(())

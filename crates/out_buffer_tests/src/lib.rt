@@ -11,5 +11,3 @@ mod keeping;
 mod responses;
 #[cfg(test)]
 mod tests;
-#[cfg(test)]
-mod texts;

@@ -1,7 +1,7 @@
 // Each page is told as its row says.
 use crate::acts::{Row, told_of};
-use crate::texts::whole;
 use crate::{committing, keeping};
+use row_text::written_out;
 use std::alloc::{AllocError, Global};
 use std::test::Fail;
 
@@ -9,7 +9,7 @@ use std::test::Fail;
 fn told_otherwise(alloc: Global, rows: &[Row]) -> Result<String, AllocError> {
     for row in rows {
         let told = told_of(alloc, row)?;
-        let wanted = whole(alloc, row.told)?;
+        let wanted = written_out(alloc, row.told, &[])?;
         if told.as_str() != wanted.as_str() {
             return Ok(told);
         }

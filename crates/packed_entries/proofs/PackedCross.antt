@@ -7,7 +7,8 @@ use Rattle.pg_text.proofs.path.Path.TheSendSync as path
 use Rattle.pg_text.proofs.text.Text.TheSendSync as text
 use Rattle.pg_text.specs.contracts.path.Path as Path
 use Rattle.pg_text.specs.contracts.text.Text as Text
-use Rattle.site_words.proofs.WordsCross.{attrs_send, entry_send}
+use Rattle.site_words.proofs.WordsCross.{attrs_send, op_send, reply_send}
+use Rattle.packed_entries.specs.contracts.answered.Answered as Answered
 use Rattle.packed_entries.specs.contracts.kind.Kind as Kind
 use Rattle.packed_entries.specs.contracts.packed.PackedEntry as Packed
 use Rattle.packed_entries.specs.contracts.packed.PackedEntry.TheInside as Inside
@@ -17,6 +18,9 @@ text_send = search (text.the_send, crosses, sendable)
 
 path_send : IsSend (Path.the_field).row
 path_send = search (path.the_send, crosses, sendable)
+
+answered_send : IsSend Answered.the_row
+answered_send = recorded_send (Answered.the_field).row _ _ (Answered.the_type).to_one (struct_send (S.shape Answered.the_type) (op_send, (reply_send, tt)))
 
 each_kind : EachSend (E.variants Kind.the_type)
 each_kind = (
@@ -31,7 +35,7 @@ each_kind = (
           (search sendable, (search sendable, (path_send, tt))),
           (
             (search sendable, (search sendable, (path_send, tt))),
-            ((search sendable, (attrs_send, tt)), ((search sendable, tt), ((search (entry_send, crosses, sendable), tt), tt))),
+            ((search sendable, (attrs_send, tt)), ((search sendable, tt), ((search (answered_send, crosses, sendable), tt), tt))),
           ),
         ),
       ),

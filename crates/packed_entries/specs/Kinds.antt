@@ -17,7 +17,7 @@ op_of (kind.Fetched hit request path) = op.Fetch request path
 op_of (kind.Offered kept request path) = op.Offer request path
 op_of (kind.Ended request attrs) = op.End request attrs
 op_of (kind.Abandoned request) = op.Abandon request
-op_of (kind.Apart entry) = entry.value.op
+op_of (kind.Apart answered) = answered.value.op
 
 -- the reply of a kind
 abbrev pub reply_of : Kind → Reply
@@ -29,7 +29,7 @@ reply_of (kind.Fetched hit request path) = reply.Fetched hit
 reply_of (kind.Offered kept request path) = reply.Offered kept
 reply_of (kind.Ended request attrs) = reply.Ended
 reply_of (kind.Abandoned request) = reply.Dropped
-reply_of (kind.Apart entry) = entry.value.reply
+reply_of (kind.Apart answered) = answered.value.reply
 
 -- the entry of an operation takes memory beside its slot
 abbrev pub stands_apart : Op → Bool

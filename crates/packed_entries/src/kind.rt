@@ -3,9 +3,10 @@ ghost use Rattle.site_words.specs.declared.words.Op.TheVariants as op;
 ghost use Rattle.site_words.specs.declared.words.Reply.TheVariants as reply;
 ghost use Rattle.packed_entries.specs.Kinds.{Pairs, op_of, reply_of, stands_apart};
 
+use crate::answered::Answered;
 use pg_text::{Path, Text};
 use pg_value::Attrs;
-use site_words::{Entry, Op, Reply};
+use site_words::{Op, Reply};
 
 // An operation with its reply.
 #[derive(Drop)]
@@ -52,13 +53,13 @@ pub enum Kind {
     Abandoned {
         request: u64,
     },
-    // Publish, App, Snapshot and Roll: in memory of their own. The pass in it isn't read.
-    Apart(Box<Entry>),
+    // Publish, App, Snapshot and Roll: in memory of their own.
+    Apart(Box<Answered>),
 }
 
 // The kind of an entry. What stands apart comes to this place.
 #[inline(always)]
-pub(crate) fn kind_of(pass: u8, op: Op, reply: Reply, place: Option<Box<Entry>>) -> Kind
+pub(crate) fn kind_of(op: Op, reply: Reply, place: Option<Box<Answered>>) -> Kind
     requires pairs { Pairs op reply }
     requires place { is_some place ≡ stands_apart op }
     ensures op { op_of result ≡ op }
@@ -66,7 +67,7 @@ pub(crate) fn kind_of(pass: u8, op: Op, reply: Reply, place: Option<Box<Entry>>)
 {
     match place {
         Some(mut place) => {
-            *place = Entry { pass, op, reply };
+            *place = Answered { op, reply };
             Kind::Apart(place)
         }
         None => slotted(op, reply),

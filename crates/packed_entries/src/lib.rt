@@ -2,6 +2,7 @@
 //! others in memory of their own.
 #![tactic(auto)]
 
+mod answered;
 mod kind;
 mod op_ref;
 mod packed;

@@ -40,7 +40,7 @@ impl PackedEntry {
     {
         PackedEntry {
             pass,
-            kind: kind_of(pass, op, reply, room.into_place()),
+            kind: kind_of(op, reply, room.into_place()),
         }
     }
 
@@ -78,7 +78,7 @@ impl PackedEntry {
                 attrs,
             },
             Kind::Abandoned { request } => OpRef::Abandon { request: *request },
-            Kind::Apart(entry) => OpRef::of(&entry.op),
+            Kind::Apart(answered) => OpRef::of(&answered.op),
         }
     }
 
@@ -115,7 +115,7 @@ impl PackedEntry {
             Kind::Offered { kept, .. } => ReplyRef::Offered { kept: *kept },
             Kind::Ended { .. } => ReplyRef::Ended,
             Kind::Abandoned { .. } => ReplyRef::Dropped,
-            Kind::Apart(entry) => ReplyRef::of(&entry.reply),
+            Kind::Apart(answered) => ReplyRef::of(&answered.reply),
         }
     }
 }

@@ -1,14 +1,15 @@
 ghost use Rattle.std.specs.Prelude.{◌≡◌, false, is_some, IsOk, IfOk};
 ghost use Rattle.packed_entries.specs.Kinds.{stands_apart};
 
-use site_words::{Entry, Op, Reply};
+use crate::answered::Answered;
+use site_words::{Op, Reply};
 use std::alloc::{AllocError, Global};
 use std::marker::Model;
 
 /// The memory that an entry takes beside its slot. Contracts see whether there is any.
 #[derive(Drop)]
 pub struct Room {
-    place: Option<Box<Entry>>,
+    place: Option<Box<Answered>>,
 }
 
 impl Model for Room {
@@ -29,9 +30,8 @@ impl Room {
         if !stands_apart(op) {
             return Ok(Room { place: None });
         }
-        // Any entry, until there is one for the place.
-        let blank = Entry {
-            pass: 0,
+        // Any operation, until there is one for the place.
+        let blank = Answered {
             op: Op::Roll,
             reply: Reply::Rolled,
         };
@@ -42,7 +42,7 @@ impl Room {
 
     /// The place itself.
     #[inline(always)]
-    pub(crate) fn into_place(self) -> Option<Box<Entry>>
+    pub(crate) fn into_place(self) -> Option<Box<Answered>>
         ensures { is_some result ≡ self }
     {
         self.place

@@ -33,7 +33,7 @@ use edges::{ReadSource, Steps, Unseen, WallClock, WallClocks, WriteSink};
 use pages_check::check;
 use pages_load::load;
 use pages_record::play_record;
-use pages_serve::serve;
+use pages_serve::{Platform, serve};
 use pages_talk::play;
 use pages_usage::{help, usage};
 use preview::preview_play;
@@ -152,12 +152,16 @@ fn served<R: Threads + Wait + Sync>(rt: &HostRuntime, threads: &R, words: &[Stri
     ensures words { settings_asked (map string_bytes words.now) ≡ None → result ≡ 1 }
     ensures only_words { result ≡ 1 → settings_asked (map string_bytes words.now) ≡ None }
 {
+    let clocks = WallClocks { rt };
+    let platform = Platform {
+        rt: threads,
+        alloc: rt.alloc(),
+        clocks: &clocks,
+    };
     serve(
-        threads,
-        rt.alloc(),
+        platform,
         words,
         &mut TcpBind::new(rt, rt.alloc()),
-        &WallClocks { rt },
         &mut WriteSink::new(io::writer(rt)),
         &mut WriteSink::new(rt.stderr()),
     )

@@ -1,7 +1,8 @@
 -- The words of the command `record`.
 use Rattle.std.specs.Prelude.{ℕ, ◌&&◌, List, [], ◌∷◌, codes, Option, Some, None, if◌then◌else◌}
 use Rattle.std.specs.Str.{bytes_eq}
-use Rattle.pages_talk.specs.Play.{first_seed, seed_of}
+use Rattle.pages_talk.specs.Play.{first_seed}
+use Rattle.site_words.specs.Seed.{seed_of}
 
 -- the seed that the words ask for: they are `record`, or `record`, `--seed` and the digits of a seed
 abbrev pub record_asked : List (List ℕ) → Option (List ℕ)

@@ -18,7 +18,7 @@ use contexts::CONTEXT_JOURNAL_LIMIT;
 use edges::{Accept, Bind, Clocks, Failed, OpenGate, Sink};
 use pg_value::Attrs;
 use serve_words::{Asked, Settings, settings_asked};
-use site_core::{Site, start};
+use site_core::{Site, SiteSettings, start};
 use site_rounds::{Listeners, Service, Talks, round};
 use site_words::JOURNAL_LIMIT;
 use source_tree::Tree;
@@ -33,11 +33,9 @@ use std::thread::Threads;
 /// Otherwise it isn't meant to end. What it has to say at the start goes to `notices`, and the
 /// journal of each round to `journals`.
 pub fn serve<R: Threads + Wait + Sync, B: Bind, W: Clocks + Sync, J: Sink, K: Sink>(
-    rt: &R,
-    alloc: Global,
+    platform: Platform<'_, R, W>,
     words: &[String],
     bind: &mut B,
-    clocks: &W,
     journals: &mut J,
     notices: &mut K,
 ) -> u8
@@ -54,10 +52,9 @@ pub fn serve<R: Threads + Wait + Sync, B: Bind, W: Clocks + Sync, J: Sink, K: Si
     let Ok(listeners) = listeners_of(bind, &settings) else {
         return 7;
     };
-    if !can_run(rt, usize::from(passes_of(&settings)) - 1) {
+    if !can_run(platform.rt, usize::from(passes_of(&settings)) - 1) {
         return 8;
     }
-    let platform = Platform { rt, alloc, clocks };
     match contexts {
         Some(names) => among(platform, names, &settings, listeners, notices),
         None => alone(platform, &settings, listeners, journals, notices),
@@ -186,15 +183,13 @@ fn site_of(alloc: Global, settings: &Settings) -> Result<Site<Made>, AllocError>
     ensures passes { IfOk result (λ site. site.opening.passes
         ≡ settings.now.workers + 1 + count_of settings.now.preview_port) }
 {
+    let of_site = SiteSettings {
+        seed: settings.seed,
+        limit: JOURNAL_LIMIT,
+        passes: passes_of(settings),
+        idle: settings.idle,
+    };
     let app = Attrs::empty(alloc);
     let tree = Tree::new(alloc);
-    start(
-        alloc,
-        settings.seed,
-        app,
-        tree,
-        JOURNAL_LIMIT,
-        passes_of(settings),
-        settings.idle,
-    )
+    start(alloc, of_site, app, tree)
 }

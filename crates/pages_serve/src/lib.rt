@@ -18,3 +18,4 @@ mod unmarked;
 pub use command::serve;
 pub use next_round::onward;
 pub use pages::{Audience, Pages};
+pub use platform::Platform;

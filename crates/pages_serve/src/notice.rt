@@ -1,11 +1,12 @@
 use edges::Sink;
 use http_out::write;
 use serve_words::Settings;
+use site_words::PROMISE;
 use std::alloc::{AllocError, Global};
 
-/// What the journal takes at the most for a request: its Begin with the longest cookie, and all
-/// that it is promised.
-const GREATEST_REQUEST: u64 = 4_325_504;
+/// What the journal takes at the most for a request: all that it is promised, of which its Begin
+/// is paid, too.
+const GREATEST_REQUEST: u64 = PROMISE;
 
 /// What it takes for a page of twelve letters that keeps a number in a session: its Begin with the
 /// session's cookie, a Fetch, and the session's attributes.

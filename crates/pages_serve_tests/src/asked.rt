@@ -1,6 +1,6 @@
 use crate::wires::NoBind;
 use edges::{MemSink, StillClock};
-use pages_serve::serve;
+use pages_serve::{Platform, serve};
 use std::alloc::{AllocError, Global};
 use std::sync::Wait;
 use std::test::Fail;
@@ -80,15 +80,12 @@ fn asked<R: Threads + Wait + Sync>(rt: &R, alloc: Global, words: &[String]) -> (
     let mut journals = MemSink::new(alloc, Vec::new(alloc));
     let mut bind = NoBind { faults: 0 };
     let clocks = StillClock { moment: 0 };
-    let status = serve(
+    let platform = Platform {
         rt,
         alloc,
-        words,
-        &mut bind,
-        &clocks,
-        &mut journals,
-        &mut notices,
-    );
+        clocks: &clocks,
+    };
+    let status = serve(platform, words, &mut bind, &mut journals, &mut notices);
     (status, bind.faults, notices.taken().len())
 }
 

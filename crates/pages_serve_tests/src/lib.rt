@@ -9,6 +9,8 @@ mod at_once;
 #[cfg(test)]
 mod opening;
 #[cfg(test)]
+mod parted;
+#[cfg(test)]
 mod rolling;
 #[cfg(test)]
 mod serving;

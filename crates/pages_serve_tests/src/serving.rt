@@ -1,6 +1,7 @@
 //! What comes of connections that a site serves for one round.
 ghost use Rattle.site_words.specs.Invariants.{AllRest};
 
+use crate::parted::Parted;
 use crate::wires::{HeldGate, Wire, WireAccept};
 use compiled_pages::Made;
 use edges::StillClock;
@@ -64,7 +65,12 @@ pub fn served<R: Threads + Wait + Sync>(
         passed: AtomicU64::new(if said.is_held { 0 } else { 1 }),
         gave_up,
     };
-    serve_once(rt, alloc, site, gate, readers, editors, previews)
+    let parted = Parted {
+        readers,
+        editors,
+        previews,
+    };
+    serve_once(rt, alloc, site, gate, parted)
 }
 
 // One round. Where nobody asks for a preview there is no port for them.
@@ -73,19 +79,17 @@ fn serve_once<R: Threads + Wait + Sync>(
     alloc: Global,
     site: Site<Made>,
     gate: HeldGate<'_>,
-    readers: &[Wire],
-    editors: &[Wire],
-    previews: &[Wire],
+    wires: Parted<'_>,
 ) -> Result<Site<Made>, Fail>
     requires rest { AllRest site.opening site.history }
 {
     let listeners = Listeners {
-        readers: WireAccept::new(rt, alloc, readers),
-        editors: WireAccept::new(rt, alloc, editors),
-        previews: if previews.is_empty() {
+        readers: WireAccept::new(rt, alloc, wires.readers),
+        editors: WireAccept::new(rt, alloc, wires.editors),
+        previews: if wires.previews.is_empty() {
             None
         } else {
-            Some(WireAccept::new(rt, alloc, previews))
+            Some(WireAccept::new(rt, alloc, wires.previews))
         },
     };
     let talks = Talks {

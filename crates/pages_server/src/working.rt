@@ -161,7 +161,7 @@ pub fn three<R: Threads + Wait + Sync, A: Accept + Sync, H: Handler + Sync>(
         back.entry.2.items result.2.items }
 {
     let (front_listener, front_handler, front_tokens) = front;
-    let (rest_listener, rest_handler, rest_tokens) = middle;
+    let (middle_listener, middle_handler, middle_tokens) = middle;
     let (back_listener, back_handler, back_tokens) = back;
     let (front, (middle, back)) = join(
         rt,
@@ -178,15 +178,15 @@ pub fn three<R: Threads + Wait + Sync, A: Accept + Sync, H: Handler + Sync>(
             Vec<Served<H::Token, A::Closing>>,
             Vec<Served<H::Token, A::Closing>>,
         )
-            requires { All (λ served. H.fits rest_handler.now served.token) rest_tokens.items × All
-                (λ served. served.closing ≡ None) rest_tokens.items × All
+            requires { All (λ served. H.fits middle_handler.now served.token) middle_tokens.items × All
+                (λ served. served.closing ≡ None) middle_tokens.items × All
                 (λ served. H.fits back_handler.now served.token) back_tokens.items × All
                 (λ served. served.closing ≡ None) back_tokens.items }
-            ensures { All (λ served. H.fits rest_handler.entry.now served.token) result.0.items ×
+            ensures { All (λ served. H.fits middle_handler.entry.now served.token) result.0.items ×
                 (map (λ served. H.number served.token) result.0.items
-                ≡ map (λ served. H.number served.token) rest_tokens.items) ×
-                AllZip (λ old new. Leads (H.handled rest_handler.entry.now) old.token new.token)
-                rest_tokens.items result.0.items × All
+                ≡ map (λ served. H.number served.token) middle_tokens.items) ×
+                AllZip (λ old new. Leads (H.handled middle_handler.entry.now) old.token new.token)
+                middle_tokens.items result.0.items × All
                 (λ served. H.fits back_handler.entry.now served.token) result.1.items ×
                 (map (λ served. H.number served.token) result.1.items
                 ≡ map (λ served. H.number served.token) back_tokens.items) ×
@@ -195,7 +195,7 @@ pub fn three<R: Threads + Wait + Sync, A: Accept + Sync, H: Handler + Sync>(
         {
             both(
                 rt,
-                (rest_listener, rest_handler, rest_tokens),
+                (middle_listener, middle_handler, middle_tokens),
                 (back_listener, back_handler, back_tokens),
             )
         },

@@ -1,15 +1,14 @@
 -- The command `play`: its words, the site on which it starts, and its status.
 use Rattle.std.specs.Prelude.{ℕ, ◌&&◌, List, [], ◌∷◌, codes, replicate, Option, Some, None, if◌then◌else◌}
-use Rattle.std.specs.Result.{result_ok}
 use Rattle.std.specs.Str.{bytes_eq}
 use Rattle.edges.specs.Clock.{Moments}
-use Rattle.hex.specs.Hex.{decode_sized}
 use Rattle.conversation.specs.Conversation.{Tells}
 use Rattle.conversation.specs.declared.ended.Ended.{Ended}
 use Rattle.conversation.specs.declared.ended.Ended.TheVariants.{Done, Refused, ReadFault, WriteFault, NoMemory}
 use Rattle.page_answers.specs.Standing.{standing_of}
 use Rattle.compiled_pages.specs.Pages.{needs_at}
 use Rattle.site_core.specs.Lived.{first_opening}
+use Rattle.site_words.specs.Seed.{seed_of}
 use Rattle.site_words.specs.declared.words.Entry.{Entry}
 use Rattle.site_words.specs.declared.words.Opening.{Opening}
 use Rattle.site_words.specs.declared.limits.TheConstants.{IDLE_SECONDS, JOURNAL_LIMIT}
@@ -22,10 +21,6 @@ use Rattle.talk_words.specs.declared.role.Role.TheVariants.{Both}
 -- the seed where none is named: 32 zeros
 abbrev pub first_seed : List ℕ
 first_seed = replicate 32 0
-
--- the seed of 32 bytes that a text is, of hexadecimal digits of either case
-abbrev pub seed_of : List ℕ → Option (List ℕ)
-seed_of text = result_ok (decode_sized text 32)
 
 -- the seed that the words ask for: they are `play`, or `play`, `--seed` and the digits of a seed
 abbrev pub seed_asked : List (List ℕ) → Option (List ℕ)

@@ -1,7 +1,6 @@
 ghost use Rattle.std.specs.Prelude.{◌≡◌, map, string_bytes};
-ghost use Rattle.pages_talk.specs.Play.{seed_asked, seed_of};
-
-use hex::decode_to_slice;
+ghost use Rattle.pages_talk.specs.Play.{seed_asked};
+ghost use Rattle.site_words.specs.Seed.{seed_of};
 
 /// The seed that the words ask for, where they are those of this command.
 pub(crate) fn seed_asked(words: &[String]) -> Option<[u8; 32]>
@@ -20,9 +19,5 @@ pub(crate) fn seed_asked(words: &[String]) -> Option<[u8; 32]>
 pub fn seed_of(text: &str) -> Option<[u8; 32]>
     ensures { result ≡ seed_of text.now }
 {
-    let mut seed = [0; 32];
-    match decode_to_slice(text, &mut seed) {
-        Ok(()) => Some(seed),
-        Err(_) => None,
-    }
+    site_words::seed_of(text.as_bytes())
 }

@@ -2,8 +2,8 @@
 use Rattle.std.proofs.Common.{◌≡◌, ◌⊎◌, ℕ, ◌+◌, Bool, true, false, List, [], Option, Some, None, codes, refl, sym, ap, subst, ◌∙◌, inl, inr}
 use Rattle.std.specs.Bool.{MatchBool}
 use Rattle.std.specs.Prelude.{if◌then◌else◌, nat_lt}
-use Rattle.context_desk.proofs.ServedLemmas.{served_map, told_served}
-use Rattle.context_desk.specs.Told.{IsTold}
+use Rattle.conversation.proofs.ServedLemmas.{served_map, told_served}
+use Rattle.conversation.specs.Told.{IsTold}
 use Rattle.conversation.specs.Exchange.{Exchange}
 use Rattle.conversation.specs.declared.desk.Outcome.{Outcome}
 use Rattle.edges.specs.declared.acted.Acted.TheVariants.{Did, Refused}

@@ -1,8 +1,8 @@
 -- What an editor's message on a preview connection comes to.
 use Rattle.std.proofs.Common.{◌≡◌, ℕ, Bool, List, Option, Ok, Err, refl, ap}
 use Rattle.std.specs.declared.result.Result.{Result}
-use Rattle.context_desk.proofs.ServedLemmas.{told_served}
-use Rattle.context_desk.specs.Told.{IsTold}
+use Rattle.conversation.proofs.ServedLemmas.{told_served}
+use Rattle.conversation.specs.Told.{IsTold}
 use Rattle.conversation.specs.Exchange.{Exchange}
 use Rattle.conversation.specs.declared.desk.Outcome.{Outcome}
 use Rattle.conversation.specs.declared.desk.Outcome.TheVariants.{NoMemory}

@@ -1,7 +1,7 @@
 -- The site of its own on which a preview runs.
 use Rattle.std.proofs.Common.{◌≡◌, ◌⊎◌, ◌≤◌, ℕ, zero, suc, ◌+◌, ◌*◌, ◌/◌, ◌%◌, Bool, true, inr, List, [], ◌∷◌, ◌++◌, length, Option, Some, None, codes, refl, sym, subst, ◌∙◌, arith, lit<, length-append}
 use Rattle.std.specs.Prelude.{slice_index}
-use Rattle.context_desk.proofs.ServedLemmas.{served_map}
+use Rattle.conversation.proofs.ServedLemmas.{served_map}
 use Rattle.conversation.specs.Exchange.{Exchange}
 use Rattle.conversation.specs.Served.{Served}
 use Rattle.conversation.specs.declared.desk.Outcome.{Outcome}

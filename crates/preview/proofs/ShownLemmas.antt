@@ -4,8 +4,8 @@ use Rattle.std.specs.Bool.{MatchBool}
 use Rattle.std.specs.Option.{MatchOption}
 use Rattle.std.specs.Prelude.{nat_le}
 use Rattle.std.proofs.lemmas.Bool.Decides.{nat_tests}
-use Rattle.context_desk.proofs.ServedLemmas.{served_map, told_served}
-use Rattle.context_desk.specs.Told.{IsTold}
+use Rattle.conversation.proofs.ServedLemmas.{served_map, told_served}
+use Rattle.conversation.specs.Told.{IsTold}
 use Rattle.conversation.specs.Exchange.{Exchange}
 use Rattle.conversation.specs.Served.{Served}
 use Rattle.conversation.specs.declared.desk.Outcome.{Outcome}

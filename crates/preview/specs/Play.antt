@@ -3,9 +3,10 @@ use Rattle.std.specs.Prelude.{ℕ, ◌&&◌, List, [], ◌∷◌, codes, Option,
 use Rattle.std.specs.Str.{bytes_eq}
 use Rattle.conversation.specs.declared.ended.Ended.{Ended}
 use Rattle.compiled_pages.specs.Pages.{needs_at}
-use Rattle.pages_talk.specs.Play.{first_seed, opening_of, seed_of}
+use Rattle.pages_talk.specs.Play.{first_seed, opening_of}
 use Rattle.preview_words.specs.Laws.{GrewByPictures}
 use Rattle.preview_words.specs.Previewed.{HasPreviewed}
+use Rattle.site_words.specs.Seed.{seed_of}
 use Rattle.site_words.specs.declared.words.Entry.{Entry}
 
 -- the seed that the words ask for: they are `preview`, or `preview`, `--seed` and the digits of a seed

@@ -1,5 +1,4 @@
 ghost use Rattle.std.specs.Prelude.{◌≡◌, ◌≤◌, ◌<◌, ◌+◌, ℕ, []};
-ghost use Rattle.http_out.specs.Methods.{takes_method};
 ghost use Rattle.talk_words.specs.Said.{is_editors};
 
 use crate::asking::ask;
@@ -7,7 +6,7 @@ use crate::editing::edit;
 use crate::incoming::Incoming;
 use crate::telling::tell;
 use compiled_pages::Made;
-use conversation::{Desk, Outcome};
+use conversation::{Desk, Outcome, takes_method};
 use edges::{Ledger, Sink, Steps};
 use editor::Draft;
 use http_in::Request;
@@ -93,11 +92,4 @@ fn is_editors(request: &Request) -> bool
     ensures { result ≡ is_editors request.now.target }
 {
     matches!(way_for(Role::Both, request), Way::Edits)
-}
-
-// Whether a page takes the method of a request.
-fn takes_method(request: &Request) -> bool
-    ensures { result ≡ takes_method request.now.method }
-{
-    http_out::takes_method(request.method.as_bytes())
 }

@@ -1,6 +1,6 @@
 // Plain answers.
-ghost use Rattle.std.specs.Prelude.{◌≡◌, ◌≤◌, ℕ, IfOk};
-ghost use Rattle.context_desk.specs.Told.{IsTold};
+ghost use Rattle.std.specs.Prelude.{◌≡◌, ◌≤◌, ℕ};
+ghost use Rattle.conversation.specs.Told.{IsTold};
 ghost use Rattle.edges.specs.Faults.{Rose};
 ghost use Rattle.editor.specs.Telling.{fault_text};
 ghost use Rattle.http_out.specs.Full.{full_line};
@@ -10,11 +10,11 @@ ghost use Rattle.site_words.specs.Answers.{IsFull};
 ghost use Rattle.talk_words.specs.Said.{told_text};
 
 use crate::incoming::Incoming;
-use conversation::Outcome;
+use conversation::{Outcome, shows_body};
+use dispatch::refusal_line;
 use edges::Sink;
 use editor::{EditorAnswer, EditorFault, fault_text};
-use http_in::Request;
-use http_out::{Status, full_line, tell_plain};
+use http_out::Status;
 use pages_talk::tell_editor;
 use site_words::Refusal;
 use source_tree::TreeFault;
@@ -33,12 +33,7 @@ pub(crate) fn tell<K: Sink>(
     ensures later { K.faults sink.old ≤ K.faults sink.new }
     ensures failed { result ≡ Outcome.WriteFault → Rose (K.faults sink.old) (K.faults sink.new) }
 {
-    let shown = shows_body(&incoming.request);
-    match tell_plain(alloc, sink, status, incoming.close, line, shown) {
-        Ok(false) => Outcome::Whole,
-        Ok(true) => Outcome::WriteFault,
-        Err(AllocError) => Outcome::NoMemory,
-    }
+    conversation::tell(alloc, &incoming.request, incoming.close, status, line, sink)
 }
 
 /// Tells an editor what a message came to.
@@ -75,22 +70,10 @@ pub(crate) fn tell_full<K: Sink>(
     ensures later { K.faults sink.old ≤ K.faults sink.new }
     ensures failed { result ≡ Outcome.WriteFault → Rose (K.faults sink.old) (K.faults sink.new) }
 {
-    let Ok(line) = line_of(alloc, refusal) else {
+    let Ok(line) = refusal_line(alloc, refusal) else {
         return Outcome::NoMemory;
     };
     tell(alloc, incoming, Status::ServiceUnavailable, &line, sink)
-}
-
-// The line of a refusal that tells a full journal.
-fn line_of(alloc: Global, refusal: &Refusal) -> Result<Vec<u8>, AllocError>
-    requires full { IsFull refusal.now }
-    ensures line { (weight promised : ℕ) → refusal.now ≡ Refusal.JournalFull weight promised
-        → IfOk result (λ line. line.items ≡ full_line weight promised) }
-{
-    let Refusal::JournalFull { weight, promised } = refusal else {
-        unreachable!()
-    };
-    full_line(alloc, *weight, *promised)
 }
 
 /// Tells which limit the tree that a draft makes passes.
@@ -110,11 +93,4 @@ pub(crate) fn tell_fault<K: Sink>(
         return Outcome::NoMemory;
     };
     tell(alloc, incoming, Status::ContentTooLarge, &line, sink)
-}
-
-// Whether the response to a request shows its body.
-fn shows_body(request: &Request) -> bool
-    ensures { result ≡ shows_body request.now.method }
-{
-    http_out::shows_body(request.method.as_bytes())
 }

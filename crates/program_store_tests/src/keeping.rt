@@ -93,6 +93,7 @@ fn drop_dirty(
     changed: &[&str],
 ) -> Result<String, Failure<BadPath>> {
     let changed = names(alloc, changed)?;
-    let dirty = store.drop_dirty(&changed)?;
+    let dirty = store.dirty(&changed)?;
+    store.clear(&dirty);
     Ok(listed(alloc, &dirty)?)
 }

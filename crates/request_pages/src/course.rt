@@ -31,7 +31,7 @@ pub struct Course {
 /// How a page is answered: its status, whether the connection closes after the response, and
 /// whether the body is sent, which it isn't to HEAD.
 #[derive(Clone, Copy, Debug, PartialEq, Eq)]
-pub struct Way {
+pub(crate) struct Way {
     pub status: Status,
     pub close: bool,
     pub shown: bool,

@@ -17,6 +17,6 @@ mod telling;
 
 pub use answering::answer;
 pub use body::Body;
-pub use course::{Course, Way, new_id};
+pub use course::{Course, new_id};
 pub use incoming::Incoming;
 pub use reply::{Gone, Reply};

@@ -15,8 +15,8 @@ use run_world::Raise;
 use site_words::has_suffix;
 use std::alloc::{AllocError, Global};
 
-/// A plain answer of one line.
-pub(crate) fn plain(alloc: Global, status: Status, line: &[u8]) -> Result<Reply, AllocError>
+// A plain answer of one line.
+fn plain(alloc: Global, status: Status, line: &[u8]) -> Result<Reply, AllocError>
     ensures { IfOk result (λ told. told ≡ Reply.Whole status (Some plain_type) None (line.now ++ codes "\n")) }
 {
     let mut body = Vec::from_slice(alloc, line)?;

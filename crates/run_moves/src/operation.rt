@@ -19,7 +19,7 @@ use crate::landing::{fail, fail_at, land, land_done};
 use crate::open::Open;
 use page_code::{Name, Op, PropertyMode};
 use pg_text::{Place, Text};
-use run_parts::{RequestRecords, find_property, operate, values_taken, write_back};
+use run_parts::{Applied, RequestRecords, find_property, operate, values_taken, write_back};
 use run_values::replaced;
 use run_world::World;
 use std::alloc::Global;
@@ -95,8 +95,10 @@ fn at_one_place<W: World>(
         at.served,
         at.seat,
         records,
-        op,
-        opened.stack.top(count),
+        Applied {
+            op,
+            args: opened.stack.top(count),
+        },
         world,
     );
     opened.stack.drop_top(count);

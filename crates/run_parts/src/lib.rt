@@ -4,6 +4,7 @@
 //! Each call does one part of the meaning of pages, over any world.
 #![tactic(auto)]
 
+mod applied;
 mod call_frame;
 mod exports;
 mod given;
@@ -16,6 +17,7 @@ mod set_properties;
 mod targets;
 mod variables;
 
+pub use applied::Applied;
 pub use call_frame::first_frame;
 pub use exports::{Change, copy_out, exports_of, give_back, nested_changes};
 pub use given::{Given, body_given, fragment_given};

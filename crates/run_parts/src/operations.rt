@@ -16,6 +16,7 @@ ghost use Rattle.run_world.specs.Known.{ServesSo};
 ghost use Rattle.run_world.specs.Part.{Doing};
 ghost use Rattle.run_world.specs.Seats.{seat_of};
 
+use crate::applied::Applied;
 use crate::objects::{implicit_value, scope_entry};
 use crate::output::put_escaped;
 use crate::request_records::RequestRecords;
@@ -119,27 +120,26 @@ pub fn count_visits<W: World>(count: u32, world: &mut W) -> Result<(), Failure<R
     Ok(())
 }
 
-/// What an operation does with the values that it takes, in the order in which they were pushed:
-/// the value that it leaves, if any.
+/// What an operation does with the values that it takes: the value that it leaves, if any.
 pub fn operate<W: World>(
     alloc: Global,
     served: &Served,
     seat: &Seat,
     records: &mut RequestRecords,
-    op: &Op,
-    args: &[Value],
+    applied: Applied,
     world: &mut W,
 ) -> Result<Option<Value>, Failure<RunFault>>
     requires covered { W.covered world.old }
     requires records { IsRecordsOf served.now.request.now (page_run_of (seat_of seat.now)).params records.old }
-    requires args { length args.now ≡ takes op.now }
-    requires placed { HasOnePlace op.now }
+    requires args { length applied.args.now ≡ takes applied.op.now }
+    requires placed { HasOnePlace applied.op.now }
     ensures covered { W.covered world.new }
     ensures records { IsRecordsOf served.now.request.now (page_run_of (seat_of seat.now)).params records.new }
     ensures does { (serving : Serving) → ServesSo W.stores served.now world.old serving →
-        Doing W.reached W.replies left_by (λ place. operation serving (seat_of seat.now) place op.now
-        (map datum_of args.now)) world.old world.new result }
+        Doing W.reached W.replies left_by (λ place. operation serving (seat_of seat.now) place
+        applied.entry.op.now (map datum_of applied.entry.args.now)) world.old world.new result }
 {
+    let Applied { op, args } = applied;
     match op {
         Op::Write(text) => none(world.put(text.as_str())),
         Op::Put => none(world.put(text_of(&args[0]))),

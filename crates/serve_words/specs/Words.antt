@@ -2,14 +2,13 @@
 use Rattle.std.specs.Prelude.{ℕ, ◌≤◌, ◌==◌, ◌&&◌, ◌||◌, Bool, List, [], ◌∷◌, codes, length, nat_le, nat_lt, is_none, is_some, replicate, Option, Some, None, IfSome, if◌then◌else◌}
 use Rattle.std.specs.List.{after_first, before_first, position_or_len}
 use Rattle.std.specs.Option.{option_and_then}
-use Rattle.std.specs.Result.{result_ok}
 use Rattle.std.specs.Str.{bytes_eq}
 use Rattle.context_names.specs.Names.{names_in}
-use Rattle.hex.specs.Hex.{decode_sized}
 use Rattle.pg_text.specs.Numbers.{whole_number}
 use Rattle.serve_words.specs.declared.given.Given.{Given}
 use Rattle.serve_words.specs.declared.setting.Rounds.{Rounds}
 use Rattle.serve_words.specs.declared.setting.Settings.{Settings}
+use Rattle.site_words.specs.Seed.{seed_of}
 use Rattle.site_words.specs.declared.limits.TheConstants.{IDLE_SECONDS}
 
 -- no option was read yet
@@ -19,10 +18,6 @@ nothing_given = record { port = None; editor_port = None; preview_port = None; w
 -- the number that a text writes, where it is from one to the most
 abbrev pub number_up_to : (most : ℕ) → List ℕ → Option ℕ
 number_up_to most text = option_and_then (λ number. if nat_le 1 number && nat_le number most then Some number else None) (whole_number text)
-
--- the seed that a text writes in 64 hexadecimal digits of either case
-abbrev pub seed_in : List ℕ → Option (List ℕ)
-seed_in text = result_ok (decode_sized text 32)
 
 -- there are 1 to 63 workers, where the words said how many
 abbrev pub FewWorkers : Given → Type 0
@@ -40,7 +35,7 @@ with_option name value g =
     else if bytes_eq name (codes "--editor-port") then option_and_then (λ n. Some (record g { editor_port = Some n })) (once g.editor_port (number_up_to 65535 value))
     else if bytes_eq name (codes "--preview-port") then option_and_then (λ n. Some (record g { preview_port = Some n })) (once g.preview_port (number_up_to 65535 value))
     else if bytes_eq name (codes "--workers") then option_and_then (λ n. Some (record g { workers = Some n })) (once g.workers (number_up_to 63 value))
-    else if bytes_eq name (codes "--seed") then option_and_then (λ s. Some (record g { seed = Some s })) (once g.seed (seed_in value))
+    else if bytes_eq name (codes "--seed") then option_and_then (λ s. Some (record g { seed = Some s })) (once g.seed (seed_of value))
     else if bytes_eq name (codes "--idle") then option_and_then (λ n. Some (record g { idle = Some n })) (once g.idle (number_up_to 1000000000 value))
     else if bytes_eq name (codes "--round") then option_and_then (λ n. Some (record g { round = Some n })) (once g.round (number_up_to 1000000 value))
     else if bytes_eq name (codes "--editor-round") then option_and_then (λ n. Some (record g { editor_round = Some n })) (once g.editor_round (number_up_to 1000000 value))

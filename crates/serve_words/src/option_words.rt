@@ -2,16 +2,15 @@ ghost use Rattle.std.specs.Prelude.{◌≡◌, ◌≤◌, ◌<◌, ◌+◌, ◌&
 ghost use Rattle.std.specs.Prelude.{string_bytes, IfSome, length, option_map};
 ghost use Rattle.context_names.specs.Names.{names_in};
 ghost use Rattle.serve_words.specs.Words.{FewWorkers, all_said, asked_of, count_of, nothing_given};
-ghost use Rattle.serve_words.specs.Words.{number_up_to, once, read, rounds_of, seed_in};
+ghost use Rattle.serve_words.specs.Words.{number_up_to, once, read, rounds_of};
 ghost use Rattle.serve_words.specs.Words.{settings_asked, settings_of, split_at_equals};
 ghost use Rattle.serve_words.specs.Words.{stand_together, with_option, with_word};
 
 use crate::given::Given;
 use crate::setting::{Asked, Rounds, Settings};
 use context_names::tells_names;
-use hex::decode_to_slice;
 use pg_text::whole_number;
-use site_words::IDLE_SECONDS;
+use site_words::{IDLE_SECONDS, seed_of};
 
 const MOST_PORT: u64 = 65_535;
 
@@ -136,7 +135,7 @@ fn with_option(name: &[u8], value: &[u8], mut given: Given) -> Option<Given>
     } else if name == b"--workers".as_slice() {
         given.workers = Some(once(given.workers, workers_in(value))?);
     } else if name == b"--seed".as_slice() {
-        given.seed = Some(once(given.seed, seed_in(value))?);
+        given.seed = Some(once(given.seed, seed_of(value))?);
     } else if name == b"--idle".as_slice() {
         given.idle = Some(once(given.idle, number_up_to(MOST_IDLE, value))?);
     } else if name == b"--round".as_slice() {
@@ -191,17 +190,6 @@ fn number_up_to(most: u64, text: &[u8]) -> Option<u64>
         return None;
     }
     Some(number)
-}
-
-// The seed that a text writes.
-fn seed_in(text: &[u8]) -> Option<[u8; 32]>
-    ensures { result ≡ seed_in text.now }
-{
-    let mut seed = [0; 32];
-    match decode_to_slice(text, &mut seed) {
-        Ok(()) => Some(seed),
-        Err(_) => None,
-    }
 }
 
 // The rounds: both numbers are given, or neither.

@@ -13,6 +13,7 @@ ghost use Rattle.site_core.specs.Lived.{first_opening};
 use crate::condition;
 use crate::opening::know_limit;
 use crate::perform::perform;
+use crate::settings::SiteSettings;
 use packed_entries::History;
 use pg_text::Text;
 use pg_value::Attrs;
@@ -48,28 +49,25 @@ impl<P: Compiled> Model for Site<P> {
     ghost invariant = { λ s. IsSite P.needs P.made s.opening s.history.items (parts_of s.held) s.history.room };
 }
 
-/// A new site of these application attributes and this tree, whose journal weighs at most `limit`,
-/// for as many passes, whose sessions end once they weren't used for more than `idle` seconds.
+/// A new site of these settings, with these application attributes and this tree.
 pub fn start<P: Compiled>(
     alloc: Global,
-    seed: [u8; 32],
+    settings: SiteSettings,
     app: Attrs,
     tree: Tree,
-    limit: u64,
-    passes: u8,
-    idle: u64,
 ) -> Result<Site<P>, AllocError>
-    requires { is_sound (first_opening seed app tree limit passes idle) ≡ true }
-    ensures { IfOk result (λ site. (site.opening ≡ first_opening seed app tree limit passes idle) ×
-        (site.history ≡ [])) }
+    requires { is_sound (first_opening settings.seed app tree settings.limit settings.passes settings.idle)
+        ≡ true }
+    ensures { IfOk result (λ site. (site.opening ≡ first_opening settings.seed app tree settings.limit
+        settings.passes settings.idle) × (site.history ≡ [])) }
 {
     Site::resume(
         alloc,
         Opening {
-            seed,
-            limit,
-            passes,
-            idle,
+            seed: settings.seed,
+            limit: settings.limit,
+            passes: settings.passes,
+            idle: settings.idle,
             version: 0,
             begins: 0,
             freshes: 0,

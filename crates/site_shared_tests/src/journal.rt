@@ -4,7 +4,7 @@ use packed_entries::{History, OpRef, PackedEntry, ReplyRef};
 use pg_text::{BadPath, Failure, Text, resolve};
 use site_core::{Given, Site};
 use site_core_tests::{Word, put, replied, step, told};
-use site_words::{Acted, Op, Refusal, copy_step};
+use site_words::{Acted, AppStep, Op, Refusal};
 use std::alloc::{AllocError, Global};
 
 /// The id of the first session.
@@ -89,7 +89,7 @@ fn op_of(alloc: Global, op: OpRef<'_>) -> Result<Op, AllocError> {
         },
         OpRef::App { request, step } => Op::App {
             request,
-            step: copy_step(step)?,
+            step: step_of(step)?,
         },
         OpRef::Fresh { request } => Op::Fresh { request },
         OpRef::Fetch { request, path } => Op::Fetch {
@@ -110,6 +110,17 @@ fn op_of(alloc: Global, op: OpRef<'_>) -> Result<Op, AllocError> {
         },
         OpRef::Roll => Op::Roll,
     })
+}
+
+// The step, to be done again.
+fn step_of(step: &AppStep) -> Result<AppStep, AllocError> {
+    match step {
+        AppStep::Get(name) => Ok(AppStep::Get(name.copy()?)),
+        AppStep::Set(name, value) => Ok(AppStep::Set(name.copy()?, value.copy()?)),
+        AppStep::Remove(name) => Ok(AppStep::Remove(name.copy()?)),
+        AppStep::Ensure(name, value) => Ok(AppStep::Ensure(name.copy()?, value.copy()?)),
+        AppStep::All => Ok(AppStep::All),
+    }
 }
 
 fn given_text(

@@ -1,4 +1,4 @@
--- Entries and openings may cross threads.
+-- Operations, replies and openings may cross threads.
 use denote.Param.Send.{IsSend, EachSend, sendable, struct_send, recorded_send, enum_send}
 use denote.Enum.Declared as E
 use denote.Struct.Declared as S
@@ -19,7 +19,6 @@ use Rattle.source_tree.proofs.tree.Tree.TheSendSync as tree
 use Rattle.source_tree.specs.contracts.edits.Edits as Edits
 use Rattle.site_words.specs.contracts.words.AppReply as AppReply
 use Rattle.site_words.specs.contracts.words.AppStep as AppStep
-use Rattle.site_words.specs.contracts.words.Entry as Entry
 use Rattle.site_words.specs.contracts.words.KeptSession as KeptSession
 use Rattle.site_words.specs.contracts.words.Op as Op
 use Rattle.site_words.specs.contracts.words.Opening as Opening
@@ -71,7 +70,8 @@ each_op = (
   ),
 )
 
-op_send : IsSend (Op.the_field).row
+-- an operation may be moved into a thread
+pub op_send : IsSend (Op.the_field).row
 op_send = enum_send (E.shape Op.the_type) each_op
 
 each_reply : EachSend (E.variants Reply.the_type)
@@ -92,15 +92,9 @@ each_reply = (
   ),
 )
 
-reply_send : IsSend (Reply.the_field).row
+-- a reply may be moved into a thread
+pub reply_send : IsSend (Reply.the_field).row
 reply_send = enum_send (E.shape Reply.the_type) each_reply
-
-entry_field_send : IsSend (Entry.the_field).row
-entry_field_send = struct_send (S.shape Entry.the_type) (search sendable, (op_send, (reply_send, tt)))
-
--- an entry of a history may be moved into a thread
-pub entry_send : IsSend Entry.the_row
-entry_send = recorded_send (Entry.the_field).row _ _ (Entry.the_type).to_one entry_field_send
 
 kept_send : IsSend KeptSession.the_row
 kept_send = recorded_send (KeptSession.the_field).row _ _ (KeptSession.the_type).to_one (struct_send (S.shape KeptSession.the_type) (search sendable, (search sendable, (attrs_send, tt))))

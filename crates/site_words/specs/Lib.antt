@@ -1,4 +1,5 @@
 pub mod Ids
+pub mod Seed
 pub mod Trees
 pub mod Weights
 pub mod Runs

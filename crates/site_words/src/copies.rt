@@ -1,60 +1,10 @@
 ghost use Rattle.std.specs.Prelude.{◌≡◌, true, IfOk, IsOk};
 ghost use Rattle.site_words.specs.Copies.{is_end};
 
-use crate::words::{AppReply, AppStep, Op, Reply};
+use crate::words::{AppReply, Reply};
 use std::alloc::AllocError;
 
-/// An equal step.
-pub fn copy_step(step: &AppStep) -> Result<AppStep, AllocError>
-    ensures { IfOk result (λ copy. copy ≡ step.now) }
-{
-    match step {
-        AppStep::Get(name) => Ok(AppStep::Get(name.copy()?)),
-        AppStep::Set(name, value) => Ok(AppStep::Set(name.copy()?, value.copy()?)),
-        AppStep::Remove(name) => Ok(AppStep::Remove(name.copy()?)),
-        AppStep::Ensure(name, value) => Ok(AppStep::Ensure(name.copy()?, value.copy()?)),
-        AppStep::All => Ok(AppStep::All),
-    }
-}
-
-/// An equal operation.
-pub fn copy_op(op: &Op) -> Result<Op, AllocError>
-    ensures { IfOk result (λ copy. copy ≡ op.now) }
-{
-    match op {
-        Op::Publish { base, edits } => Ok(Op::Publish {
-            base: *base,
-            edits: edits.copy()?,
-        }),
-        Op::Begin { cookie, moment } => Ok(Op::Begin {
-            cookie: cookie.copy()?,
-            moment: *moment,
-        }),
-        Op::App { request, step } => Ok(Op::App {
-            request: *request,
-            step: copy_step(step)?,
-        }),
-        Op::Fresh { request } => Ok(Op::Fresh { request: *request }),
-        Op::Fetch { request, path } => Ok(Op::Fetch {
-            request: *request,
-            path: path.copy()?,
-        }),
-        Op::Offer { request, path } => Ok(Op::Offer {
-            request: *request,
-            path: path.copy()?,
-        }),
-        Op::End { request, attrs } => Ok(Op::End {
-            request: *request,
-            attrs: attrs.copy()?,
-        }),
-        Op::Abandon { request } => Ok(Op::Abandon { request: *request }),
-        Op::Snapshot { cookie } => Ok(Op::Snapshot {
-            cookie: cookie.copy()?,
-        }),
-        Op::Roll => Ok(Op::Roll),
-    }
-}
-
+// An equal answer of a step.
 fn copy_answer(answer: &AppReply) -> Result<AppReply, AllocError>
     ensures { IfOk result (λ copy. copy ≡ answer.now) }
 {

@@ -10,13 +10,14 @@ pub mod laws;
 mod limits;
 mod pages;
 mod port;
+mod seed;
 mod weights;
 mod words;
 
 pub use affixes::{has_prefix, has_suffix};
 pub use app_port::{AppPort, Paged};
 pub use compiled::Compiled;
-pub use copies::{copy_op, copy_reply, copy_step};
+pub use copies::copy_reply;
 pub use edges::Acted;
 pub use ids::word;
 pub use limits::{
@@ -25,6 +26,7 @@ pub use limits::{
 };
 pub use pages::{is_page, page_charge};
 pub use port::{Begun, Fresh, Port, Published, Snapped};
+pub use seed::seed_of;
 pub use weights::{
     answer_weight, entry_weight, is_over, op_weight, publishing_weight, reply_weight, step_weight,
 };

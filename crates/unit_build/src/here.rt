@@ -10,7 +10,7 @@ ghost use Rattle.unit_build.specs.Made.{around_made, here_made, kind_made};
 ghost use Rattle.unit_build.specs.Walk.{behind};
 
 use crate::kind::Kind;
-use jstl_tags::{CoreName, Host, Row};
+use jstl_tags::{CoreName, Host, Row, takes_parts};
 use page_reader::Element;
 use std::alloc::{AllocError, Global};
 use unit_source::MAX_NESTING;
@@ -45,13 +45,6 @@ fn host<'n>(kind: &Kind, head: &'n Element) -> Host<'n>
         Kind::Call(_) => Host::Call,
         _ => Host::Other,
     }
-}
-
-pub(crate) fn takes_parts(head: &Element) -> bool
-    ensures { result ≡ takes_parts (opened_of head.now).tag }
-{
-    let name = head.name.as_str();
-    !(head.prefix.as_str() == "jsp" && (name == "attribute" || name == "body" || name == "text"))
 }
 
 fn row_in(kind: &Kind) -> Option<Row>

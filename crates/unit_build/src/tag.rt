@@ -76,8 +76,8 @@ fn standing_in<'r>(path: &Path, directives: Vec<Directive<'r>>) -> Vec<Directive
     own
 }
 
-/// The directives of the first reading that stand in a page or tag file itself.
-pub(crate) fn own_directives<'r>(
+// The directives of the first reading that stand in a page or tag file itself.
+fn own_directives<'r>(
     alloc: Global,
     root: &'r Root,
 ) -> Result<Vec<Directive<'r>>, AllocError>

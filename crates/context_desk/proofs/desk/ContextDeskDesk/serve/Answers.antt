@@ -3,7 +3,7 @@ use Rattle.std.specs.List.{slice_get}
 use Rattle.std.specs.Prelude.{slice_set}
 use Rattle.std.proofs.lemmas.Option.{slice_get_read}
 use Rattle.context_desk.proofs.DeskLemmas.{all_stay, answers_at, answers_nowhere, is_in, leaves_at, leaves_here, length_set, set_ready}
-use Rattle.context_desk.proofs.ServedLemmas.{served_map, told_served}
+use Rattle.conversation.proofs.ServedLemmas.{served_map, told_served}
 use Rattle.context_desk.specs.Each.{each}
 use Rattle.context_desk.specs.Several.{Answers, Leaves, Several, nothing_found, retargeted, several_of}
 use Rattle.context_names.specs.Targets.{context_of}

@@ -1,4 +1,4 @@
-use Rattle.context_desk.proofs.ServedLemmas.{served_map}
+use Rattle.conversation.proofs.ServedLemmas.{served_map}
 use Rattle.context_words.specs.Parts.{Lent, Part, lent_of, part_of, stand_at}
 use Rattle.conversation.specs.Exchange.{Exchange}
 use Rattle.http_in.specs.declared.request.Request.{Request}

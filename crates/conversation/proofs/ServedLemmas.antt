@@ -2,7 +2,7 @@
 use Rattle.std.proofs.Common.{ℕ, List, [], Bool, true, false, Option, sym, subst}
 use Rattle.edges.proofs.ToldBytes.{appends_none}
 use Rattle.http_out.specs.Sent.{Sent}
-use Rattle.context_desk.specs.Told.{IsTold}
+use Rattle.conversation.specs.Told.{IsTold}
 use Rattle.conversation.specs.Exchange.{Exchange, exchange_of}
 use Rattle.conversation.specs.Served.{Served}
 use Rattle.conversation.specs.declared.desk.Outcome.{Outcome}

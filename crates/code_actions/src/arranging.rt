@@ -1,20 +1,11 @@
-// Codes one behind the other.
+// Values that are arranged before they are taken.
 ghost use Rattle.std.specs.Prelude.{◌≡◌, ◌++◌, map, IfOk};
 ghost use Rattle.code_forms.specs.Codes.{arranged_code};
 
-use code_forms::arranged;
+use code_forms::{arranged, joined};
 use page_code::{Code, Shape};
 use pg_text::{Listed, Place, Text};
 use std::alloc::{AllocError, Global};
-
-/// A code, and another behind it.
-pub(crate) fn joined(first: Code, second: Code) -> Result<Code, AllocError>
-    ensures { IfOk result (λ code. code ≡ first ++ second) }
-{
-    let mut code = first;
-    code.join(second)?;
-    Ok(code)
-}
 
 /// The code that arranges these of the values with these names, and another behind it.
 pub(crate) fn arranged_before(

@@ -5,7 +5,7 @@ use page_code::Code;
 use std::alloc::AllocError;
 
 /// A code, and another behind it.
-pub(crate) fn joined(first: Code, second: Code) -> Result<Code, AllocError>
+pub fn joined(first: Code, second: Code) -> Result<Code, AllocError>
     ensures { IfOk result (λ code. code ≡ first ++ second) }
 {
     let mut code = first;
