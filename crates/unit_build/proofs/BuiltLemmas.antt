@@ -16,9 +16,9 @@ use Rattle.unit_source.specs.declared.placed.PlacedElement.{PlacedElement}
 use Rattle.unit_source.specs.declared.placed.PlacedInclude.{PlacedInclude}
 use Rattle.unit_source.specs.InPlace.{InPlace, done, leaf, element, broken, included, followed}
 use Rattle.unit_source.specs.Placed.{node_in_place, in_place}
-use Rattle.unit_build.specs.Build.{built, element_before, leaf_before, part_of, parts_of, shown_before}
-use Rattle.unit_build.specs.Kinds.{Kind, kind_of}
-use Rattle.unit_build.specs.Kinds as kind
+use Rattle.unit_words.specs.Build.{built, element_before, leaf_before, part_of, parts_of, shown_before}
+use Rattle.unit_words.specs.Kinds.{Kind, kind_of}
+use Rattle.unit_words.specs.Kinds as kind
 use Rattle.unit_nodes.specs.Nodes.{Nodes, Part, joined}
 use Rattle.unit_nodes.specs.Nodes as nodes
 use Rattle.unit_nodes.proofs.NodeLemmas.{joined_assoc, joined_done}

@@ -12,7 +12,7 @@ use Rattle.jstl_tags.specs.declared.standing.Standing.{Standing as Made}
 use Rattle.jstl_tags.specs.Content.{attribute_names}
 use Rattle.jstl_tags.specs.Standing.{Standing, part_names_in, standing_made}
 use Rattle.jstl_tags.specs.Standing as standing
-use Rattle.unit_build.specs.Calls.{name_faults, names_faults}
+use Rattle.unit_words.specs.Calls.{name_faults, names_faults}
 
 -- a name is written where an attribute has it
 pub written : (name : List ℕ) (attributes : List Attribute) → has_name name attributes ≡ contains_text name (attribute_names attributes)

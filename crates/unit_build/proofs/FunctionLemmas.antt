@@ -3,7 +3,7 @@ use Rattle.std.proofs.Common.{◌≡◌, ◌+◌, List, [], ◌∷◌, map, leng
 use Rattle.el_reader.specs.declared.el.El.{El}
 use Rattle.el_reader.specs.El.{tree_of}
 use Rattle.el_reader.specs.Tree.{trees_of}
-use Rattle.unit_build.specs.Values.{how_many}
+use Rattle.unit_words.specs.Values.{how_many}
 
 pub how_many_is : (items : List El) → how_many (trees_of (map tree_of items)) ≡ length items
 how_many_is [] = refl

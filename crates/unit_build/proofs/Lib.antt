@@ -1,5 +1,3 @@
-pub mod Least
-pub mod Rising
 pub mod PlacedLemmas
 pub mod MoreLemmas
 pub mod FoundLemmas
@@ -14,9 +12,5 @@ pub mod CoreLemmas
 pub mod StepLemmas
 pub mod ReadLemmas
 pub mod LeadsLemmas
-mod AgreeNames
-mod AgreeWalk
-pub mod AgreeUnit
 pub mod BuiltLemmas
-pub mod LeastNames
 pub mod BuildingLemmas

@@ -11,7 +11,7 @@ use Rattle.unit_source.specs.declared.placed.PlacedElement.{PlacedElement}
 use Rattle.unit_source.specs.declared.placed.PlacedInclude.{PlacedInclude}
 use Rattle.unit_source.specs.InPlace.{flat}
 use Rattle.unit_source.specs.Placed.{in_place, node_in_place}
-use Rattle.unit_build.specs.Elements.{has_open_body}
+use Rattle.unit_words.specs.Elements.{has_open_body}
 use Rattle.unit_build.proofs.PlacedLemmas.{drop_node, flat_followed, joined_done, placed_element, placed_include}
 
 or_false : (b : Bool) → b || false ≡ b

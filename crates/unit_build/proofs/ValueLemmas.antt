@@ -3,7 +3,7 @@ use Rattle.std.proofs.Common.{◌≡◌, ℕ, Bool, List, [], ◌∷◌, ◌++�
 use Rattle.page_pieces.specs.declared.attribute.Part.{Part}
 use Rattle.page_pieces.specs.declared.attribute.Part.TheVariants as parts
 use Rattle.pg_text.specs.declared.translation_fault.TranslationFault.TheVariants as fault
-use Rattle.unit_build.specs.Values.{expression_faults, part_faults}
+use Rattle.unit_words.specs.Values.{expression_faults, part_faults}
 
 pub parts_joined : (library : List ℕ → Bool) (xs ys : List Part) → part_faults library (xs ++ ys) ≡ part_faults library xs ++ part_faults library ys
 parts_joined library [] ys = refl

@@ -10,15 +10,15 @@ use Rattle.jstl_tags.specs.declared.core_name.CoreName.{CoreName}
 use Rattle.jstl_tags.specs.declared.rows.Row.{Row as RowMade}
 use Rattle.jstl_tags.specs.Rows.{Row, row_made}
 use Rattle.unit_nodes.specs.declared.jsp_name.JspName.{JspName}
-use Rattle.unit_build.specs.declared.kind.Kind.{Kind as KindMade}
-use Rattle.unit_build.specs.declared.kind.Kind.TheVariants as made
+use Rattle.unit_words.specs.Elements.{Here}
+use Rattle.unit_words.specs.Kinds.{Kind, core, standard, call, refused}
 use Rattle.jstl_tags.specs.Around.{Host}
 use Rattle.jstl_tags.specs.Hosts.{host_made}
+use Rattle.unit_build.specs.declared.kind.Kind.{Kind as KindMade}
+use Rattle.unit_build.specs.declared.kind.Kind.TheVariants as made
 use Rattle.unit_build.specs.declared.here.Around.{Around as AroundMade}
 use Rattle.unit_build.specs.declared.here.Around.TheVariants as around
 use Rattle.unit_build.specs.declared.here.Here.{Here as HereMade}
-use Rattle.unit_build.specs.Elements.{Here}
-use Rattle.unit_build.specs.Kinds.{Kind, core, standard, call, refused}
 
 -- the bean of a class, or its fault
 abbrev pub bean_made : Result Value TranslationFault → Result Datum TranslationFault

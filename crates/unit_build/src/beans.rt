@@ -1,5 +1,5 @@
 ghost use Rattle.std.specs.Prelude.{◌≡◌, IfOk};
-ghost use Rattle.unit_build.specs.Beans.{bean_of, bean_path, json_fault};
+ghost use Rattle.unit_words.specs.Beans.{bean_of, bean_path, json_fault};
 ghost use Rattle.unit_build.specs.Made.{bean_made};
 
 use pg_text::{Failure, Path, TranslationFault, resolve};

@@ -7,7 +7,7 @@ ghost use Rattle.jstl_tags.specs.Content.{inner, is_standard};
 ghost use Rattle.jstl_tags.specs.Standing.{leaf_standing, standing_in, standing_made, tag};
 ghost use Rattle.unit_source.specs.InPlace.{flat};
 ghost use Rattle.unit_source.specs.Placed.{in_place, node_in_place};
-ghost use Rattle.unit_build.specs.Elements.{has_open_body};
+ghost use Rattle.unit_words.specs.Elements.{has_open_body};
 
 use jstl_tags::{Standing, Standings};
 use page_pieces::Leaf;

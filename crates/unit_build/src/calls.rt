@@ -8,9 +8,9 @@ ghost use Rattle.jstl_tags.specs.Content.{attribute_names, given_names};
 ghost use Rattle.jstl_tags.specs.Elements.{opened_of};
 ghost use Rattle.jstl_tags.specs.Given.{names_made};
 ghost use Rattle.jstl_tags.specs.Standing.{IsBody, part_names_in, standing_made};
-ghost use Rattle.unit_build.specs.Calls.{call_faults, call_value_faults, declared_faults};
-ghost use Rattle.unit_build.specs.Calls.{is_empty_kind, lacks_required, name_faults, names_faults};
-ghost use Rattle.unit_build.specs.Calls.{takes_none};
+ghost use Rattle.unit_words.specs.Calls.{call_faults, call_value_faults, declared_faults};
+ghost use Rattle.unit_words.specs.Calls.{is_empty_kind, lacks_required, name_faults, names_faults};
+ghost use Rattle.unit_words.specs.Calls.{takes_none};
 
 use crate::body::is_whole;
 use jstl_tags::{Body, Given, Standing, is_bodiless, split_faults};

@@ -7,11 +7,11 @@ ghost use Rattle.tag_decl.specs.Declare.{attributes_of};
 ghost use Rattle.tag_decl.specs.Faults.{declaring_faults};
 ghost use Rattle.unit_source.specs.InPlace.{all_directives};
 ghost use Rattle.unit_source.specs.Placed.{in_place, root_view};
-ghost use Rattle.unit_build.specs.Directives.{where_stands};
-ghost use Rattle.unit_build.specs.Elements.{outermost};
-ghost use Rattle.unit_build.specs.Kinds.{is_core_prefix};
+ghost use Rattle.unit_words.specs.Directives.{where_stands};
+ghost use Rattle.unit_words.specs.Elements.{outermost};
+ghost use Rattle.unit_words.specs.Kinds.{is_core_prefix};
+ghost use Rattle.unit_words.specs.Own.{root_directives};
 ghost use Rattle.unit_build.specs.MadeSteps.{step_made};
-ghost use Rattle.unit_build.specs.Own.{root_directives};
 ghost use Rattle.unit_build.specs.ReadCore.{core_in, core_of, is_among};
 ghost use Rattle.unit_build.specs.ReadSteps.{steps_of};
 
@@ -47,8 +47,8 @@ impl<'r> Model for Decided<'r> {
     ghost use Rattle.unit_source.specs.declared.root.Root.{Root as Kept};
     ghost use Rattle.unit_source.specs.InPlace.{all_directives};
     ghost use Rattle.unit_source.specs.Placed.{in_place, root_view};
-    ghost use Rattle.unit_build.specs.Kinds.{is_core_prefix};
-    ghost use Rattle.unit_build.specs.Own.{root_directives};
+    ghost use Rattle.unit_words.specs.Kinds.{is_core_prefix};
+    ghost use Rattle.unit_words.specs.Own.{root_directives};
     ghost use Rattle.unit_build.specs.ReadCore.{is_among};
 
     ghost Value = { Kept };

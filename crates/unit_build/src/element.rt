@@ -11,9 +11,9 @@ ghost use Rattle.jstl_tags.specs.Content.{inner};
 ghost use Rattle.jstl_tags.specs.Standing.{IsBody, standing_in, standing_made};
 ghost use Rattle.unit_source.specs.InPlace.{flat};
 ghost use Rattle.unit_source.specs.Placed.{in_place};
-ghost use Rattle.unit_build.specs.Elements.{Here as Around, asked, element_faults, is_text_alone};
-ghost use Rattle.unit_build.specs.Elements.{kind_faults, own_faults, takes_text_alone};
-ghost use Rattle.unit_build.specs.Elements.{value_faults};
+ghost use Rattle.unit_words.specs.Elements.{Here as Around, asked, element_faults, is_text_alone};
+ghost use Rattle.unit_words.specs.Elements.{kind_faults, own_faults, takes_text_alone};
+ghost use Rattle.unit_words.specs.Elements.{value_faults};
 ghost use Rattle.unit_build.specs.Made.{around_made, here_made, kind_made};
 
 use crate::beginning::Beginning;

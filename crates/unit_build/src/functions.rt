@@ -1,9 +1,9 @@
 ghost use Rattle.std.specs.Prelude.{◌≡◌, ◌&&◌, map};
 ghost use Rattle.el_reader.specs.El.{pair_of, tree_of};
 ghost use Rattle.el_reader.specs.Tree.{trees_of, pairs_of};
-ghost use Rattle.unit_build.specs.Kinds.{is_function_prefix};
-ghost use Rattle.unit_build.specs.Values.{are_all_functions, are_functions, are_pairs_functions};
-ghost use Rattle.unit_build.specs.Values.{how_many, is_function, takes_as_many};
+ghost use Rattle.unit_words.specs.Kinds.{is_function_prefix};
+ghost use Rattle.unit_words.specs.Values.{are_all_functions, are_functions, are_pairs_functions};
+ghost use Rattle.unit_words.specs.Values.{how_many, is_function, takes_as_many};
 
 use el_reader::El;
 use page_directives::{Before, Target};

@@ -5,9 +5,9 @@ ghost use Rattle.jstl_tags.specs.Content.{takes_parts};
 ghost use Rattle.jstl_tags.specs.Elements.{opened_of};
 ghost use Rattle.jstl_tags.specs.Hosts.{host_made};
 ghost use Rattle.jstl_tags.specs.Rows.{row_made};
-ghost use Rattle.unit_build.specs.Elements.{deeper, host, outermost, row_in, within};
+ghost use Rattle.unit_words.specs.Elements.{deeper, host, outermost, row_in, within};
+ghost use Rattle.unit_words.specs.Walk.{behind};
 ghost use Rattle.unit_build.specs.Made.{around_made, here_made, kind_made};
-ghost use Rattle.unit_build.specs.Walk.{behind};
 
 use crate::kind::Kind;
 use jstl_tags::{CoreName, Host, Row};

@@ -3,9 +3,9 @@ ghost use Rattle.std.specs.Option.{option_map};
 ghost use Rattle.jstl_tags.specs.Elements.{opened_of};
 ghost use Rattle.page_directives.specs.Directive.{row_of};
 ghost use Rattle.jstl_tags.specs.Core.{core_table};
-ghost use Rattle.unit_build.specs.Standard.{standard_table};
-ghost use Rattle.unit_build.specs.Kinds.{call_kind, core_kind, kind_of, other_fault, standard_kind};
-ghost use Rattle.unit_build.specs.Kinds.{tag_path, target_kind};
+ghost use Rattle.unit_words.specs.Standard.{standard_table};
+ghost use Rattle.unit_words.specs.Kinds.{call_kind, core_kind, kind_of, other_fault, standard_kind};
+ghost use Rattle.unit_words.specs.Kinds.{tag_path, target_kind};
 ghost use Rattle.unit_build.specs.Made.{kind_made};
 
 use crate::registered::Registered;

@@ -1,8 +1,8 @@
 ghost use Rattle.std.specs.Prelude.{◌≡◌};
 ghost use Rattle.std.specs.Option.{option_map};
 ghost use Rattle.page_directives.specs.Directive.{row_of};
+ghost use Rattle.unit_words.specs.Standard.{standard_table};
 ghost use Rattle.unit_build.specs.Made.{standard_made, standards_made};
-ghost use Rattle.unit_build.specs.Standard.{standard_table};
 
 use jstl_tags::{Holds, Row, Stands, Takes};
 use unit_nodes::JspName;
@@ -161,7 +161,7 @@ static STANDARD: [(&str, (JspName, Row)); 11] = [
 ];
 
 // The standard actions.
-#[tactic(auto, unfolding(crate::specs::Standard::standard_table))]
+#[tactic(auto, unfolding(unit_words::specs::Standard::standard_table))]
 fn standard_table() -> &'static [(&'static str, (JspName, Row))]
     ensures { standards_made result.now ≡ standard_table }
 {

@@ -1,7 +1,7 @@
 ghost use Rattle.std.specs.Prelude.{◌≡◌, ◌∷◌, [], IfOk};
 ghost use Rattle.page_directives.specs.Faults.{in_order};
-ghost use Rattle.unit_build.specs.Kinds.{is_function_prefix};
-ghost use Rattle.unit_build.specs.Values.{expression_faults, part_faults};
+ghost use Rattle.unit_words.specs.Kinds.{is_function_prefix};
+ghost use Rattle.unit_words.specs.Values.{expression_faults, part_faults};
 
 use crate::functions::are_functions;
 use el_reader::read_el;

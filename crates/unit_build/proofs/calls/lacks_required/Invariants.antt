@@ -1,6 +1,6 @@
 use Rattle.std.proofs.Common.{◌≡◌, drop}
 use Rattle.jstl_tags.specs.Given.{names_made}
-use Rattle.unit_build.specs.Calls.{lacks_required}
+use Rattle.unit_words.specs.Calls.{lacks_required}
 use Rattle.unit_build.proofs.calls.lacks_required.Given as goal
 
 abbrev pub invariant-loop-decl : goal.invariant-loop-decl

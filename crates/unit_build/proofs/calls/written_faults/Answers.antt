@@ -1,7 +1,7 @@
 use Rattle.std.proofs.Common.{◌≡◌, ◌∙◌, ◌<◌, ◌∷◌, [], length, take, ap, arith}
 use Rattle.page_directives.specs.Faults.{in_order}
 use Rattle.jstl_tags.specs.Content.{attribute_names}
-use Rattle.unit_build.specs.Calls.{names_faults}
+use Rattle.unit_words.specs.Calls.{names_faults}
 use Rattle.unit_build.proofs.CallLemmas.{written_joined}
 use Rattle.unit_build.proofs.MoreLemmas.{one_more}
 use Rattle.unit_build.proofs.calls.written_faults.Goals as goal

@@ -1,7 +1,7 @@
 use Rattle.std.proofs.Common.{◌≡◌, take}
 use Rattle.page_directives.specs.Faults.{in_order}
 use Rattle.jstl_tags.specs.Content.{attribute_names}
-use Rattle.unit_build.specs.Calls.{names_faults}
+use Rattle.unit_words.specs.Calls.{names_faults}
 use Rattle.unit_build.proofs.calls.written_faults.Given as goal
 
 abbrev pub invariant-loop-attribute : goal.invariant-loop-attribute

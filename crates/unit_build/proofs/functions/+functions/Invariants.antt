@@ -2,8 +2,8 @@ use Rattle.std.proofs.Common.{◌≡◌, ◌≤◌, map, drop}
 use Rattle.el_reader.specs.El.{tree_of, pair_of}
 use Rattle.el_reader.specs.Tree.{trees_of, pairs_of}
 use Rattle.el_reader.specs.declared.el.El.{size-El}
-use Rattle.unit_build.specs.Kinds.{is_function_prefix}
-use Rattle.unit_build.specs.Values.{are_functions, are_all_functions, are_pairs_functions}
+use Rattle.unit_words.specs.Kinds.{is_function_prefix}
+use Rattle.unit_words.specs.Values.{are_functions, are_all_functions, are_pairs_functions}
 use Rattle.unit_build.proofs.functions.+functions.Given as goal
 
 abbrev pub invariant-are_functions-left : goal.invariant-are_functions-left

@@ -1,7 +1,7 @@
 use Rattle.std.proofs.Common.{◌∙◌, ◌<◌, ◌∷◌, [], length, take, ap, arith}
 use Rattle.page_directives.specs.Faults.{in_order}
-use Rattle.unit_build.specs.Kinds.{is_function_prefix}
-use Rattle.unit_build.specs.Values.{part_faults}
+use Rattle.unit_words.specs.Kinds.{is_function_prefix}
+use Rattle.unit_words.specs.Values.{part_faults}
 use Rattle.unit_build.proofs.MoreLemmas.{one_more}
 use Rattle.unit_build.proofs.ValueLemmas.{parts_joined}
 use Rattle.unit_build.proofs.values.part_faults.Goals as goal

@@ -1,7 +1,7 @@
 use Rattle.std.proofs.Common.{◌≡◌, take}
 use Rattle.page_directives.specs.Faults.{in_order}
-use Rattle.unit_build.specs.Kinds.{is_function_prefix}
-use Rattle.unit_build.specs.Values.{part_faults}
+use Rattle.unit_words.specs.Kinds.{is_function_prefix}
+use Rattle.unit_words.specs.Values.{part_faults}
 use Rattle.unit_build.proofs.values.part_faults.Given as goal
 
 abbrev pub invariant-loop-part : goal.invariant-loop-part

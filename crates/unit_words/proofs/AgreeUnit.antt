@@ -10,11 +10,11 @@ use Rattle.unit_source.specs.Files.{Files}
 use Rattle.unit_source.specs.First.{most_deep}
 use Rattle.unit_source.specs.Laws.{Agree, HasSameRoot}
 use Rattle.unit_source.specs.Root.{Root, rooted}
-use Rattle.unit_build.specs.State.{followed, needed}
-use Rattle.unit_build.specs.Unit.{begun, page_met, names_met, names_with, Unit, unit_by, unit_read, is_xml, xml_unit}
-use Rattle.unit_build.specs.Walk.{met_within}
-use Rattle.unit_build.specs.Laws.{HasSameUnit}
-use Rattle.unit_build.proofs.AgreeWalk.{names_needed, met_left, met_right, within_same}
+use Rattle.unit_words.specs.State.{followed, needed}
+use Rattle.unit_words.specs.Unit.{begun, page_met, names_met, names_with, Unit, unit_by, unit_read, is_xml, xml_unit}
+use Rattle.unit_words.specs.Walk.{met_within}
+use Rattle.unit_words.specs.Laws.{HasSameUnit}
+use Rattle.unit_words.proofs.AgreeWalk.{names_needed, met_left, met_right, within_same}
 
 order_agrees : (f g : Files) (name other : List ℕ) (names : List (List ℕ)) (o : Ordering) → (o ≡ Equal → name ≡ other)
     → (Agree f g (with_name name names) → (f name ≡ g name) × Agree f g names)

@@ -17,11 +17,11 @@ use Rattle.jstl_tags.specs.Around.{Host, core_host, standard_host, call_host, ot
 use Rattle.jstl_tags.specs.Check.{row_faults, core_faults, child_faults, is_whole, place_faults, taken_faults}
 use Rattle.unit_nodes.specs.declared.jsp_name.JspName.{JspName}
 use Rattle.unit_nodes.specs.declared.jsp_name.JspName.TheVariants as jsp
-use Rattle.unit_build.specs.Calls.{call_faults, call_value_faults}
+use Rattle.unit_words.specs.Calls.{call_faults, call_value_faults}
 use Rattle.unit_source.specs.Splice.{most_nested}
-use Rattle.unit_build.specs.Kinds.{Kind, core, standard, call, refused}
-use Rattle.unit_build.specs.State.{Event, faults_at}
-use Rattle.unit_build.specs.Values.{part_faults}
+use Rattle.unit_words.specs.Kinds.{Kind, core, standard, call, refused}
+use Rattle.unit_words.specs.State.{Event, faults_at}
+use Rattle.unit_words.specs.Values.{part_faults}
 use Rattle.pg_text.specs.declared.translation_fault.TranslationFault.{TranslationFault}
 use Rattle.pg_text.specs.declared.translation_fault.TranslationFault.TheVariants as fault
 

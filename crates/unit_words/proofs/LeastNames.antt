@@ -10,8 +10,8 @@ use Rattle.pg_text.specs.Names.{AreInOrder, has_name, with_name}
 use Rattle.pg_text.proofs.NameOrder.{none_in_order, order_with_name}
 use Rattle.unit_source.specs.Files.{Files}
 use Rattle.unit_source.specs.Root.{Root, rooted}
-use Rattle.unit_build.specs.Laws.{AreAllOf, HasNamesOfReading}
-use Rattle.unit_build.specs.Unit.{is_xml, names_met, names_with, page_met, unit_read, xml_unit}
+use Rattle.unit_words.specs.Laws.{AreAllOf, HasNamesOfReading}
+use Rattle.unit_words.specs.Unit.{is_xml, names_met, names_with, page_met, unit_read, xml_unit}
 
 or_moved : (a b c : Bool) → ((a || b) || c) ≡ (b || (a || c))
 or_moved true true c = refl

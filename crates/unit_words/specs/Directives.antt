@@ -9,9 +9,9 @@ use Rattle.tag_decl.specs.Faults.{declaring_faults}
 use Rattle.unit_source.specs.declared.entry.Entry.{Entry}
 use Rattle.unit_source.specs.declared.entry.Entry.TheVariants.{Unnamed, Absent, Cycle, Entered, Unread}
 use Rattle.unit_source.specs.Root.{Root}
-use Rattle.unit_build.specs.Own.{stands_in, root_directives}
-use Rattle.unit_build.specs.Counts.{counted, count_faults, is_counted}
-use Rattle.unit_build.specs.State.{State, Reading, met, faults_at, with_directive, behind_count}
+use Rattle.unit_words.specs.Own.{stands_in, root_directives}
+use Rattle.unit_words.specs.Counts.{counted, count_faults, is_counted}
+use Rattle.unit_words.specs.State.{State, Reading, met, faults_at, with_directive, behind_count}
 use Rattle.pg_text.specs.declared.translation_fault.TranslationFault.{TranslationFault}
 use Rattle.pg_text.specs.declared.translation_fault.TranslationFault.TheVariants as fault
 

@@ -7,10 +7,10 @@ use Rattle.pg_value.specs.declared.json.JsonFault.TheVariants as json
 use Rattle.page_directives.specs.Directive.{row_of}
 use Rattle.unit_source.specs.Files.{Files, path_or_none}
 use Rattle.pg_text.specs.Path.{resolved, segments}
-use Rattle.unit_build.specs.declared.counts.Counted.{Counted}
-use Rattle.unit_build.specs.declared.counts.Counted.TheVariants.{Within}
-use Rattle.unit_build.specs.Counts.{counted, count_faults}
-use Rattle.unit_build.specs.State.{State, behind_count}
+use Rattle.unit_words.specs.declared.counts.Counted.{Counted}
+use Rattle.unit_words.specs.declared.counts.Counted.TheVariants.{Within}
+use Rattle.unit_words.specs.Counts.{counted, count_faults}
+use Rattle.unit_words.specs.State.{State, behind_count}
 use Rattle.pg_text.specs.declared.translation_fault.TranslationFault.{TranslationFault}
 use Rattle.pg_text.specs.declared.translation_fault.TranslationFault.TheVariants as fault
 

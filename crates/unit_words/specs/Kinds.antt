@@ -16,7 +16,7 @@ use Rattle.jstl_tags.specs.Core.{core_table}
 use Rattle.jstl_tags.specs.Rows.{Row}
 use Rattle.unit_source.specs.Files.{path_or_none}
 use Rattle.unit_nodes.specs.declared.jsp_name.JspName.{JspName}
-use Rattle.unit_build.specs.Standard.{standard_table, xml_names, left_out_names}
+use Rattle.unit_words.specs.Standard.{standard_table, xml_names, left_out_names}
 
 -- a core tag, a standard action, the call of the tag file at a path, or an element with this fault
 pub data Kind : Type 0 where

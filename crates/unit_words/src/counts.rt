@@ -1,11 +1,11 @@
 ghost use Rattle.std.specs.Prelude.{◌≡◌};
-ghost use Rattle.unit_build.specs.Counts.{counted, counts_behind, counts_within, fits, page_alone};
+ghost use Rattle.unit_words.specs.Counts.{counted, counts_behind, counts_within, fits, page_alone};
 
 use unit_source::{MAX_NESTING, MAX_UNIT_BYTES, MAX_UNIT_FILES};
 
 /// What counting a file comes to.
 #[derive(Clone, Copy, Debug, PartialEq, Eq)]
-pub(crate) enum Counted {
+pub enum Counted {
     /// The file is within the limits.
     Within,
     /// It is the first by which the unit passes a limit.
@@ -16,7 +16,7 @@ pub(crate) enum Counted {
 
 /// What was counted of a unit: its files, their bytes, and whether they have passed a limit.
 #[derive(Clone, Copy)]
-pub(crate) struct Counts {
+pub struct Counts {
     pub files: usize,
     pub bytes: usize,
     pub over: bool,

@@ -16,10 +16,10 @@ use Rattle.jstl_tags.specs.Check.{repeats, is_whole, split_faults}
 use Rattle.jstl_tags.specs.Content.{given_names, attribute_names, body_of, is_empty}
 use Rattle.unit_source.specs.Files.{Files}
 use Rattle.unit_source.specs.Root.{Root, rooted}
-use Rattle.unit_build.specs.Own.{judged_directives, root_directives}
-use Rattle.unit_build.specs.declared.counts.Counted.{Counted}
-use Rattle.unit_build.specs.Counts.{counted, count_faults, is_counted}
-use Rattle.unit_build.specs.State.{State, behind_count, tag_in}
+use Rattle.unit_words.specs.Own.{judged_directives, root_directives}
+use Rattle.unit_words.specs.declared.counts.Counted.{Counted}
+use Rattle.unit_words.specs.Counts.{counted, count_faults, is_counted}
+use Rattle.unit_words.specs.State.{State, behind_count, tag_in}
 use Rattle.pg_text.specs.declared.translation_fault.TranslationFault.{TranslationFault}
 use Rattle.pg_text.specs.declared.translation_fault.TranslationFault.TheVariants as fault
 

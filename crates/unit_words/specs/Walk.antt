@@ -16,18 +16,18 @@ use Rattle.tag_decl.specs.declared.declaration.TagDecl.{TagDecl}
 use Rattle.jstl_tags.specs.declared.core_name.CoreName.TheVariants as core_name
 use Rattle.jstl_tags.specs.Around.{in_choose, after_otherwise}
 use Rattle.unit_nodes.specs.declared.jsp_name.JspName.TheVariants as jsp
-use Rattle.unit_build.specs.Beans.{bean_met}
-use Rattle.unit_build.specs.Calls.{Called, called, call_met, declaration_of}
-use Rattle.unit_build.specs.Counts.{counts_within}
-use Rattle.unit_build.specs.Directives.{directive_met, include_met, goes_in}
-use Rattle.unit_build.specs.Elements.{Here, outermost, within, element_faults, values_met}
+use Rattle.unit_words.specs.Beans.{bean_met}
+use Rattle.unit_words.specs.Calls.{Called, called, call_met, declaration_of}
+use Rattle.unit_words.specs.Counts.{counts_within}
+use Rattle.unit_words.specs.Directives.{directive_met, include_met, goes_in}
+use Rattle.unit_words.specs.Elements.{Here, outermost, within, element_faults, values_met}
 use Rattle.unit_source.specs.Files.{Files}
 use Rattle.unit_source.specs.First.{directive}
 use Rattle.unit_source.specs.InPlace.{InPlace, done, leaf, element, broken, included, flat}
-use Rattle.unit_build.specs.Kinds.{Kind, core, standard, call, kind_of, is_core_prefix, is_function_prefix}
+use Rattle.unit_words.specs.Kinds.{Kind, core, standard, call, kind_of, is_core_prefix, is_function_prefix}
 use Rattle.unit_source.specs.Root.{Root}
-use Rattle.unit_build.specs.State.{State, Reading, met, ◌>>◌, faulty, faults_at, needed, with_seen, with_before, with_counts, tag_in}
-use Rattle.unit_build.specs.Values.{expression_faults}
+use Rattle.unit_words.specs.State.{State, Reading, met, ◌>>◌, faulty, faults_at, needed, with_seen, with_before, with_counts, tag_in}
+use Rattle.unit_words.specs.Values.{expression_faults}
 use Rattle.pg_text.specs.declared.translation_fault.TranslationFault.{TranslationFault}
 use Rattle.pg_text.specs.declared.translation_fault.TranslationFault.TheVariants as fault
 

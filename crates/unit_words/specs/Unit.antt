@@ -9,15 +9,15 @@ use Rattle.pg_text.specs.Names.{with_name}
 use Rattle.pg_value.specs.Attrs.{of_entries}
 use Rattle.pg_value.specs.Datum.{Datum}
 use Rattle.tag_decl.specs.Declare.{declaration}
-use Rattle.unit_build.specs.Counts.{page_alone}
-use Rattle.unit_build.specs.Build.{built}
+use Rattle.unit_words.specs.Counts.{page_alone}
+use Rattle.unit_words.specs.Build.{built}
 use Rattle.unit_source.specs.Files.{Files}
 use Rattle.unit_source.specs.First.{most_deep}
 use Rattle.unit_nodes.specs.Nodes.{Page, TagFile}
 use Rattle.unit_source.specs.Root.{Root, rooted}
-use Rattle.unit_build.specs.Own.{root_directives}
-use Rattle.unit_build.specs.State.{Event, faulty, needs, State, Reading, followed, needed}
-use Rattle.unit_build.specs.Walk.{met_within}
+use Rattle.unit_words.specs.Own.{root_directives}
+use Rattle.unit_words.specs.State.{Event, faulty, needs, State, Reading, followed, needed}
+use Rattle.unit_words.specs.Walk.{met_within}
 use Rattle.page_directives.specs.Meet.{nothing_before}
 
 -- a page in XML syntax isn't read

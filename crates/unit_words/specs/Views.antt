@@ -2,7 +2,7 @@
 use Rattle.std.specs.Prelude.{map}
 use Rattle.unit_nodes.specs.declared.unit.Unit.{Unit as UnitMade}
 use Rattle.unit_nodes.specs.Views.{body_view}
-use Rattle.unit_build.specs.Unit.{Unit}
+use Rattle.unit_words.specs.Unit.{Unit}
 
 -- a unit with the names of its dependencies, without their stamps
 abbrev pub unit_view : UnitMade → Unit

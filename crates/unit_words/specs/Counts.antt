@@ -4,9 +4,9 @@ use Rattle.pg_text.specs.declared.translation_fault.TranslationFault.{Translatio
 use Rattle.pg_text.specs.declared.translation_fault.TranslationFault.TheVariants as fault
 use Rattle.unit_source.specs.Splice.{most_nested}
 use Rattle.unit_source.specs.Volume.{most_bytes, most_files}
-use Rattle.unit_build.specs.declared.counts.Counted.{Counted}
-use Rattle.unit_build.specs.declared.counts.Counted.TheVariants.{Within, Passes, Over}
-use Rattle.unit_build.specs.declared.counts.Counts.{Counts}
+use Rattle.unit_words.specs.declared.counts.Counted.{Counted}
+use Rattle.unit_words.specs.declared.counts.Counted.TheVariants.{Within, Passes, Over}
+use Rattle.unit_words.specs.declared.counts.Counts.{Counts}
 
 -- a page of so many bytes alone
 abbrev pub page_alone : ℕ → Counts

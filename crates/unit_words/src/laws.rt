@@ -1,5 +1,5 @@
-ghost use Rattle.unit_build.specs.Laws.{HasFirstFault, HasNamesOfReading, HasRisingNumbers};
-ghost use Rattle.unit_build.specs.Laws.{HasSameUnit};
+ghost use Rattle.unit_words.specs.Laws.{HasFirstFault, HasNamesOfReading, HasRisingNumbers};
+ghost use Rattle.unit_words.specs.Laws.{HasSameUnit};
 
 use unit_source::same_root;
 

@@ -4,7 +4,7 @@ use Rattle.std.specs.Prelude.{filter}
 use Rattle.pg_text.specs.declared.translation_fault.TranslationFault.{TranslationFault}
 use Rattle.pg_text.specs.Faults.{number_of}
 use Rattle.page_directives.specs.Faults.{has_fault, all_faults, in_order}
-use Rattle.unit_build.specs.Laws.{AreAbove, HasRisingNumbers}
+use Rattle.unit_words.specs.Laws.{AreAbove, HasRisingNumbers}
 
 lower : (n m : ℕ) (ms : List ℕ) → n < m → AreAbove m ms → AreAbove n ms
 lower n m [] lt h = tt

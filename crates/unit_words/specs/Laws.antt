@@ -8,8 +8,8 @@ use Rattle.page_directives.specs.Faults.{in_order}
 use Rattle.unit_source.specs.Files.{Files}
 use Rattle.unit_source.specs.Laws.{Agree}
 use Rattle.unit_source.specs.Root.{rooted}
-use Rattle.unit_build.specs.State.{Event, faulty, needs}
-use Rattle.unit_build.specs.Unit.{is_xml, unit_of, first_fault, names_met, page_met}
+use Rattle.unit_words.specs.State.{Event, faulty, needs}
+use Rattle.unit_words.specs.Unit.{is_xml, unit_of, first_fault, names_met, page_met}
 
 -- no fault is met
 abbrev pub HasNoFault : List Event → Type 0

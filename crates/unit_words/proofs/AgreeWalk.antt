@@ -7,22 +7,22 @@ use Rattle.page_reader.specs.Trees.{Tree, Opened}
 use Rattle.page_directives.specs.Directive.{row_of}
 use Rattle.page_directives.specs.Meet.{nothing_before}
 use Rattle.unit_nodes.specs.declared.jsp_name.JspName.TheVariants as jsp
-use Rattle.unit_build.specs.Beans.{Step, bean_path, bean_text, bean_at, bean_met}
-use Rattle.unit_build.specs.Calls.{Called, called, first_call, call_counted, call_text, call_met}
-use Rattle.unit_build.specs.Directives.{include_met, goes_in}
-use Rattle.unit_build.specs.Elements.{Here, outermost, within}
+use Rattle.unit_words.specs.Beans.{Step, bean_path, bean_text, bean_at, bean_met}
+use Rattle.unit_words.specs.Calls.{Called, called, first_call, call_counted, call_text, call_met}
+use Rattle.unit_words.specs.Directives.{include_met, goes_in}
+use Rattle.unit_words.specs.Elements.{Here, outermost, within}
 use Rattle.unit_source.specs.Files.{Files}
 use Rattle.unit_source.specs.InPlace.{InPlace, done, leaf, element, broken, included, flat}
-use Rattle.unit_build.specs.Kinds.{Kind, standard, call, kind_of}
+use Rattle.unit_words.specs.Kinds.{Kind, standard, call, kind_of}
 use Rattle.unit_source.specs.Root.{Root}
-use Rattle.unit_build.specs.declared.counts.Counted.{Counted}
-use Rattle.unit_build.specs.declared.counts.Counted.TheVariants.{Within, Passes, Over}
-use Rattle.unit_build.specs.Counts.{counted}
-use Rattle.unit_build.specs.State.{Event, faulty, needs, State, Reading, met, followed, ◌>>◌, needed, behind_count, tag_in, with_before}
-use Rattle.unit_build.specs.Unit.{names_met}
-use Rattle.unit_build.specs.Walk.{leaf_met, nested, file_met, start_met, tag_met, behind, behind_all, met_if, walk, back_to, met_within}
+use Rattle.unit_words.specs.declared.counts.Counted.{Counted}
+use Rattle.unit_words.specs.declared.counts.Counted.TheVariants.{Within, Passes, Over}
+use Rattle.unit_words.specs.Counts.{counted}
+use Rattle.unit_words.specs.State.{Event, faulty, needs, State, Reading, met, followed, ◌>>◌, needed, behind_count, tag_in, with_before}
+use Rattle.unit_words.specs.Unit.{names_met}
+use Rattle.unit_words.specs.Walk.{leaf_met, nested, file_met, start_met, tag_met, behind, behind_all, met_if, walk, back_to, met_within}
 use Rattle.unit_source.specs.Laws.{Agree, HasSameRoot}
-use Rattle.unit_build.proofs.AgreeNames.{agree_left, agree_right}
+use Rattle.unit_words.proofs.AgreeNames.{agree_left, agree_right}
 
 pub names_both : (a b : List Event) → names_met (a ++ b) ≡ names_met a ++ names_met b
 names_both [] b = refl
@@ -80,12 +80,12 @@ bean_head : (f g : Files) (class path : List ℕ) (o : Option (List ℕ)) (s : S
 bean_head f g class path None s a = a.0
 bean_head f g class path (Some text) s a = again (row_of class s.beans) a
   where
-    open_count : (c : Counted) → Agree f g (Rattle.unit_build.specs.Beans.bean_counted class path text c s).names → f path ≡ g path
+    open_count : (c : Counted) → Agree f g (Rattle.unit_words.specs.Beans.bean_counted class path text c s).names → f path ≡ g path
     open_count Within a = a.0
     open_count Passes a = a.0
     open_count Over a = a.0
 
-    again : (o : Option _) → Agree f g (Rattle.unit_build.specs.Beans.bean_again class path text o s).names → f path ≡ g path
+    again : (o : Option _) → Agree f g (Rattle.unit_words.specs.Beans.bean_again class path text o s).names → f path ≡ g path
     again (Some bean) a = a.0
     again None a = open_count (counted (length text) s.counts) a
 

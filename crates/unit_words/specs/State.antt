@@ -9,8 +9,8 @@ use Rattle.page_directives.specs.Directive.{Directive}
 use Rattle.page_directives.specs.Meet.{Before}
 use Rattle.page_directives.specs.Faults.{in_order}
 use Rattle.unit_source.specs.Root.{Root}
-use Rattle.unit_build.specs.declared.counts.Counts.{Counts}
-use Rattle.unit_build.specs.Counts.{counts_behind}
+use Rattle.unit_words.specs.declared.counts.Counts.{Counts}
+use Rattle.unit_words.specs.Counts.{counts_behind}
 use Rattle.pg_text.specs.declared.translation_fault.TranslationFault.{TranslationFault}
 
 -- a fault, or the name of a file on which the unit depends

@@ -14,8 +14,8 @@ use Rattle.el_reader.specs.ExpressionOf.{expression_of}
 use Rattle.el_reader.specs.Tree.{Tree}
 use Rattle.page_directives.specs.Directive.{Directive}
 use Rattle.unit_source.specs.InPlace.{InPlace, done, leaf, element, broken, included}
-use Rattle.unit_build.specs.Kinds.{Kind, kind_of}
-use Rattle.unit_build.specs.Kinds as kind
+use Rattle.unit_words.specs.Kinds.{Kind, kind_of}
+use Rattle.unit_words.specs.Kinds as kind
 use Rattle.unit_nodes.specs.Nodes as node
 use Rattle.unit_nodes.specs.Nodes.{Nodes, Given, ActionKind, Action}
 
