@@ -22,7 +22,7 @@ use Rattle.unit_words.specs.Kinds as kind
 use Rattle.unit_nodes.specs.Nodes.{Nodes, Part, joined}
 use Rattle.unit_nodes.specs.Nodes as nodes
 use Rattle.unit_nodes.proofs.NodeLemmas.{joined_assoc, joined_done}
-use Rattle.unit_build.proofs.PlacedLemmas.{placed_element, placed_include}
+use Rattle.unit_judges.proofs.PlacedLemmas.{placed_element, placed_include}
 
 -- what nodes in place come to, and then others
 shown_joined : (found : Result Tree ElFault) (place : Place) (a b : Nodes) → shown_before found place (joined a b) ≡ joined (shown_before found place a) b

@@ -19,8 +19,8 @@ use Rattle.unit_words.specs.declared.counts.Counted.TheVariants.{Within, Passes,
 use Rattle.unit_words.specs.Counts.{counted, counts_behind, count_faults, is_counted}
 use Rattle.unit_words.specs.State.{Event, needed, State, with_counts, behind_count}
 use Rattle.unit_words.specs.Unit.{names_met, names_with}
+use Rattle.unit_judges.specs.Made.{class_made}
 use Rattle.unit_build.specs.declared.found.Found.{Found}
-use Rattle.unit_build.specs.Made.{class_made}
 use Rattle.unit_build.specs.ReadFound.{fault_behind, state_in, IsBeanMet, IsCalled, IsMet}
 use Rattle.unit_build.proofs.FoundLemmas.{met_then, read_met}
 

@@ -14,8 +14,8 @@ use Rattle.std.specs.Option.{option_map}
 use Rattle.pg_text.specs.declared.place.Place.{Place}
 use Rattle.pg_text.specs.declared.place.PageFault.{PageFault}
 use Rattle.pg_text.specs.declared.translation_fault.TranslationFault.{TranslationFault}
+use Rattle.unit_judges.specs.Made.{class_made}
 use Rattle.unit_build.specs.declared.found.Found.{Found}
-use Rattle.unit_build.specs.Made.{class_made}
 use Rattle.unit_build.specs.ReadFound.{fault_behind, state_in, IsMet, IsRead}
 
 -- the first fault at a place is the one with the least number

@@ -12,8 +12,8 @@ use Rattle.unit_build.specs.MadeSteps.{step_made}
 use Rattle.unit_build.specs.ReadFound.{fault_behind, state_in, IsRead}
 use Rattle.unit_build.specs.ReadSteps.{Step, leaf_step, break_step, start_step, include_step, end_step, left_out, left_out_still, step_met, steps_met}
 use Rattle.unit_build.specs.ReadWalk.{Leads}
+use Rattle.unit_judges.proofs.PlacedLemmas.{drop_node}
 use Rattle.unit_build.proofs.FoundLemmas.{fault_both, fault_none, names_met_both, names_with_both}
-use Rattle.unit_build.proofs.PlacedLemmas.{drop_node}
 
 -- the files in which no step is taken were begun before
 pub out_still : (step : Step) (count i : ℕ) → count ≤ i → left_out_still step count ≤ i + 1

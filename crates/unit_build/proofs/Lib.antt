@@ -1,12 +1,6 @@
-pub mod PlacedLemmas
-pub mod MoreLemmas
 pub mod FoundLemmas
 pub mod BeanLemmas
 pub mod OkLemmas
-pub mod OpenLemmas
-pub mod FunctionLemmas
-pub mod ValueLemmas
-pub mod CallLemmas
 pub mod CalledLemmas
 pub mod CoreLemmas
 pub mod StepLemmas

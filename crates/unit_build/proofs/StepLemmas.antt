@@ -15,7 +15,7 @@ use Rattle.unit_words.specs.State.{State, Reading, met, ◌>>◌, faulty}
 use Rattle.unit_words.specs.State as state
 use Rattle.unit_words.specs.Walk.{leaf_met, nested, file_met, start_met, tag_met, behind, behind_all, met_if, walk}
 use Rattle.unit_build.specs.ReadSteps.{Step, leaf_step, break_step, start_step, include_step, end_step, left_out, steps_of, steps_met}
-use Rattle.unit_build.proofs.PlacedLemmas.{drop_node}
+use Rattle.unit_judges.proofs.PlacedLemmas.{drop_node}
 
 then_then : (r : Reading) (m n : State → Reading) → ((r >> m) >> n) ≡ (r >> (λ s. m s >> n))
 then_then r m n = ap (λ events. met events (n (m r.state).state).state) (append_assoc r.events (m r.state).events (n (m r.state).state).events)

@@ -1,4 +1,3 @@
-pub mod Made
 pub mod ReadFound
 pub mod ReadCore
 pub mod ReadSteps

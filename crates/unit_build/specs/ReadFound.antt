@@ -11,8 +11,8 @@ use Rattle.unit_words.specs.Beans.{Step}
 use Rattle.unit_words.specs.Calls.{Called}
 use Rattle.unit_words.specs.State.{Event, State, Reading}
 use Rattle.unit_words.specs.Unit.{begun, first_fault, names_met, names_with}
+use Rattle.unit_judges.specs.Made.{class_made}
 use Rattle.unit_build.specs.declared.found.Found.{Found}
-use Rattle.unit_build.specs.Made.{class_made}
 
 -- the state of reading, with what stood before in the page or tag file
 abbrev pub state_in : Before → Found → State

@@ -15,7 +15,6 @@ ghost use Rattle.unit_build.specs.MadeSteps.{step_made};
 ghost use Rattle.unit_build.specs.ReadCore.{core_in, core_of, is_among};
 ghost use Rattle.unit_build.specs.ReadSteps.{steps_of};
 
-use crate::registered::Registered;
 use crate::steps::{Step, steps_of};
 use crate::tag::declaration;
 use page_directives::{Before, Directive, Faults, FirstReading, Target, Where};
@@ -24,6 +23,7 @@ use pg_text::Place;
 use std::alloc::{AllocError, Global};
 use std::marker::Model;
 use tag_decl::{AttrDecls, DeclaredBefore, declaring_faults};
+use unit_judges::Registered;
 use unit_source::{Root, first_directives};
 
 /// A page or a tag file with what its directives decide. Contracts see it as it was read.

@@ -8,13 +8,12 @@ ghost use Rattle.unit_nodes.specs.Nodes.{action, done as nothing, joined};
 ghost use Rattle.unit_nodes.specs.Views.{given_of, kind_of as kind_view, node_of, nodes_of};
 ghost use Rattle.unit_nodes.specs.Views.{part_of as part_view};
 
-use crate::kind::{Kind, kind_of};
-use crate::registered::Registered;
 use el_reader::read_el;
 use page_pieces::{Attribute, Leaf, Part};
 use page_reader::{Closing, Element};
 use pg_text::{Failure, Listed, Place};
 use std::alloc::{AllocError, Global};
+use unit_judges::{Kind, Registered, kind_of};
 use unit_nodes::{
     Action, ActionKind, UnitAttribute, UnitAttributes, UnitNode, UnitPart, UnitParts,
 };

@@ -13,25 +13,21 @@ ghost use Rattle.unit_words.specs.Kinds.{is_function_prefix};
 ghost use Rattle.unit_words.specs.State.{faults_at};
 ghost use Rattle.unit_words.specs.Values.{part_faults};
 ghost use Rattle.unit_words.specs.Walk.{bean_called, declaration_in, file_met, nested};
-ghost use Rattle.unit_build.specs.Made.{here_made, kind_made};
+ghost use Rattle.unit_judges.specs.Made.{here_made, kind_made};
 ghost use Rattle.unit_build.specs.ReadFound.{IsCalled, IsMet, state_in};
 ghost use Rattle.unit_build.specs.ReadWalk.{IsStarted, start_events};
 
-use crate::beginning::Beginning;
 use crate::calling::{Called, meet_call};
 use crate::course::Course;
-use crate::element::{element_faults, value_faults};
 use crate::found::{Found, tag_in};
-use crate::kind::Kind;
-use crate::known::Known;
 use crate::tag::Tag;
-use crate::values::part_faults;
 use page_directives::Faults;
 use page_pieces::Attribute;
 use page_reader::Element;
 use std::alloc::{AllocError, Global};
 use std::sync::Arc;
 use tag_decl::TagDecl;
+use unit_judges::{Beginning, Kind, Known, element_faults, part_faults, value_faults};
 use unit_nodes::JspName;
 
 // What the class of a `jsp:useBean` comes to.

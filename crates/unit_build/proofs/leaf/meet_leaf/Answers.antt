@@ -5,7 +5,7 @@ use Rattle.unit_words.specs.Kinds.{is_function_prefix}
 use Rattle.unit_words.specs.State.{faults_at}
 use Rattle.unit_words.specs.Values.{expression_faults}
 use Rattle.unit_words.specs.Walk.{leaf_met, nesting_faults}
-use Rattle.unit_build.specs.Made.{here_made}
+use Rattle.unit_judges.specs.Made.{here_made}
 use Rattle.unit_build.specs.ReadFound.{IsMet, IsRead, state_in}
 use Rattle.unit_build.proofs.FoundLemmas.{read_met}
 use Rattle.unit_build.proofs.OkLemmas.{on_ok}

@@ -5,7 +5,7 @@ use Rattle.std.specs.Str.{bytes_eq}
 use Rattle.unit_source.specs.Placed.{root_view}
 use Rattle.unit_words.specs.Calls.{declaration_of}
 use Rattle.unit_words.specs.Walk.{declaration_in}
-use Rattle.unit_build.specs.Made.{kind_made}
+use Rattle.unit_judges.specs.Made.{kind_made}
 use Rattle.unit_build.specs.ReadFound.{state_in}
 use Rattle.unit_build.proofs.start.called_tag.Goals as goal
 

@@ -10,7 +10,7 @@ use Rattle.unit_words.specs.Elements.{element_faults, values_met}
 use Rattle.unit_words.specs.Kinds.{is_function_prefix}
 use Rattle.unit_words.specs.State.{events_at}
 use Rattle.unit_words.specs.Walk.{declaration_in}
-use Rattle.unit_build.specs.Made.{here_made, kind_made}
+use Rattle.unit_judges.specs.Made.{here_made, kind_made}
 use Rattle.unit_build.specs.ReadFound.{IsMet, state_in}
 use Rattle.unit_build.proofs.CoreLemmas.{library_is}
 use Rattle.unit_build.proofs.OkLemmas.{on_ok}
