@@ -18,8 +18,8 @@ use Rattle.site_words.specs.declared.app_port.Paged as told
 use Rattle.site_words.specs.declared.app_port.Paged.TheVariants as found
 use Rattle.source_tree.specs.Edits.{file_at}
 use Rattle.source_tree.specs.declared.file.File.{File}
-use Rattle.unit_build.specs.Unit.{Unit, unit_of}
 use Rattle.unit_source.specs.Files.{text_in}
+use Rattle.unit_words.specs.Unit.{Unit, unit_of}
 
 -- where no file stands there is no page
 pub no_page : (tree : List File) (path : List ℕ) → file_at path tree ≡ None → page_at tree path ≡ None

@@ -12,11 +12,11 @@ use Rattle.pg_text.specs.declared.place.PageFault.{PageFault}
 use Rattle.run_world.specs.Programs.{program_of}
 use Rattle.run_world.specs.declared.program.Program.{Program}
 use Rattle.source_tree.specs.declared.file.File.{File}
-use Rattle.unit_build.specs.Needs.{needs_of}
 use Rattle.unit_nodes.specs.Nodes as unit
 use Rattle.unit_nodes.specs.Views.{body_view}
-use Rattle.unit_build.specs.Views.{unit_view}
 use Rattle.unit_nodes.specs.declared.unit.Unit.{Unit}
+use Rattle.unit_words.specs.Needs.{needs_of}
+use Rattle.unit_words.specs.Views.{unit_view}
 
 -- this page stands at a path of a tree
 abbrev pub IsPageAt : Page → List File → (path : List ℕ) → Type 0

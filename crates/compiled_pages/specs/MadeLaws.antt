@@ -14,13 +14,13 @@ use Rattle.unit_meaning.specs.Shape.{page_of}
 use Rattle.pg_text.specs.declared.place.PageFault.{PageFault}
 use Rattle.site_words.specs.Trees.{OneHistory, agrees}
 use Rattle.source_tree.specs.declared.file.File.{File}
-use Rattle.unit_build.specs.Needs.{needs_of}
 use Rattle.unit_nodes.specs.Nodes as unit
-use Rattle.unit_build.specs.Unit.{Unit, unit_at, unit_of}
 use Rattle.unit_nodes.specs.Views.{body_view}
-use Rattle.unit_build.specs.Views.{unit_view}
 use Rattle.unit_nodes.specs.declared.unit.Unit.{Unit as UnitMade}
 use Rattle.unit_source.specs.Files.{text_in}
+use Rattle.unit_words.specs.Needs.{needs_of}
+use Rattle.unit_words.specs.Unit.{Unit, unit_at, unit_of}
+use Rattle.unit_words.specs.Views.{unit_view}
 
 -- what a path needs of a tree stands so in it
 pub needs_stand : (tree : List File) (path : List ℕ) → agrees (needs_at tree path) tree ≡ true

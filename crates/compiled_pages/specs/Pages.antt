@@ -9,10 +9,10 @@ use Rattle.site_words.specs.Running.{is_page}
 use Rattle.source_tree.specs.Edits.{file_at}
 use Rattle.source_tree.specs.declared.file.File.{File}
 use Rattle.source_tree.specs.declared.need.Need.{Need}
-use Rattle.unit_build.specs.Needs.{needs_of}
 use Rattle.unit_nodes.specs.Nodes as unit
-use Rattle.unit_build.specs.Unit.{Unit, unit_at}
 use Rattle.unit_source.specs.Files.{text_in}
+use Rattle.unit_words.specs.Needs.{needs_of}
+use Rattle.unit_words.specs.Unit.{Unit, unit_at}
 
 -- the unit of the page at a path of a tree, where a file stands there
 unfoldable pub unit_in : List File → (path : List ℕ) → Option Unit

@@ -13,17 +13,17 @@ use Rattle.site_words.specs.Trees.{OneHistory, agrees, opt_eq}
 use Rattle.source_tree.specs.Stamps.{stamp_of}
 use Rattle.source_tree.specs.declared.file.File.{File}
 use Rattle.source_tree.specs.declared.need.Need.{Need}
-use Rattle.unit_build.proofs.AgreeUnit.{same_unit}
-use Rattle.unit_build.proofs.LeastNames.{least_names}
-use Rattle.unit_build.specs.Needs.{needs_of}
-use Rattle.unit_build.specs.State.{needed}
-use Rattle.unit_build.specs.Unit.{Unit, begun, is_xml, names_met, page_met, unit_of, unit_read, xml_unit}
-use Rattle.unit_build.specs.Walk.{met_within}
 use Rattle.unit_source.proofs.AgreeSplice.{root_same}
 use Rattle.unit_source.specs.Files.{Files, text_in}
 use Rattle.unit_source.specs.First.{most_deep}
 use Rattle.unit_source.specs.Laws.{Agree}
 use Rattle.unit_source.specs.Root.{Root, rooted}
+use Rattle.unit_words.proofs.AgreeUnit.{same_unit}
+use Rattle.unit_words.proofs.LeastNames.{least_names}
+use Rattle.unit_words.specs.Needs.{needs_of}
+use Rattle.unit_words.specs.State.{needed}
+use Rattle.unit_words.specs.Unit.{Unit, begun, is_xml, names_met, page_met, unit_of, unit_read, xml_unit}
+use Rattle.unit_words.specs.Walk.{met_within}
 
 same_self : (s : Option ℕ) → opt_eq s s ≡ true
 same_self None = refl

@@ -12,9 +12,9 @@ use Rattle.source_tree.specs.declared.file.File.{File}
 use Rattle.source_tree.specs.declared.fault.TreeFault.TheVariants.{TooManyFiles, FileTooLarge, TreeTooLarge}
 use Rattle.source_tree.specs.declared.limits.TheConstants.{MAX_FILES, MAX_FILE_BYTES, MAX_TREE_BYTES}
 use Rattle.source_tree.specs.Limits.{is_large, tree_fault, IsWithinLimits}
-use Rattle.unit_build.specs.Needs.{bytes_of}
-use Rattle.unit_build.specs.Unit.{fault_in, unit_of}
 use Rattle.unit_source.specs.Files.{text_in}
+use Rattle.unit_words.specs.Needs.{bytes_of}
+use Rattle.unit_words.specs.Unit.{fault_in, unit_of}
 use Rattle.pages_check.specs.Check.{check_steps, unit_steps}
 use Rattle.pages_check.specs.Page.{alone, not_utf8, page_fault, too_large, unit_fault}
 

@@ -6,9 +6,9 @@ use Rattle.pg_text.specs.declared.place.PageFault.{PageFault}
 use Rattle.source_tree.specs.declared.limits.TheConstants.{MAX_FILE_BYTES}
 use Rattle.fault_line.specs.FaultLine.{page_fault_line}
 use Rattle.http_out.specs.Sent.{BreaksOff}
-use Rattle.unit_build.specs.Needs.{bytes_of}
-use Rattle.unit_build.specs.Unit.{unit_of}
 use Rattle.unit_source.specs.Files.{text_in}
+use Rattle.unit_words.specs.Needs.{bytes_of}
+use Rattle.unit_words.specs.Unit.{unit_of}
 use Rattle.whole_input.specs.Come.{HasCome}
 use Rattle.pages_check.specs.Page.{alone, page_fault}
 use Rattle.pages_check.specs.declared.checked.Checked.{Checked}

@@ -7,8 +7,8 @@ use Rattle.pg_text.specs.declared.translation_fault.TranslationFault.TheVariants
 use Rattle.page_pieces.specs.Spots.{place_in, spot_after, start}
 use Rattle.source_tree.specs.declared.file.File.{File}
 use Rattle.source_tree.specs.declared.limits.TheConstants.{MAX_FILE_BYTES}
-use Rattle.unit_build.specs.Unit.{fault_in, unit_of}
 use Rattle.unit_source.specs.Files.{text_in}
+use Rattle.unit_words.specs.Unit.{fault_in, unit_of}
 
 -- the files of a site that has this text alone
 abbrev pub alone : (path text : List ℕ) → List File

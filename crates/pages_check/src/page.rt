@@ -1,9 +1,9 @@
 ghost use Rattle.std.specs.Prelude.{◌≡◌, ◌≤◌, ◌+◌, ℕ, List, Some, length, IfOk, IsSome, OnOk};
 ghost use Rattle.source_tree.specs.declared.limits.TheConstants.{MAX_FILE_BYTES};
 ghost use Rattle.source_tree.specs.Limits.{IsWithinLimits};
-ghost use Rattle.unit_build.specs.Needs.{bytes_of};
-ghost use Rattle.unit_build.specs.Unit.{fault_in, unit_of};
 ghost use Rattle.unit_source.specs.Files.{text_in};
+ghost use Rattle.unit_words.specs.Needs.{bytes_of};
+ghost use Rattle.unit_words.specs.Unit.{fault_in, unit_of};
 ghost use Rattle.pages_check.specs.Check.{check_steps, unit_steps};
 ghost use Rattle.pages_check.specs.Page.{alone, not_utf8, page_fault, too_large, unit_fault};
 

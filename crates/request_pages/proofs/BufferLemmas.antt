@@ -18,13 +18,13 @@ use Rattle.unit_meaning.specs.Shape.{page_of}
 use Rattle.pg_text.specs.declared.place.PageFault.{PageFault}
 use Rattle.pg_value.specs.declared.settings.PageSettings.{PageSettings}
 use Rattle.source_tree.specs.declared.file.File.{File}
-use Rattle.unit_build.specs.State.{Reading}
-use Rattle.unit_build.specs.Unit as unit
-use Rattle.unit_build.specs.Unit.{body_of}
 use Rattle.unit_source.specs.Files.{Files, text_in}
 use Rattle.unit_source.specs.First.{first_within, most_deep}
 use Rattle.unit_source.specs.Root.{Root, rooted}
 use Rattle.unit_source.specs.Volume.{one_file}
+use Rattle.unit_words.specs.State.{Reading}
+use Rattle.unit_words.specs.Unit as unit
+use Rattle.unit_words.specs.Unit.{body_of}
 
 after_least : (n : ℕ) (ds : List ℕ) → n ≤ digits_value_after 10 n ds
 after_least n [] = omega arith

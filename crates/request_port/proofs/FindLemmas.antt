@@ -26,10 +26,10 @@ use Rattle.site_words.specs.declared.words.Run.{Run}
 use Rattle.source_tree.specs.Changed.{has_file}
 use Rattle.source_tree.specs.Edits.{file_at}
 use Rattle.source_tree.specs.declared.file.File.{File}
-use Rattle.unit_build.specs.Needs.{bytes_of}
-use Rattle.unit_build.specs.Views.{unit_view}
 use Rattle.unit_nodes.specs.declared.unit.Unit.{Unit}
 use Rattle.unit_source.specs.Files.{text_in}
+use Rattle.unit_words.specs.Needs.{bytes_of}
+use Rattle.unit_words.specs.Views.{unit_view}
 
 -- the file of a page
 

@@ -5,9 +5,9 @@ use Rattle.std.proofs.Common.{inr}
 use Rattle.compiled_pages.specs.Pages.{unit_in}
 use Rattle.source_tree.specs.declared.file.File.{File}
 use Rattle.tree_pages.specs.Came.{HasCounted, bytes_at, unit_bytes}
-use Rattle.unit_build.specs.Needs.{bytes_of}
-use Rattle.unit_build.specs.Unit.{Unit}
 use Rattle.unit_source.specs.Files.{text_in}
+use Rattle.unit_words.specs.Needs.{bytes_of}
+use Rattle.unit_words.specs.Unit.{Unit}
 
 -- the bytes of a path's unit are those of the path
 pub bytes_of_unit : (tree : List File) (path : List ℕ) (unit : Unit) → unit_in tree path ≡ Some unit → bytes_of (text_in tree) unit.deps ≡ bytes_at tree path

@@ -8,9 +8,9 @@ use Rattle.page_meaning.specs.Page.{Page}
 use Rattle.source_tree.specs.declared.file.File.{File}
 use Rattle.tree_pages.specs.declared.running.PageEnd.{PageEnd}
 use Rattle.tree_pages.specs.declared.running.PageEnd.TheVariants as came
-use Rattle.unit_build.specs.Needs.{bytes_of}
-use Rattle.unit_build.specs.Unit.{Unit}
 use Rattle.unit_source.specs.Files.{text_in}
+use Rattle.unit_words.specs.Needs.{bytes_of}
+use Rattle.unit_words.specs.Unit.{Unit}
 
 -- the bytes of a unit's dependencies, each once
 abbrev pub unit_bytes : List File → Option Unit → ℕ

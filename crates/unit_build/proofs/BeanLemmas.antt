@@ -5,13 +5,13 @@ use Rattle.pg_text.specs.declared.translation_fault.TranslationFault.{Translatio
 use Rattle.pg_value.specs.Datum.{Datum}
 use Rattle.page_directives.specs.Directive.{row_of}
 use Rattle.page_directives.specs.Meet.{Before}
-use Rattle.unit_build.specs.declared.counts.Counted.{Counted}
-use Rattle.unit_build.specs.declared.counts.Counted.TheVariants.{Within, Passes, Over}
+use Rattle.unit_words.specs.declared.counts.Counted.{Counted}
+use Rattle.unit_words.specs.declared.counts.Counted.TheVariants.{Within, Passes, Over}
+use Rattle.unit_words.specs.Beans.{bean_counted, bean_again, bean_text}
+use Rattle.unit_words.specs.Counts.{counted}
+use Rattle.unit_words.specs.State.{needed, State}
 use Rattle.unit_build.specs.declared.found.Found.{Found}
-use Rattle.unit_build.specs.Beans.{bean_counted, bean_again, bean_text}
-use Rattle.unit_build.specs.Counts.{counted}
 use Rattle.unit_build.specs.ReadFound.{fault_behind, state_in, IsMet, IsBeanRead, IsBeanMet}
-use Rattle.unit_build.specs.State.{needed, State}
 use Rattle.unit_build.proofs.FoundLemmas.{read_met}
 
 counted_names : (class path text : List ℕ) (count : Counted) (s : State) → (bean_counted class path text count s).names ≡ path ∷ []
@@ -41,7 +41,7 @@ bean_after {old} {mid} {new} {answered} before class path text needed_is read =
     both is = record {
       faults = is.faults;
       fault = is.fault ∙ needed_is.fault ∙ sym (fault_needed old.fault path);
-      names = is.names ∙ needed_is.names ∙ ap (Rattle.unit_build.specs.Unit.names_with old.names) (sym (again_names class path text (row_of class s.beans) s));
+      names = is.names ∙ needed_is.names ∙ ap (Rattle.unit_words.specs.Unit.names_with old.names) (sym (again_names class path text (row_of class s.beans) s));
       site = is.site ∙ needed_is.site;
       state = is.state;
     }

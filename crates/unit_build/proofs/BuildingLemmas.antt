@@ -6,10 +6,10 @@ use Rattle.source_tree.specs.declared.file.File.{File}
 use Rattle.source_tree.specs.declared.need.Need.{Need}
 use Rattle.unit_source.specs.Files.{Files}
 use Rattle.unit_source.specs.Root.{Root, root_at, rooted}
-use Rattle.unit_build.specs.Needs.{bytes_in, bytes_of, needs_of}
+use Rattle.unit_words.specs.Needs.{bytes_in, bytes_of, needs_of}
 use Rattle.unit_nodes.specs.Nodes.{Page}
-use Rattle.unit_build.specs.State.{Reading}
-use Rattle.unit_build.specs.Unit.{Unit, body_of, first_fault, is_xml, names_in_order, names_met, page_of, unit_by, unit_of, unit_read, xml_unit}
+use Rattle.unit_words.specs.State.{Reading}
+use Rattle.unit_words.specs.Unit.{Unit, body_of, first_fault, is_xml, names_in_order, names_met, page_of, unit_by, unit_of, unit_read, xml_unit}
 
 -- the loop counted one more file
 pub next_counted : (files : Files) (all : List (List ℕ)) (i : ℕ) (name : List ℕ) (bytes before after total : ℕ) → i < length all → name ≡ get_or all i name

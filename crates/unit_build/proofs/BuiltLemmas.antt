@@ -16,13 +16,13 @@ use Rattle.unit_source.specs.declared.placed.PlacedElement.{PlacedElement}
 use Rattle.unit_source.specs.declared.placed.PlacedInclude.{PlacedInclude}
 use Rattle.unit_source.specs.InPlace.{InPlace, done, leaf, element, broken, included, followed}
 use Rattle.unit_source.specs.Placed.{node_in_place, in_place}
-use Rattle.unit_build.specs.Build.{built, element_before, leaf_before, part_of, parts_of, shown_before}
-use Rattle.unit_build.specs.Kinds.{Kind, kind_of}
-use Rattle.unit_build.specs.Kinds as kind
+use Rattle.unit_words.specs.Build.{built, element_before, leaf_before, part_of, parts_of, shown_before}
+use Rattle.unit_words.specs.Kinds.{Kind, kind_of}
+use Rattle.unit_words.specs.Kinds as kind
 use Rattle.unit_nodes.specs.Nodes.{Nodes, Part, joined}
 use Rattle.unit_nodes.specs.Nodes as nodes
 use Rattle.unit_nodes.proofs.NodeLemmas.{joined_assoc, joined_done}
-use Rattle.unit_build.proofs.PlacedLemmas.{placed_element, placed_include}
+use Rattle.unit_judges.proofs.PlacedLemmas.{placed_element, placed_include}
 
 -- what nodes in place come to, and then others
 shown_joined : (found : Result Tree ElFault) (place : Place) (a b : Nodes) → shown_before found place (joined a b) ≡ joined (shown_before found place a) b

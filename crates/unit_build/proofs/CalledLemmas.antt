@@ -11,17 +11,17 @@ use Rattle.unit_source.specs.Files.{Files}
 use Rattle.unit_source.specs.declared.root.Root.{Root as Kept}
 use Rattle.unit_source.specs.Root.{Root, root_at, rooted}
 use Rattle.std.specs.Option.{is_some, option_map}
-use Rattle.unit_build.specs.declared.counts.Counts.{Counts}
+use Rattle.unit_words.specs.declared.counts.Counts.{Counts}
+use Rattle.unit_words.specs.Beans.{Step}
+use Rattle.unit_words.specs.Calls.{Called, called, call_counted, first_call}
+use Rattle.unit_words.specs.declared.counts.Counted.{Counted}
+use Rattle.unit_words.specs.declared.counts.Counted.TheVariants.{Within, Passes, Over}
+use Rattle.unit_words.specs.Counts.{counted, counts_behind, count_faults, is_counted}
+use Rattle.unit_words.specs.State.{Event, needed, State, with_counts, behind_count}
+use Rattle.unit_words.specs.Unit.{names_met, names_with}
+use Rattle.unit_judges.specs.Made.{class_made}
 use Rattle.unit_build.specs.declared.found.Found.{Found}
-use Rattle.unit_build.specs.Beans.{Step}
-use Rattle.unit_build.specs.Calls.{Called, called, call_counted, first_call}
-use Rattle.unit_build.specs.declared.counts.Counted.{Counted}
-use Rattle.unit_build.specs.declared.counts.Counted.TheVariants.{Within, Passes, Over}
-use Rattle.unit_build.specs.Counts.{counted, counts_behind, count_faults, is_counted}
-use Rattle.unit_build.specs.Made.{class_made}
 use Rattle.unit_build.specs.ReadFound.{fault_behind, state_in, IsBeanMet, IsCalled, IsMet}
-use Rattle.unit_build.specs.State.{Event, needed, State, with_counts, behind_count}
-use Rattle.unit_build.specs.Unit.{names_met, names_with}
 use Rattle.unit_build.proofs.FoundLemmas.{met_then, read_met}
 
 -- what a call comes to behind the count of its tag file

@@ -8,7 +8,7 @@ use Rattle.std.specs.Str.{bytes_eq}
 use Rattle.page_pieces.specs.Settings.{contains_text}
 use Rattle.page_directives.specs.Directive.{Directive}
 use Rattle.page_directives.specs.Taglibs.{prefix_in, is_prefix, or_target, target_in, target_of}
-use Rattle.unit_build.specs.Kinds.{is_core_prefix, is_core_target}
+use Rattle.unit_words.specs.Kinds.{is_core_prefix, is_core_target}
 use Rattle.unit_build.specs.ReadCore.{core_in, core_of, is_among}
 
 contains_joined : (p : List ℕ) (xs ys : List (List ℕ)) → contains_text p (xs ++ ys) ≡ (contains_text p xs || contains_text p ys)

@@ -6,17 +6,17 @@ use Rattle.pg_value.specs.declared.value.Value.{Value}
 use Rattle.page_directives.specs.Meet.{Before}
 use Rattle.unit_source.specs.Placed.{root_view}
 use Rattle.unit_source.specs.Root.{Root}
-use Rattle.unit_build.specs.declared.counts.Counts.{Counts}
-use Rattle.unit_build.specs.declared.found.Found.{Found}
-use Rattle.unit_build.specs.Made.{class_made}
+use Rattle.unit_words.specs.declared.counts.Counts.{Counts}
+use Rattle.unit_words.specs.State.{Event, faulty, needs, events_at, needed, State, Reading, met, ◌>>◌}
+use Rattle.unit_words.specs.Unit.{first_fault, names_met, names_with}
 use Rattle.std.specs.List.{slice_get}
 use Rattle.std.specs.Option.{option_map}
 use Rattle.pg_text.specs.declared.place.Place.{Place}
 use Rattle.pg_text.specs.declared.place.PageFault.{PageFault}
 use Rattle.pg_text.specs.declared.translation_fault.TranslationFault.{TranslationFault}
+use Rattle.unit_judges.specs.Made.{class_made}
+use Rattle.unit_build.specs.declared.found.Found.{Found}
 use Rattle.unit_build.specs.ReadFound.{fault_behind, state_in, IsMet, IsRead}
-use Rattle.unit_build.specs.State.{Event, faulty, needs, events_at, needed, State, Reading, met, ◌>>◌}
-use Rattle.unit_build.specs.Unit.{first_fault, names_met, names_with}
 
 -- the first fault at a place is the one with the least number
 pub first_at : (place : Place) (faults : List TranslationFault) → first_fault (events_at place faults) ≡ option_map (λ fault. record { fault = fault; place = place }) (slice_get faults 0)

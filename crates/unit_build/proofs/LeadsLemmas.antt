@@ -3,17 +3,17 @@ use Rattle.std.proofs.Common.{◌≡◌, ◌<◌, ◌≤◌, ◌+◌, ℕ, zero,
 use Rattle.page_directives.specs.Meet.{Before}
 use Rattle.unit_source.specs.Files.{Files}
 use Rattle.unit_source.specs.Root.{Root}
+use Rattle.unit_words.specs.Directives.{goes_in}
+use Rattle.unit_words.specs.State.{State, Reading, met, ◌>>◌}
+use Rattle.unit_words.specs.Unit.{names_met, names_with}
 use Rattle.unit_build.specs.declared.found.Found.{Found}
 use Rattle.unit_build.specs.declared.steps.Step.{Step as StepMade}
-use Rattle.unit_build.specs.Directives.{goes_in}
 use Rattle.unit_build.specs.MadeSteps.{step_made}
 use Rattle.unit_build.specs.ReadFound.{fault_behind, state_in, IsRead}
 use Rattle.unit_build.specs.ReadSteps.{Step, leaf_step, break_step, start_step, include_step, end_step, left_out, left_out_still, step_met, steps_met}
 use Rattle.unit_build.specs.ReadWalk.{Leads}
-use Rattle.unit_build.specs.State.{State, Reading, met, ◌>>◌}
-use Rattle.unit_build.specs.Unit.{names_met, names_with}
+use Rattle.unit_judges.proofs.PlacedLemmas.{drop_node}
 use Rattle.unit_build.proofs.FoundLemmas.{fault_both, fault_none, names_met_both, names_with_both}
-use Rattle.unit_build.proofs.PlacedLemmas.{drop_node}
 
 -- the files in which no step is taken were begun before
 pub out_still : (step : Step) (count i : ℕ) → count ≤ i → left_out_still step count ≤ i + 1

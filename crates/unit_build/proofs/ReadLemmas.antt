@@ -13,18 +13,18 @@ use Rattle.unit_source.specs.declared.entry.Entry.{Entry}
 use Rattle.unit_source.specs.Files.{Files, text_in}
 use Rattle.unit_source.specs.First.{most_deep}
 use Rattle.unit_source.specs.Root.{Root}
+use Rattle.unit_words.specs.Calls.{Called}
+use Rattle.unit_words.specs.Directives.{directive_faults, entry_faults, include_met}
+use Rattle.unit_words.specs.Elements.{Here, outermost, element_faults, value_faults, values_met}
+use Rattle.unit_words.specs.Kinds.{Kind, is_core_prefix, is_function_prefix}
+use Rattle.unit_words.specs.State.{Event, State, Reading, met, followed, ◌>>◌, faults_at, events_at, needed, with_before, with_directive}
+use Rattle.unit_words.specs.Unit.{first_fault, names_met, names_with}
+use Rattle.unit_words.specs.Values.{part_faults}
+use Rattle.unit_words.specs.Walk.{declaration_in, functions_of, start_met, tag_met, walk, met_within}
 use Rattle.unit_build.specs.declared.found.Found.{Found}
-use Rattle.unit_build.specs.Calls.{Called}
-use Rattle.unit_build.specs.Directives.{directive_faults, entry_faults, include_met}
-use Rattle.unit_build.specs.Elements.{Here, outermost, element_faults, value_faults, values_met}
-use Rattle.unit_build.specs.Kinds.{Kind, is_core_prefix, is_function_prefix}
 use Rattle.unit_build.specs.ReadFound.{fault_behind, state_in, IsCalled, IsMet, IsNothing, IsRead}
 use Rattle.unit_build.specs.ReadSteps.{Step, steps_of, steps_met}
 use Rattle.unit_build.specs.ReadWalk.{start_events, IsEntry, IsPageMet, IsStarted}
-use Rattle.unit_build.specs.State.{Event, State, Reading, met, followed, ◌>>◌, faults_at, events_at, needed, with_before, with_directive}
-use Rattle.unit_build.specs.Unit.{first_fault, names_met, names_with}
-use Rattle.unit_build.specs.Values.{part_faults}
-use Rattle.unit_build.specs.Walk.{declaration_in, functions_of, start_met, tag_met, walk, met_within}
 use Rattle.unit_build.proofs.CalledLemmas.{fault_needed, names_needed}
 use Rattle.unit_build.proofs.FoundLemmas.{fault_both, met_then, names_met_both, names_with_both, read_met, read_then}
 use Rattle.unit_build.proofs.StepLemmas.{walk_steps}

@@ -7,15 +7,15 @@ use Rattle.unit_source.specs.InPlace.{InPlace, done, leaf, element, broken, incl
 use Rattle.unit_source.specs.declared.placed.PlacedNode.{PlacedNode}
 use Rattle.unit_source.specs.Placed.{in_place, node_in_place}
 use Rattle.unit_source.specs.Root.{Root}
-use Rattle.unit_build.specs.Calls.{Called}
-use Rattle.unit_build.specs.Directives.{include_met, goes_in}
-use Rattle.unit_build.specs.Elements.{Here, within}
-use Rattle.unit_build.specs.Kinds.{Kind, kind_of}
+use Rattle.unit_words.specs.Calls.{Called}
+use Rattle.unit_words.specs.Directives.{include_met, goes_in}
+use Rattle.unit_words.specs.Elements.{Here, within}
+use Rattle.unit_words.specs.Kinds.{Kind, kind_of}
+use Rattle.unit_words.specs.State.{State, Reading, met, ◌>>◌, faulty}
+use Rattle.unit_words.specs.State as state
+use Rattle.unit_words.specs.Walk.{leaf_met, nested, file_met, start_met, tag_met, behind, behind_all, met_if, walk}
 use Rattle.unit_build.specs.ReadSteps.{Step, leaf_step, break_step, start_step, include_step, end_step, left_out, steps_of, steps_met}
-use Rattle.unit_build.specs.State.{State, Reading, met, ◌>>◌, faulty}
-use Rattle.unit_build.specs.State as state
-use Rattle.unit_build.specs.Walk.{leaf_met, nested, file_met, start_met, tag_met, behind, behind_all, met_if, walk}
-use Rattle.unit_build.proofs.PlacedLemmas.{drop_node}
+use Rattle.unit_judges.proofs.PlacedLemmas.{drop_node}
 
 then_then : (r : Reading) (m n : State → Reading) → ((r >> m) >> n) ≡ (r >> (λ s. m s >> n))
 then_then r m n = ap (λ events. met events (n (m r.state).state).state) (append_assoc r.events (m r.state).events (n (m r.state).state).events)

@@ -2,9 +2,9 @@
 use Rattle.jstl_tags.specs.Elements.{opened_of}
 use Rattle.unit_source.specs.InPlace.{flat}
 use Rattle.unit_source.specs.Placed.{in_place}
+use Rattle.unit_judges.specs.Made.{here_made, kind_made}
 use Rattle.unit_build.specs.declared.steps.Step.{Step as StepMade}
 use Rattle.unit_build.specs.declared.steps.Step.TheVariants as made
-use Rattle.unit_build.specs.Made.{here_made, kind_made}
 use Rattle.unit_build.specs.ReadSteps.{Step, leaf_step, break_step, start_step, include_step, end_step}
 
 abbrev pub step_made : StepMade → Step

@@ -3,7 +3,7 @@ use Rattle.std.specs.Prelude.{ℕ, Bool, List, [], ◌∷◌, ◌++◌, Option, 
 use Rattle.page_pieces.specs.Settings.{contains_text}
 use Rattle.page_directives.specs.Directive.{Directive}
 use Rattle.page_directives.specs.Taglibs.{prefix_in}
-use Rattle.unit_build.specs.Kinds.{is_core_prefix}
+use Rattle.unit_words.specs.Kinds.{is_core_prefix}
 
 -- a prefix is among these
 unfoldable pub is_among : List (List ℕ) → List ℕ → Bool

@@ -7,12 +7,12 @@ use Rattle.page_directives.specs.Meet.{Before, nothing_before}
 use Rattle.source_tree.specs.declared.file.File.{File}
 use Rattle.unit_source.specs.Placed.{root_view}
 use Rattle.unit_source.specs.Root.{Root}
+use Rattle.unit_words.specs.Beans.{Step}
+use Rattle.unit_words.specs.Calls.{Called}
+use Rattle.unit_words.specs.State.{Event, State, Reading}
+use Rattle.unit_words.specs.Unit.{begun, first_fault, names_met, names_with}
+use Rattle.unit_judges.specs.Made.{class_made}
 use Rattle.unit_build.specs.declared.found.Found.{Found}
-use Rattle.unit_build.specs.Beans.{Step}
-use Rattle.unit_build.specs.Calls.{Called}
-use Rattle.unit_build.specs.Made.{class_made}
-use Rattle.unit_build.specs.State.{Event, State, Reading}
-use Rattle.unit_build.specs.Unit.{begun, first_fault, names_met, names_with}
 
 -- the state of reading, with what stood before in the page or tag file
 abbrev pub state_in : Before → Found → State

@@ -9,11 +9,11 @@ use Rattle.unit_source.specs.declared.entry.Entry.{Entry}
 use Rattle.unit_source.specs.Files.{Files}
 use Rattle.unit_source.specs.InPlace.{InPlace, done, leaf, element, broken, included, flat}
 use Rattle.unit_source.specs.Root.{Root}
-use Rattle.unit_build.specs.Directives.{include_met, goes_in}
-use Rattle.unit_build.specs.Elements.{Here, within}
-use Rattle.unit_build.specs.Kinds.{Kind, kind_of}
-use Rattle.unit_build.specs.State.{State, Reading, met, ◌>>◌, faulty}
-use Rattle.unit_build.specs.Walk.{behind, behind_all, leaf_met, nested, file_met, start_met, tag_met}
+use Rattle.unit_words.specs.Directives.{include_met, goes_in}
+use Rattle.unit_words.specs.Elements.{Here, within}
+use Rattle.unit_words.specs.Kinds.{Kind, kind_of}
+use Rattle.unit_words.specs.State.{State, Reading, met, ◌>>◌, faulty}
+use Rattle.unit_words.specs.Walk.{behind, behind_all, leaf_met, nested, file_met, start_met, tag_met}
 
 -- a leaf; a break; the beginning of an element with its plain body; an include directive, behind which the steps of its file stand up to its end
 pub data Step : Type 0 where

@@ -9,17 +9,17 @@ use Rattle.tag_decl.specs.declared.declaration.TagDecl.{TagDecl}
 use Rattle.unit_source.specs.declared.entry.Entry.{Entry}
 use Rattle.unit_source.specs.Files.{text_in}
 use Rattle.unit_source.specs.Root.{Root}
+use Rattle.unit_words.specs.Calls.{Called}
+use Rattle.unit_words.specs.Directives.{behind_entry, entry_faults, goes_in}
+use Rattle.unit_words.specs.Elements.{Here, element_faults, values_met}
+use Rattle.unit_words.specs.Kinds.{Kind, is_core_prefix, is_function_prefix}
+use Rattle.unit_words.specs.Own.{stands_in}
+use Rattle.unit_words.specs.State.{Event, Reading, faults_at}
+use Rattle.unit_words.specs.Unit.{first_fault, names_in_order, names_met, names_with, page_met}
+use Rattle.unit_words.specs.Walk.{start_met}
 use Rattle.unit_build.specs.declared.course.Course.{Course}
 use Rattle.unit_build.specs.declared.found.Found.{Found}
-use Rattle.unit_build.specs.Calls.{Called}
-use Rattle.unit_build.specs.Directives.{behind_entry, entry_faults, goes_in}
-use Rattle.unit_build.specs.Elements.{Here, element_faults, values_met}
-use Rattle.unit_build.specs.Kinds.{Kind, is_core_prefix, is_function_prefix}
-use Rattle.unit_build.specs.Own.{stands_in}
 use Rattle.unit_build.specs.ReadFound.{state_in, IsRead, fault_behind}
-use Rattle.unit_build.specs.State.{Event, Reading, faults_at}
-use Rattle.unit_build.specs.Unit.{first_fault, names_in_order, names_met, names_with, page_met}
-use Rattle.unit_build.specs.Walk.{start_met}
 
 -- the directives of the file itself that are kept are those of it that stood before
 abbrev pub IsOwn : Course → Type 0

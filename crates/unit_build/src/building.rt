@@ -4,11 +4,11 @@ ghost use Rattle.source_tree.specs.Limits.{IsWithinLimits};
 ghost use Rattle.source_tree.specs.Stamps.{stamp_of};
 ghost use Rattle.unit_source.specs.Files.{text_in};
 ghost use Rattle.unit_source.specs.Placed.{root_view};
-ghost use Rattle.unit_build.specs.Needs.{bytes_in, bytes_of, needs_of};
-ghost use Rattle.unit_build.specs.ReadWalk.{IsPageMet};
-ghost use Rattle.unit_build.specs.Unit.{is_xml, unit_of, unit_read, xml_unit};
 ghost use Rattle.unit_nodes.specs.Views.{body_view};
-ghost use Rattle.unit_build.specs.Views.{unit_view};
+ghost use Rattle.unit_words.specs.Needs.{bytes_in, bytes_of, needs_of};
+ghost use Rattle.unit_words.specs.Unit.{is_xml, unit_of, unit_read, xml_unit};
+ghost use Rattle.unit_words.specs.Views.{unit_view};
+ghost use Rattle.unit_build.specs.ReadWalk.{IsPageMet};
 
 use crate::found::Found;
 use crate::page::page_of;

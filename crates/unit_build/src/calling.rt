@@ -5,17 +5,17 @@ ghost use Rattle.page_directives.specs.Meet.{Before};
 ghost use Rattle.unit_source.specs.Files.{text_in};
 ghost use Rattle.unit_source.specs.Placed.{root_view};
 ghost use Rattle.unit_source.specs.Root.{rooted};
-ghost use Rattle.unit_build.specs.Calls.{call_counted, call_met, call_text, called, first_call};
-ghost use Rattle.unit_build.specs.Counts.{counted};
+ghost use Rattle.unit_words.specs.Calls.{call_counted, call_met, call_text, called, first_call};
+ghost use Rattle.unit_words.specs.Counts.{counted};
 ghost use Rattle.unit_build.specs.ReadFound.{IsCalled, state_in};
 
-use crate::counts::Counted;
 use crate::found::{Found, tag_in};
 use crate::tag::Tag;
 use page_directives::Faults;
 use pg_text::{Path, Text, TranslationFault};
 use std::alloc::{AllocError, Global};
 use std::sync::Arc;
+use unit_words::Counted;
 
 /// What a call comes to: its faults, and the tag file where this is its first call.
 pub(crate) type Called = (Faults, Option<Arc<Tag>>);

@@ -4,7 +4,7 @@ ghost use Rattle.page_directives.specs.Meet.{nothing_before};
 ghost use Rattle.page_directives.specs.Taglibs.{prefixes_in_text};
 ghost use Rattle.unit_source.specs.First.{directive};
 ghost use Rattle.unit_source.specs.Placed.{root_view};
-ghost use Rattle.unit_build.specs.Directives.{directive_faults, tag_file_faults};
+ghost use Rattle.unit_words.specs.Directives.{directive_faults, tag_file_faults};
 ghost use Rattle.unit_build.specs.ReadWalk.{IsOwn};
 
 use crate::decided::Decided;

@@ -7,15 +7,14 @@ ghost use Rattle.tag_decl.specs.Declare.{attributes_of};
 ghost use Rattle.tag_decl.specs.Faults.{declaring_faults};
 ghost use Rattle.unit_source.specs.InPlace.{all_directives};
 ghost use Rattle.unit_source.specs.Placed.{in_place, root_view};
-ghost use Rattle.unit_build.specs.Directives.{where_stands};
-ghost use Rattle.unit_build.specs.Elements.{outermost};
-ghost use Rattle.unit_build.specs.Kinds.{is_core_prefix};
+ghost use Rattle.unit_words.specs.Directives.{where_stands};
+ghost use Rattle.unit_words.specs.Elements.{outermost};
+ghost use Rattle.unit_words.specs.Kinds.{is_core_prefix};
+ghost use Rattle.unit_words.specs.Own.{root_directives};
 ghost use Rattle.unit_build.specs.MadeSteps.{step_made};
-ghost use Rattle.unit_build.specs.Own.{root_directives};
 ghost use Rattle.unit_build.specs.ReadCore.{core_in, core_of, is_among};
 ghost use Rattle.unit_build.specs.ReadSteps.{steps_of};
 
-use crate::registered::Registered;
 use crate::steps::{Step, steps_of};
 use crate::tag::declaration;
 use page_directives::{Before, Directive, Faults, FirstReading, Target, Where};
@@ -24,6 +23,7 @@ use pg_text::Place;
 use std::alloc::{AllocError, Global};
 use std::marker::Model;
 use tag_decl::{AttrDecls, DeclaredBefore, declaring_faults};
+use unit_judges::Registered;
 use unit_source::{Root, first_directives};
 
 /// A page or a tag file with what its directives decide. Contracts see it as it was read.
@@ -47,8 +47,8 @@ impl<'r> Model for Decided<'r> {
     ghost use Rattle.unit_source.specs.declared.root.Root.{Root as Kept};
     ghost use Rattle.unit_source.specs.InPlace.{all_directives};
     ghost use Rattle.unit_source.specs.Placed.{in_place, root_view};
-    ghost use Rattle.unit_build.specs.Kinds.{is_core_prefix};
-    ghost use Rattle.unit_build.specs.Own.{root_directives};
+    ghost use Rattle.unit_words.specs.Kinds.{is_core_prefix};
+    ghost use Rattle.unit_words.specs.Own.{root_directives};
     ghost use Rattle.unit_build.specs.ReadCore.{is_among};
 
     ghost Value = { Kept };

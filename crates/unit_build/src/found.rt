@@ -7,22 +7,22 @@ ghost use Rattle.page_directives.specs.Faults.{in_order};
 ghost use Rattle.page_directives.specs.Meet.{Before};
 ghost use Rattle.unit_source.specs.Files.{text_in};
 ghost use Rattle.unit_source.specs.Placed.{root_view};
-ghost use Rattle.unit_build.specs.Beans.{bean_again, bean_at, bean_counted, bean_faults, bean_met};
-ghost use Rattle.unit_build.specs.Beans.{bean_path, bean_text};
-ghost use Rattle.unit_build.specs.Counts.{counted};
-ghost use Rattle.unit_build.specs.Made.{bean_made, class_made};
+ghost use Rattle.unit_words.specs.Beans.{bean_again, bean_at, bean_counted, bean_faults, bean_met};
+ghost use Rattle.unit_words.specs.Beans.{bean_path, bean_text};
+ghost use Rattle.unit_words.specs.Counts.{counted};
+ghost use Rattle.unit_words.specs.State.{events_at, faulty, needed};
+ghost use Rattle.unit_words.specs.Unit.{first_fault};
+ghost use Rattle.unit_judges.specs.Made.{bean_made, class_made};
 ghost use Rattle.unit_build.specs.ReadFound.{IsBeanMet, IsBeanRead, IsMet, IsNothing, state_in};
-ghost use Rattle.unit_build.specs.State.{events_at, faulty, needed};
-ghost use Rattle.unit_build.specs.Unit.{first_fault};
 
-use crate::beans::{Bean, bean_of, bean_path};
-use crate::counts::{Counted, Counts};
 use crate::site::Site;
 use crate::tag::Tag;
 use page_directives::Faults;
 use pg_text::{Names, PageFault, Path, Place, Text, TranslationFault};
 use std::alloc::{AllocError, Global};
 use std::sync::Arc;
+use unit_judges::{Bean, bean_of, bean_path};
+use unit_words::{Counted, Counts};
 
 /// What reading a unit has found so far.
 #[derive(Drop)]

@@ -2,17 +2,17 @@ ghost use Rattle.std.specs.Prelude.{◌≡◌, IfOk, OnOk};
 ghost use Rattle.page_directives.specs.Meet.{Before};
 ghost use Rattle.unit_source.specs.declared.entry.Entry.TheVariants.{Entered};
 ghost use Rattle.unit_source.specs.Placed.{root_view};
-ghost use Rattle.unit_build.specs.Directives.{goes_in, include_met};
+ghost use Rattle.unit_words.specs.Directives.{goes_in, include_met};
 ghost use Rattle.unit_build.specs.ReadFound.{IsRead, state_in};
 ghost use Rattle.unit_build.specs.ReadWalk.{IsEntry, IsOwn};
 
-use crate::counts::Counted;
 use crate::course::Course;
 use crate::found::Found;
 use page_directives::Faults;
 use pg_text::TranslationFault;
 use std::alloc::{AllocError, Global};
 use unit_source::{Entry, WrittenDirective};
+use unit_words::Counted;
 
 // Counts an included file of so many bytes: the faults, and whether reading goes into it.
 fn count_file(bytes: usize, found: &mut Found) -> (Faults, bool)

@@ -1,20 +1,18 @@
 ghost use Rattle.std.specs.Prelude.{◌≡◌, OnOk};
 ghost use Rattle.page_directives.specs.Faults.{in_order};
 ghost use Rattle.unit_source.specs.Placed.{root_view};
-ghost use Rattle.unit_build.specs.Made.{here_made};
+ghost use Rattle.unit_words.specs.Walk.{leaf_met, nesting_faults, text_faults};
+ghost use Rattle.unit_judges.specs.Made.{here_made};
 ghost use Rattle.unit_build.specs.ReadFound.{IsRead, state_in};
 ghost use Rattle.unit_build.specs.ReadWalk.{IsOwn};
-ghost use Rattle.unit_build.specs.Walk.{leaf_met, nesting_faults, text_faults};
 
-use crate::body::is_white;
 use crate::course::Course;
 use crate::found::Found;
-use crate::here::Here;
-use crate::values::expression_faults;
 use page_directives::Faults;
 use page_pieces::Leaf;
 use pg_text::{Place, TranslationFault};
 use std::alloc::{AllocError, Global};
+use unit_judges::{Here, expression_faults, is_white};
 
 // The fault of what stands in a choice.
 fn nesting_faults(here: Here) -> Faults

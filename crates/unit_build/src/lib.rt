@@ -2,34 +2,19 @@
 //! beans, or the first of its faults in reading order; and the files on which it depends.
 #![tactic(auto)]
 
-mod beans;
-mod beginning;
-mod body;
 mod building;
 mod calling;
-mod calls;
-mod counts;
 mod course;
 mod decided;
-mod element;
 mod found;
-mod functions;
-mod here;
 mod include;
-mod kind;
-mod known;
-mod laws;
 mod leaf;
 mod nodes;
 mod page;
-mod registered;
 mod site;
-mod standard;
 mod start;
 mod steps;
 mod tag;
-mod values;
 mod walk;
 
 pub use building::build;
-pub use laws::unit_laws;

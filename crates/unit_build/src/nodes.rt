@@ -2,19 +2,18 @@ ghost use Rattle.std.specs.Prelude.{◌≡◌, ◌++◌, map, IfOk, OnOk};
 ghost use Rattle.jstl_tags.specs.Elements.{opened_of};
 ghost use Rattle.unit_source.specs.InPlace.{done, element};
 ghost use Rattle.unit_source.specs.Placed.{in_place, node_in_place};
-ghost use Rattle.unit_build.specs.Build.{action_of, built, given_of as made_of, has_body};
-ghost use Rattle.unit_build.specs.Build.{leaf_before, part_of, parts_of};
+ghost use Rattle.unit_words.specs.Build.{action_of, built, given_of as made_of, has_body};
+ghost use Rattle.unit_words.specs.Build.{leaf_before, part_of, parts_of};
 ghost use Rattle.unit_nodes.specs.Nodes.{action, done as nothing, joined};
 ghost use Rattle.unit_nodes.specs.Views.{given_of, kind_of as kind_view, node_of, nodes_of};
 ghost use Rattle.unit_nodes.specs.Views.{part_of as part_view};
 
-use crate::kind::{Kind, kind_of};
-use crate::registered::Registered;
 use el_reader::read_el;
 use page_pieces::{Attribute, Leaf, Part};
 use page_reader::{Closing, Element};
 use pg_text::{Failure, Listed, Place};
 use std::alloc::{AllocError, Global};
+use unit_judges::{Kind, Registered, kind_of};
 use unit_nodes::{
     Action, ActionKind, UnitAttribute, UnitAttributes, UnitNode, UnitPart, UnitParts,
 };

@@ -2,22 +2,21 @@ ghost use Rattle.std.specs.Prelude.{◌≡◌, map, IfOk};
 ghost use Rattle.page_directives.specs.Meet.{Before};
 ghost use Rattle.pg_value.specs.Value.{entry_of};
 ghost use Rattle.unit_source.specs.Placed.{root_view};
-ghost use Rattle.unit_build.specs.Build.{built};
-ghost use Rattle.unit_build.specs.Made.{class_made};
+ghost use Rattle.unit_words.specs.Build.{built};
+ghost use Rattle.unit_words.specs.State.{State};
+ghost use Rattle.unit_words.specs.Unit.{beans_in_order, good_beans, page_of, tag_file};
+ghost use Rattle.unit_judges.specs.Made.{class_made};
 ghost use Rattle.unit_build.specs.ReadFound.{state_in};
-ghost use Rattle.unit_build.specs.State.{State};
-ghost use Rattle.unit_build.specs.Unit.{beans_in_order, good_beans, page_of, tag_file};
 ghost use Rattle.unit_nodes.specs.Views.{nodes_of, page_view, tag_view};
 
-use crate::beans::Bean;
 use crate::found::Found;
 use crate::nodes::built_nodes;
-use crate::registered::Registered;
 use crate::tag::{Tag, declaration};
 use pg_text::Text;
 use pg_value::{Attrs, Value};
 use std::alloc::{AllocError, Global};
 use std::sync::Arc;
+use unit_judges::{Bean, Registered};
 use unit_nodes::{Page, TagFile, UnitNode};
 use unit_source::Root;
 

@@ -3,18 +3,16 @@ ghost use Rattle.jstl_tags.specs.Elements.{opened_of};
 ghost use Rattle.unit_source.specs.InPlace.{done, element as element_placed};
 ghost use Rattle.unit_source.specs.InPlace.{included as include_placed};
 ghost use Rattle.unit_source.specs.Placed.{in_place, node_in_place};
-ghost use Rattle.unit_build.specs.Elements.{outermost};
-ghost use Rattle.unit_build.specs.Made.{here_made};
+ghost use Rattle.unit_words.specs.Elements.{outermost};
+ghost use Rattle.unit_words.specs.Walk.{behind_all};
+ghost use Rattle.unit_judges.specs.Made.{here_made};
 ghost use Rattle.unit_build.specs.MadeSteps.{step_made};
 ghost use Rattle.unit_build.specs.ReadSteps.{steps_of};
-ghost use Rattle.unit_build.specs.Walk.{behind_all};
 
-use crate::here::Here;
-use crate::kind::{Kind, kind_of};
-use crate::registered::Registered;
 use page_pieces::Leaf;
 use pg_text::{PageFault, Place};
 use std::alloc::{AllocError, Global};
+use unit_judges::{Here, Kind, Registered, kind_of};
 use unit_source::{Entry, PlacedElement, PlacedInclude, PlacedNode, WrittenDirective};
 
 /// A step of the walk through a page or a tag file.

@@ -3,8 +3,8 @@ ghost use Rattle.std.specs.Option.{option_map};
 ghost use Rattle.tag_decl.specs.Declare.{declaration};
 ghost use Rattle.tag_decl.specs.Faults.{are_good};
 ghost use Rattle.unit_source.specs.Placed.{root_view};
-ghost use Rattle.unit_build.specs.Calls.{declaration_of};
-ghost use Rattle.unit_build.specs.Own.{judged_directives, root_directives, stands_in};
+ghost use Rattle.unit_words.specs.Calls.{declaration_of};
+ghost use Rattle.unit_words.specs.Own.{judged_directives, root_directives, stands_in};
 
 use page_directives::Directive;
 use pg_text::Path;
@@ -27,7 +27,7 @@ impl Model for Tag {
     ghost use Rattle.unit_source.specs.contracts.placed.PlacedNode as e;
     ghost use Rattle.unit_source.specs.declared.root.Root.{Root as Kept};
     ghost use Rattle.unit_source.specs.Placed.{root_view};
-    ghost use Rattle.unit_build.specs.Calls.{declaration_of};
+    ghost use Rattle.unit_words.specs.Calls.{declaration_of};
 
     ghost Value = { Kept };
 

@@ -4,16 +4,15 @@ ghost use Rattle.jstl_tags.specs.Elements.{opened_of};
 ghost use Rattle.unit_source.specs.Files.{text_in};
 ghost use Rattle.unit_source.specs.InPlace.{flat};
 ghost use Rattle.unit_source.specs.Placed.{in_place, root_view};
-ghost use Rattle.unit_build.specs.Elements.{outermost};
-ghost use Rattle.unit_build.specs.Made.{here_made, kind_made};
+ghost use Rattle.unit_words.specs.Elements.{outermost};
+ghost use Rattle.unit_words.specs.Walk.{met_within};
+ghost use Rattle.unit_judges.specs.Made.{here_made, kind_made};
 ghost use Rattle.unit_build.specs.MadeSteps.{step_made};
 ghost use Rattle.unit_build.specs.ReadFound.{IsRead, state_in};
 ghost use Rattle.unit_build.specs.ReadSteps.{left_out, left_out_still, start_step, step_met};
 ghost use Rattle.unit_build.specs.ReadSteps.{steps_met, steps_of};
 ghost use Rattle.unit_build.specs.ReadWalk.{IsOwn, IsPageMet};
-ghost use Rattle.unit_build.specs.Walk.{met_within};
 
-use crate::beginning::Beginning;
 use crate::course::Course;
 use crate::found::Found;
 use crate::include::meet_include;
@@ -22,6 +21,7 @@ use crate::site::Site;
 use crate::start::meet_start;
 use crate::steps::Step;
 use std::alloc::{AllocError, Global};
+use unit_judges::Beginning;
 use unit_source::{MAX_UNIT_FILES, Root};
 
 // In how many files no step is taken behind a step that isn't taken.

@@ -3,7 +3,7 @@ use Rattle.compiled_pages.specs.Made.{IsUnitOf}
 use Rattle.compiled_pages.specs.MadeLaws.{unit_built}
 use Rattle.tree_pages.proofs.Counting.{bytes_of_unit, counted_all}
 use Rattle.tree_pages.proofs.making.make.Goals as goal
-use Rattle.unit_build.specs.Views.{unit_view}
+use Rattle.unit_words.specs.Views.{unit_view}
 
 pub returns-clause-made : goal.returns-clause-made
 returns-clause-made g c = c.translate.ensures.made c.args.tree.now c.args.path.now (unit_built c.in_ok-unit.unit c.args.tree.now c.args.path.now c.requires.stands c.in_ok-unit.ensures.unit c.in_ok-unit.ensures.needs)

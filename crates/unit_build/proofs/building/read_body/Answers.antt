@@ -2,7 +2,7 @@ use Rattle.std.proofs.Common.{◌∙◌, ap}
 use Rattle.page_directives.specs.Meet.{nothing_before}
 use Rattle.unit_source.specs.Files.{text_in}
 use Rattle.unit_source.specs.Placed.{root_view}
-use Rattle.unit_build.specs.Unit.{page_met, page_of}
+use Rattle.unit_words.specs.Unit.{page_met, page_of}
 use Rattle.unit_nodes.specs.Views.{page_view}
 use Rattle.unit_build.proofs.BuildingLemmas.{good_unit}
 use Rattle.unit_build.proofs.building.read_body.Goals as goal

@@ -2,7 +2,7 @@ use Rattle.std.proofs.Common.{◌≡◌, ◌∙◌, false, IfOk, Some, sym, subs
 use Rattle.unit_source.specs.Files.{text_in}
 use Rattle.unit_source.specs.Placed.{root_view}
 use Rattle.unit_source.specs.Root.{root_at}
-use Rattle.unit_build.specs.Unit.{Unit, is_xml}
+use Rattle.unit_words.specs.Unit.{Unit, is_xml}
 use Rattle.unit_nodes.specs.Views.{body_view}
 use Rattle.unit_build.proofs.BuildingLemmas.{read_is}
 use Rattle.unit_build.proofs.building.read_unit.Goals as goal

@@ -1,5 +1,5 @@
 use Rattle.std.proofs.Common.{◌≡◌, take}
-use Rattle.unit_build.specs.Needs.{needs_of}
+use Rattle.unit_words.specs.Needs.{needs_of}
 use Rattle.unit_build.proofs.building.stamps.Given as goal
 
 abbrev pub invariant-loop-name : goal.invariant-loop-name

@@ -1,8 +1,8 @@
 use Rattle.std.proofs.Common.{◌≡◌, ◌∙◌, ◌∷◌, [], ap, length}
 use Rattle.pg_text.specs.declared.translation_fault.TranslationFault.TheVariants as fault
 use Rattle.unit_source.specs.Files.{text_in}
-use Rattle.unit_build.specs.declared.counts.Counted.TheVariants.{Within, Passes, Over}
-use Rattle.unit_build.specs.Counts.{counted, counts_behind}
+use Rattle.unit_words.specs.declared.counts.Counted.TheVariants.{Within, Passes, Over}
+use Rattle.unit_words.specs.Counts.{counted, counts_behind}
 use Rattle.unit_build.proofs.CalledLemmas.{call_after}
 use Rattle.unit_build.proofs.OkLemmas.{if_ok}
 use Rattle.unit_build.proofs.calling.count_tag.Goals as goal

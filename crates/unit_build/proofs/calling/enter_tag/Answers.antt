@@ -2,10 +2,10 @@ use Rattle.std.proofs.Common.{◌≡◌, ◌++◌, ◌∙◌, ◌∷◌, [], Som
 use Rattle.unit_source.specs.Files.{text_in}
 use Rattle.unit_source.specs.Placed.{root_view}
 use Rattle.unit_source.specs.Root.{Root, rooted}
+use Rattle.unit_words.specs.Calls.{first_call}
+use Rattle.unit_words.specs.State.{needed}
 use Rattle.unit_build.specs.declared.found.Found.{Found}
-use Rattle.unit_build.specs.Calls.{first_call}
 use Rattle.unit_build.specs.ReadFound.{IsCalled, IsMet, state_in}
-use Rattle.unit_build.specs.State.{needed}
 use Rattle.unit_build.proofs.CalledLemmas.{called_first, kept_last, met_at, root_found}
 use Rattle.unit_build.proofs.calling.enter_tag.Goals as goal
 

@@ -3,7 +3,7 @@ use Rattle.std.specs.Option.{option_map}
 use Rattle.pg_text.specs.declared.translation_fault.TranslationFault.TheVariants as fault
 use Rattle.unit_source.specs.Files.{text_in}
 use Rattle.unit_source.specs.Placed.{root_view}
-use Rattle.unit_build.specs.Calls.{call_text}
+use Rattle.unit_words.specs.Calls.{call_text}
 use Rattle.unit_build.specs.ReadFound.{IsCalled, state_in}
 use Rattle.unit_build.proofs.OkLemmas.{if_ok}
 use Rattle.unit_build.proofs.calling.meet_call.Goals as goal

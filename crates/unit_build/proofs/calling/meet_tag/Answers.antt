@@ -4,8 +4,8 @@ use Rattle.std.specs.Option.{is_some, option_map}
 use Rattle.std.specs.Str.{bytes_eq}
 use Rattle.unit_source.specs.Files.{text_in}
 use Rattle.unit_source.specs.Placed.{root_view}
-use Rattle.unit_build.specs.Calls.{call_counted, called}
-use Rattle.unit_build.specs.Counts.{counted}
+use Rattle.unit_words.specs.Calls.{call_counted, called}
+use Rattle.unit_words.specs.Counts.{counted}
 use Rattle.unit_build.specs.ReadFound.{IsCalled, state_in}
 use Rattle.unit_build.proofs.CalledLemmas.{some_mapped}
 use Rattle.unit_build.proofs.OkLemmas.{if_ok}

@@ -1,6 +1,6 @@
 use Rattle.std.proofs.Common.{◌≡◌, drop, map}
 use Rattle.page_directives.specs.Directive.{row_of}
-use Rattle.unit_build.specs.Made.{class_made}
+use Rattle.unit_judges.specs.Made.{class_made}
 use Rattle.unit_build.proofs.found.bean_in.Given as goal
 
 abbrev pub invariant-loop-name : goal.invariant-loop-name

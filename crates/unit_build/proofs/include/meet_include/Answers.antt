@@ -1,9 +1,9 @@
 use Rattle.std.proofs.Common.{◌≡◌, ◌++◌, ◌∷◌, [], rules}
 use Rattle.page_directives.specs.Faults.{in_order}
 use Rattle.unit_source.specs.Placed.{root_view}
-use Rattle.unit_build.specs.Directives.{directive_faults, entry_faults}
+use Rattle.unit_words.specs.Directives.{directive_faults, entry_faults}
+use Rattle.unit_words.specs.State.{events_at}
 use Rattle.unit_build.specs.ReadFound.{IsMet, state_in}
-use Rattle.unit_build.specs.State.{events_at}
 use Rattle.unit_build.proofs.ReadLemmas.{include_read}
 use Rattle.unit_build.proofs.include.meet_include.Goals as goal
 

@@ -1,7 +1,7 @@
 use Rattle.std.proofs.Common.{◌∙◌, sym, arith}
 use Rattle.std.proofs.lemmas.List.{at_drop_all}
 use Rattle.unit_source.specs.Placed.{in_place}
-use Rattle.unit_build.specs.Build.{built}
+use Rattle.unit_words.specs.Build.{built}
 use Rattle.unit_nodes.specs.Nodes.{joined}
 use Rattle.unit_nodes.specs.Views.{nodes_of}
 use Rattle.unit_nodes.proofs.NodeLemmas.{joined_done}

@@ -1,6 +1,6 @@
 use Rattle.std.proofs.Common.{◌≡◌, drop}
 use Rattle.unit_source.specs.Placed.{in_place}
-use Rattle.unit_build.specs.Build.{built}
+use Rattle.unit_words.specs.Build.{built}
 use Rattle.unit_nodes.specs.Nodes.{joined}
 use Rattle.unit_nodes.specs.Views.{nodes_of}
 use Rattle.unit_build.proofs.nodes.+building.Given as goal

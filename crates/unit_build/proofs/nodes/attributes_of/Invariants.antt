@@ -1,5 +1,5 @@
 use Rattle.std.proofs.Common.{◌≡◌, map, take}
-use Rattle.unit_build.specs.Build.{given_of as made_of}
+use Rattle.unit_words.specs.Build.{given_of as made_of}
 use Rattle.unit_nodes.specs.Views.{given_of}
 use Rattle.unit_build.proofs.nodes.attributes_of.Given as goal
 

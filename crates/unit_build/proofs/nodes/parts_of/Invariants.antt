@@ -1,5 +1,5 @@
 use Rattle.std.proofs.Common.{◌≡◌, ◌++◌, map, drop}
-use Rattle.unit_build.specs.Build.{parts_of}
+use Rattle.unit_words.specs.Build.{parts_of}
 use Rattle.unit_nodes.specs.Views.{part_of}
 use Rattle.unit_build.proofs.nodes.parts_of.Given as goal
 

@@ -1,7 +1,7 @@
 use Rattle.std.proofs.Common.{◌≡◌, ◌++◌, map}
 use Rattle.pg_value.specs.Value.{entry_of}
-use Rattle.unit_build.specs.Made.{class_made}
-use Rattle.unit_build.specs.Unit.{good_beans}
+use Rattle.unit_words.specs.Unit.{good_beans}
+use Rattle.unit_judges.specs.Made.{class_made}
 use Rattle.unit_build.proofs.page.good_beans.Given as goal
 
 abbrev pub invariant-loop-class : goal.invariant-loop-class

@@ -1,6 +1,6 @@
 use Rattle.std.proofs.Common.{◌≡◌, map, take}
 use Rattle.unit_source.specs.Placed.{root_view}
-use Rattle.unit_build.specs.Unit.{tag_file}
+use Rattle.unit_words.specs.Unit.{tag_file}
 use Rattle.unit_nodes.specs.Views.{tag_view}
 use Rattle.unit_build.proofs.page.tag_files.Given as goal
 

@@ -3,10 +3,10 @@ use Rattle.std.specs.List.{find}
 use Rattle.std.specs.Option.{option_map}
 use Rattle.std.specs.Str.{bytes_eq}
 use Rattle.unit_source.specs.Placed.{root_view}
-use Rattle.unit_build.specs.Calls.{declaration_of}
-use Rattle.unit_build.specs.Made.{kind_made}
+use Rattle.unit_words.specs.Calls.{declaration_of}
+use Rattle.unit_words.specs.Walk.{declaration_in}
+use Rattle.unit_judges.specs.Made.{kind_made}
 use Rattle.unit_build.specs.ReadFound.{state_in}
-use Rattle.unit_build.specs.Walk.{declaration_in}
 use Rattle.unit_build.proofs.start.called_tag.Goals as goal
 
 pub returns-in_ok-try_clone-in-Some : goal.returns-in_ok-try_clone-in-Some

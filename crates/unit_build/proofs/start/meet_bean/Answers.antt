@@ -2,7 +2,7 @@ use Rattle.std.proofs.Common.{◌≡◌, codes, rules, subst}
 use Rattle.std.specs.Option.{option_map}
 use Rattle.page_pieces.specs.Settings.{value_of}
 use Rattle.unit_source.specs.Files.{text_in}
-use Rattle.unit_build.specs.Beans.{bean_met}
+use Rattle.unit_words.specs.Beans.{bean_met}
 use Rattle.unit_build.specs.ReadFound.{IsBeanMet, state_in}
 use Rattle.unit_build.proofs.CalledLemmas.{called_bean}
 use Rattle.unit_build.proofs.start.meet_bean.Goals as goal

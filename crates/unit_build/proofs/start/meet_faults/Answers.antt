@@ -5,13 +5,13 @@ use Rattle.page_pieces.specs.Settings.{contains_text}
 use Rattle.jstl_tags.specs.Elements.{opened_of}
 use Rattle.unit_source.specs.InPlace.{flat}
 use Rattle.unit_source.specs.Placed.{in_place, root_view}
-use Rattle.unit_build.specs.Calls.{declaration_of}
-use Rattle.unit_build.specs.Elements.{element_faults, values_met}
-use Rattle.unit_build.specs.Kinds.{is_function_prefix}
-use Rattle.unit_build.specs.Made.{here_made, kind_made}
+use Rattle.unit_words.specs.Calls.{declaration_of}
+use Rattle.unit_words.specs.Elements.{element_faults, values_met}
+use Rattle.unit_words.specs.Kinds.{is_function_prefix}
+use Rattle.unit_words.specs.State.{events_at}
+use Rattle.unit_words.specs.Walk.{declaration_in}
+use Rattle.unit_judges.specs.Made.{here_made, kind_made}
 use Rattle.unit_build.specs.ReadFound.{IsMet, state_in}
-use Rattle.unit_build.specs.State.{events_at}
-use Rattle.unit_build.specs.Walk.{declaration_in}
 use Rattle.unit_build.proofs.CoreLemmas.{library_is}
 use Rattle.unit_build.proofs.OkLemmas.{on_ok}
 use Rattle.unit_build.proofs.ReadLemmas.{faults_met}

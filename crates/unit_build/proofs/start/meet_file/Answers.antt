@@ -3,11 +3,11 @@ use Rattle.std.specs.Option.{option_map}
 use Rattle.jstl_tags.specs.Elements.{opened_of}
 use Rattle.unit_source.specs.Files.{text_in}
 use Rattle.unit_source.specs.Placed.{root_view}
-use Rattle.unit_build.specs.declared.kind.Kind.TheVariants.{Standard}
+use Rattle.unit_words.specs.Walk.{file_met}
 use Rattle.unit_nodes.specs.declared.jsp_name.JspName.TheVariants.{UseBean}
-use Rattle.unit_build.specs.Made.{kind_made}
+use Rattle.unit_judges.specs.declared.kind.Kind.TheVariants.{Standard}
+use Rattle.unit_judges.specs.Made.{kind_made}
 use Rattle.unit_build.specs.ReadFound.{IsCalled, state_in}
-use Rattle.unit_build.specs.Walk.{file_met}
 use Rattle.unit_build.proofs.OkLemmas.{if_ok}
 use Rattle.unit_build.proofs.start.meet_file.Goals as goal
 

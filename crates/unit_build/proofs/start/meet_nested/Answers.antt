@@ -1,8 +1,8 @@
 use Rattle.unit_source.specs.Files.{text_in}
 use Rattle.jstl_tags.specs.Elements.{opened_of}
-use Rattle.unit_build.specs.Counts.{counts_within}
-use Rattle.unit_build.specs.Made.{kind_made}
-use Rattle.unit_build.specs.Walk.{file_met}
+use Rattle.unit_words.specs.Counts.{counts_within}
+use Rattle.unit_words.specs.Walk.{file_met}
+use Rattle.unit_judges.specs.Made.{kind_made}
 use Rattle.unit_build.proofs.CalledLemmas.{called_from}
 use Rattle.unit_build.proofs.OkLemmas.{if_ok}
 use Rattle.unit_build.proofs.start.meet_nested.Goals as goal

@@ -2,10 +2,10 @@ use Rattle.jstl_tags.specs.Elements.{opened_of}
 use Rattle.unit_source.specs.Files.{text_in}
 use Rattle.unit_source.specs.InPlace.{flat}
 use Rattle.unit_source.specs.Placed.{in_place, root_view}
-use Rattle.unit_build.specs.Calls.{Called}
-use Rattle.unit_build.specs.Made.{here_made, kind_made}
+use Rattle.unit_words.specs.Calls.{Called}
+use Rattle.unit_words.specs.Walk.{file_met, nested}
+use Rattle.unit_judges.specs.Made.{here_made, kind_made}
 use Rattle.unit_build.specs.ReadFound.{state_in}
-use Rattle.unit_build.specs.Walk.{file_met, nested}
 use Rattle.unit_build.proofs.ReadLemmas.{started}
 use Rattle.unit_build.proofs.start.meet_start.Goals as goal
 

@@ -1,7 +1,7 @@
 use Rattle.std.proofs.Common.{◌<◌, arith, length}
 use Rattle.std.specs.Option.{option_map}
-use Rattle.unit_build.specs.Kinds.{is_function_prefix}
-use Rattle.unit_build.specs.Made.{kind_made}
+use Rattle.unit_words.specs.Kinds.{is_function_prefix}
+use Rattle.unit_judges.specs.Made.{kind_made}
 use Rattle.unit_build.proofs.ReadLemmas.{values_more}
 use Rattle.unit_build.proofs.start.meet_values.Goals as goal
 

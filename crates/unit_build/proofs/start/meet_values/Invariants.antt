@@ -1,8 +1,8 @@
 use Rattle.std.proofs.Common.{take}
 use Rattle.std.specs.Option.{option_map}
-use Rattle.unit_build.specs.Elements.{values_met}
-use Rattle.unit_build.specs.Kinds.{is_function_prefix}
-use Rattle.unit_build.specs.Made.{kind_made}
+use Rattle.unit_words.specs.Elements.{values_met}
+use Rattle.unit_words.specs.Kinds.{is_function_prefix}
+use Rattle.unit_judges.specs.Made.{kind_made}
 use Rattle.unit_build.specs.ReadFound.{IsMet}
 use Rattle.unit_build.proofs.start.meet_values.Given as goal
 

@@ -2,11 +2,11 @@ use Rattle.std.proofs.Common.{◌≡◌, ◌<◌, ◌∙◌, ◌++◌, IfOk, OnO
 use Rattle.jstl_tags.specs.Elements.{opened_of}
 use Rattle.unit_source.specs.InPlace.{InPlace, done, element, included}
 use Rattle.unit_source.specs.Placed.{in_place, node_in_place}
-use Rattle.unit_build.specs.Made.{here_made}
+use Rattle.unit_words.specs.Walk.{behind_all}
+use Rattle.unit_judges.specs.Made.{here_made}
 use Rattle.unit_build.specs.MadeSteps.{step_made}
 use Rattle.unit_build.specs.ReadSteps.{steps_of}
-use Rattle.unit_build.specs.Walk.{behind_all}
-use Rattle.unit_build.proofs.PlacedLemmas.{placed_element, placed_include}
+use Rattle.unit_judges.proofs.PlacedLemmas.{placed_element, placed_include}
 use Rattle.unit_build.proofs.StepLemmas.{next_here, next_steps}
 use Rattle.unit_build.proofs.steps.+steps.Goals as goal
 

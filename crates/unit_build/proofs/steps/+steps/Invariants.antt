@@ -1,9 +1,9 @@
 use Rattle.std.proofs.Common.{◌≡◌, ◌++◌, drop, map}
 use Rattle.unit_source.specs.Placed.{in_place}
-use Rattle.unit_build.specs.Made.{here_made}
+use Rattle.unit_words.specs.Walk.{behind_all}
+use Rattle.unit_judges.specs.Made.{here_made}
 use Rattle.unit_build.specs.MadeSteps.{step_made}
 use Rattle.unit_build.specs.ReadSteps.{steps_of}
-use Rattle.unit_build.specs.Walk.{behind_all}
 use Rattle.unit_build.proofs.steps.+steps.Given as goal
 
 abbrev pub invariant-push_steps-loop-node : goal.invariant-push_steps-loop-node

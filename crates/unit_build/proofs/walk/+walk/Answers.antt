@@ -5,15 +5,15 @@ use Rattle.unit_source.specs.declared.root.Root.{Root as Kept}
 use Rattle.unit_source.specs.Files.{text_in}
 use Rattle.unit_source.specs.InPlace.{flat}
 use Rattle.unit_source.specs.Placed.{in_place, root_view}
+use Rattle.unit_words.specs.Calls.{Called}
+use Rattle.unit_words.specs.Elements.{outermost}
+use Rattle.unit_words.specs.Walk.{file_met, met_within, nested}
+use Rattle.unit_judges.specs.Made.{here_made, kind_made}
 use Rattle.unit_build.specs.declared.course.Course.{Course}
-use Rattle.unit_build.specs.Calls.{Called}
-use Rattle.unit_build.specs.Elements.{outermost}
-use Rattle.unit_build.specs.Made.{here_made, kind_made}
 use Rattle.unit_build.specs.MadeSteps.{step_made}
 use Rattle.unit_build.specs.ReadFound.{IsRead, state_in}
 use Rattle.unit_build.specs.ReadSteps.{left_out, left_out_still, step_met, steps_of, steps_met}
 use Rattle.unit_build.specs.ReadWalk.{IsOwn, IsStarted, Leads}
-use Rattle.unit_build.specs.Walk.{file_met, met_within, nested}
 use Rattle.unit_build.proofs.LeadsLemmas.{leads_left, leads_taken, out_still, out_then}
 use Rattle.unit_build.proofs.OkLemmas.{on_ok}
 use Rattle.unit_build.proofs.ReadLemmas.{read_within, started_entered}

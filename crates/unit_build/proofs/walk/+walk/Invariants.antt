@@ -1,11 +1,11 @@
 use Rattle.std.proofs.Common.{◌≡◌, ◌≤◌, ◌+◌, ◌*◌, drop, map}
 use Rattle.unit_source.specs.Files.{text_in}
 use Rattle.unit_source.specs.Placed.{root_view}
+use Rattle.unit_words.specs.Walk.{met_within}
 use Rattle.unit_build.specs.MadeSteps.{step_made}
 use Rattle.unit_build.specs.ReadFound.{state_in}
 use Rattle.unit_build.specs.ReadSteps.{steps_met}
 use Rattle.unit_build.specs.ReadWalk.{IsOwn, Leads}
-use Rattle.unit_build.specs.Walk.{met_within}
 use Rattle.unit_build.proofs.walk.+walk.Given as goal
 
 abbrev pub decreases-read_root : goal.decreases-read_root

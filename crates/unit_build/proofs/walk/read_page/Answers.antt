@@ -1,8 +1,8 @@
 use Rattle.std.proofs.Common.{rules}
 use Rattle.page_directives.specs.Meet.{nothing_before}
 use Rattle.unit_source.specs.Placed.{root_view}
+use Rattle.unit_words.specs.State.{needed}
 use Rattle.unit_build.specs.ReadFound.{IsMet}
-use Rattle.unit_build.specs.State.{needed}
 use Rattle.unit_build.proofs.ReadLemmas.{page_read}
 use Rattle.unit_build.proofs.walk.read_page.Goals as goal
 

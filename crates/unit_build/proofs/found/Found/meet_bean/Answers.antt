@@ -2,7 +2,7 @@ use Rattle.std.proofs.Common.{◌≡◌, subst, IfOk, Some, rules}
 use Rattle.std.specs.Option.{option_map}
 use Rattle.page_directives.specs.Meet.{Before}
 use Rattle.unit_source.specs.Files.{text_in}
-use Rattle.unit_build.specs.Beans.{bean_met}
+use Rattle.unit_words.specs.Beans.{bean_met}
 use Rattle.unit_build.specs.ReadFound.{state_in, IsBeanMet}
 use Rattle.unit_build.proofs.found.Found.meet_bean.Goals as goal
 

@@ -1,8 +1,8 @@
 use Rattle.std.proofs.Common.{◌≡◌, ℕ, List, map, sym, subst, IfOk, None, rules}
 use Rattle.page_directives.specs.Directive.{row_of}
 use Rattle.page_directives.specs.Meet.{Before}
-use Rattle.unit_build.specs.Beans.{bean_again}
-use Rattle.unit_build.specs.Made.{class_made}
+use Rattle.unit_words.specs.Beans.{bean_again}
+use Rattle.unit_judges.specs.Made.{class_made}
 use Rattle.unit_build.specs.ReadFound.{state_in, IsBeanRead}
 use Rattle.unit_build.proofs.found.Found.meet_bean_text.Goals as goal
 

@@ -1,7 +1,7 @@
 use Rattle.std.proofs.Common.{◌≡◌, subst, IfOk, Some, rules}
 use Rattle.page_directives.specs.Meet.{Before}
 use Rattle.unit_source.specs.Files.{text_in}
-use Rattle.unit_build.specs.Beans.{bean_at, bean_path}
+use Rattle.unit_words.specs.Beans.{bean_at, bean_path}
 use Rattle.unit_build.specs.ReadFound.{state_in, IsBeanMet}
 use Rattle.unit_build.proofs.found.Found.meet_class.Goals as goal
 

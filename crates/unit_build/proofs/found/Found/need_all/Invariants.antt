@@ -1,6 +1,6 @@
 use Rattle.std.proofs.Common.{take}
+use Rattle.unit_words.specs.State.{needed}
 use Rattle.unit_build.specs.ReadFound.{IsMet}
-use Rattle.unit_build.specs.State.{needed}
 use Rattle.unit_build.proofs.found.Found.need_all.Given as goal
 
 abbrev pub invariant-loop-name : goal.invariant-loop-name

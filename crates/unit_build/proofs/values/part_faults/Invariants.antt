@@ -1,8 +1,0 @@
-use Rattle.std.proofs.Common.{◌≡◌, take}
-use Rattle.page_directives.specs.Faults.{in_order}
-use Rattle.unit_build.specs.Kinds.{is_function_prefix}
-use Rattle.unit_build.specs.Values.{part_faults}
-use Rattle.unit_build.proofs.values.part_faults.Given as goal
-
-abbrev pub invariant-loop-part : goal.invariant-loop-part
-invariant-loop-part l = l.faults ≡ in_order (part_faults (is_function_prefix l.before.directives) (take l.part-index l.parts))

@@ -1,0 +1,6 @@
+pub mod PlacedLemmas
+mod MoreLemmas
+mod OpenLemmas
+mod FunctionLemmas
+mod ValueLemmas
+mod CallLemmas

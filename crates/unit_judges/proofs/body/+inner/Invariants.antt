@@ -1,0 +1,10 @@
+use Rattle.std.proofs.Common.{◌≡◌, ◌++◌, map, drop}
+use Rattle.jstl_tags.specs.Content.{inner}
+use Rattle.jstl_tags.specs.Standing.{standing_in, standing_made}
+use Rattle.unit_source.specs.InPlace.{flat}
+use Rattle.unit_source.specs.Placed.{in_place}
+use Rattle.unit_judges.proofs.body.+inner.Given as goal
+
+abbrev pub invariant-push_inner-loop-node : goal.invariant-push_inner-loop-node
+invariant-push_inner-loop-node l =
+    map standing_made l.found.items ++ standing_in (inner (flat (in_place (drop l.node-index l.nodes)))) ≡ map standing_made l.fn.found.items ++ standing_in (inner (flat (in_place l.nodes)))

@@ -1,0 +1,111 @@
+-- The faults of an element at its beginning, and of the values of its attributes.
+use Rattle.std.specs.Prelude.{ℕ, ◌+◌, Bool, true, false, not, ◌&&◌, ◌||◌, List, [], ◌∷◌, ◌++◌, codes, Option, Some, None, nat_le, take, if◌then◌else◌}
+use Rattle.page_pieces.specs.declared.attribute.Attribute.{Attribute}
+use Rattle.page_pieces.specs.declared.piece.Tag.{Tag}
+use Rattle.page_pieces.specs.Settings.{contains_text, value_of}
+use Rattle.page_reader.specs.Trees.{Tree, Opened, done, leaf, element}
+use Rattle.page_directives.specs.Directive.{row_of}
+use Rattle.page_directives.specs.Faults.{fault_if}
+use Rattle.tag_decl.specs.declared.declaration.TagDecl.{TagDecl}
+use Rattle.jstl_tags.specs.declared.rows.Takes.{Takes}
+use Rattle.jstl_tags.specs.declared.rows.Takes.TheVariants as takes
+use Rattle.jstl_tags.specs.declared.rows.Holds.{Holds}
+use Rattle.jstl_tags.specs.declared.rows.Holds.TheVariants as holds
+use Rattle.jstl_tags.specs.Rows.{Row}
+use Rattle.jstl_tags.specs.Content.{given_names, is_standard, takes_parts}
+use Rattle.jstl_tags.specs.Around.{Host, core_host, standard_host, call_host, other_host, Around}
+use Rattle.jstl_tags.specs.Check.{row_faults, core_faults, child_faults, is_whole, place_faults, taken_faults}
+use Rattle.unit_nodes.specs.declared.jsp_name.JspName.{JspName}
+use Rattle.unit_nodes.specs.declared.jsp_name.JspName.TheVariants as jsp
+use Rattle.unit_words.specs.Calls.{call_faults, call_value_faults}
+use Rattle.unit_source.specs.Splice.{most_nested}
+use Rattle.unit_words.specs.Kinds.{Kind, core, standard, call, refused}
+use Rattle.unit_words.specs.State.{Event, faults_at}
+use Rattle.unit_words.specs.Values.{part_faults}
+use Rattle.pg_text.specs.declared.translation_fault.TranslationFault.{TranslationFault}
+use Rattle.pg_text.specs.declared.translation_fault.TranslationFault.TheVariants as fault
+
+-- what stands around: of the elements around the two innermost, the innermost first; the row of that one where it takes parts; and how many there
+-- are, counted up to one more than there may be
+pub record Here : Type 0 where
+  pub around : Around
+  pub row : Option Row
+  pub deep : ℕ
+
+abbrev pub outermost : Here
+outermost = record { around = []; row = None; deep = 0 }
+
+abbrev pub host : Kind → Tag → Host
+host (core found) tag = core_host found.0 false
+host (standard found) tag = standard_host tag.name
+host (call path) tag = call_host
+host _ tag = other_host
+
+abbrev pub row_in : Kind → Option Row
+row_in (core found) = Some found.1
+row_in (standard found) = Some found.1
+row_in _ = None
+
+abbrev pub deeper : ℕ → ℕ
+deeper deep = if nat_le deep most_nested then deep + 1 else deep
+
+-- within an element
+abbrev pub within : Kind → Tag → Here → Here
+within kind tag here = record { around = host kind tag ∷ take 1 here.around; row = if takes_parts tag then row_in kind else None; deep = deeper here.deep }
+
+abbrev pub takes_text_alone : Option Takes → Bool
+takes_text_alone None = false
+takes_text_alone (Some takes.AnyValue) = false
+takes_text_alone (Some takes.LeftOut) = false
+takes_text_alone (Some _) = true
+
+abbrev pub is_text_alone : Option (List ℕ) → Option Row → Bool
+is_text_alone (Some name) (Some row) = takes_text_alone (row_of name row.attributes)
+is_text_alone _ _ = false
+
+-- what a row doesn't say: `jsp:attribute` gives no attribute that takes no expression; `jsp:setProperty` has one of its two sources
+abbrev pub own_faults : JspName → Here → Opened → Tree → List TranslationFault
+own_faults jsp.Attribute here opened body = fault_if (is_text_alone (value_of (codes "name") opened.tag.attributes) here.row) fault.BadAttribute
+own_faults jsp.SetProperty here opened body =
+    let given = given_names opened.tag body in fault_if (contains_text (codes "value") given && contains_text (codes "param") given) fault.BadAttribute
+own_faults _ here opened body = []
+
+-- a `jsp:body` that isn't whole stands among nodes
+abbrev pub has_open_body : Tree → Bool
+has_open_body done = false
+has_open_body (leaf kind place next) = has_open_body next
+has_open_body (element opened body next) = (is_standard (codes "body") opened.tag && not (is_whole opened.closing)) || has_open_body next
+
+-- what a body may hold where it needn't hold a branch
+abbrev pub without_branches : Holds → Holds
+without_branches holds.Branches = holds.Anything
+without_branches other = other
+
+-- where the `jsp:body` that is an element's body isn't whole, no branch is missed in it
+abbrev pub asked : Tree → Row → Row
+asked body row = if has_open_body body then record row { holds = without_branches row.holds } else row
+
+-- the faults of an element by its kind; `library` says which prefixes are the core library's
+abbrev pub kind_faults : (List ℕ → Bool) → (in_tag : Bool) → Option TagDecl → Kind → Here → Opened → Tree → List TranslationFault
+kind_faults library in_tag decl (core found) here opened body = core_faults library (found.0, asked body found.1) here.around opened body
+kind_faults library in_tag decl (standard found) here opened body =
+    place_faults in_tag found.1.stands here.around ++ (row_faults library found.1 opened body ++ own_faults found.0 here opened body)
+kind_faults library in_tag decl (call path) here opened body = child_faults here.around ++ call_faults decl opened body
+kind_faults library in_tag decl (refused found) here opened body = found ∷ child_faults here.around
+
+-- the faults of an element at its beginning
+abbrev pub element_faults : (List ℕ → Bool) → (in_tag : Bool) → Option TagDecl → Kind → Here → Opened → Tree → List TranslationFault
+element_faults library in_tag decl kind here opened body = fault_if (nat_le most_nested here.deep) fault.TooLarge ++ kind_faults library in_tag decl kind here opened body
+
+-- the faults of a value by its element's kind
+abbrev pub value_faults : Option TagDecl → Kind → Attribute → List TranslationFault
+value_faults decl (core found) a = taken_faults (row_of a.name found.1.attributes) a.parts
+value_faults decl (standard found) a = taken_faults (row_of a.name found.1.attributes) a.parts
+value_faults decl (call path) a = call_value_faults decl a
+value_faults decl _ a = []
+
+-- what is met at the values of attributes, one after the other; `functions` says which prefixes are the functions library's
+abbrev pub values_met : (functions : List ℕ → Bool) → Option TagDecl → Kind → List Attribute → List Event
+values_met functions decl kind [] = []
+values_met functions decl kind (a ∷ attributes) =
+    faults_at a.place (value_faults decl kind a ++ part_faults functions a.parts) ++ values_met functions decl kind attributes

@@ -1,0 +1,16 @@
+pub mod Standard
+pub mod Kinds
+pub mod Own
+pub mod Counts
+pub mod State
+pub mod Values
+pub mod Beans
+pub mod Calls
+pub mod Elements
+pub mod Directives
+pub mod Walk
+pub mod Build
+pub mod Unit
+pub mod Laws
+pub mod Needs
+pub mod Views
