@@ -77,10 +77,7 @@ fn standing_in<'r>(path: &Path, directives: Vec<Directive<'r>>) -> Vec<Directive
 }
 
 // The directives of the first reading that stand in a page or tag file itself.
-fn own_directives<'r>(
-    alloc: Global,
-    root: &'r Root,
-) -> Result<Vec<Directive<'r>>, AllocError>
+fn own_directives<'r>(alloc: Global, root: &'r Root) -> Result<Vec<Directive<'r>>, AllocError>
     ensures { IfOk result (λ own. own.items ≡ root_directives (root_view root.now)) }
 {
     let first = first_directives(alloc, root)?;
