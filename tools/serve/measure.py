@@ -31,14 +31,24 @@ FILES = {
 }
 COUNTER = "/counter.jsp"
 PAGES = ["/hello.jsp?n=Bo", "/list.jsp?q=z", COUNTER, "/small.txt"]
+SESSIONS_PER_CONNECTION = 4
 SESSIONS = """local cookies = {%s}
-local place = 0
+local threads = 0
 function setup(thread)
-  place = place + 1
-  thread:set("cookie", cookies[place])
+  threads = threads + 1
+  thread:set("first", threads)
 end
 function init()
-  wrk.headers["Cookie"] = cookie
+  requests = {}
+  for n = first, #cookies, THREADS do
+    wrk.headers["Cookie"] = cookies[n]
+    requests[#requests + 1] = wrk.format("GET")
+  end
+  last = 0
+end
+function request()
+  last = last < #requests and last + 1 or 1
+  return requests[last]
 end
 """
 
@@ -49,20 +59,23 @@ def cookie_of(server):
         return connection.ask("GET", COUNTER).fields["set-cookie"].split(";")[0]
 
 
-def script(folder, cookies):
-    """What gives each thread of wrk a session of its own."""
+def script(folder, cookies, threads):
+    """What has each thread of wrk ask for sessions of its own in turn: more of them than it has connections, so that two requests of
+    one session seldom meet."""
     path = os.path.join(folder, "sessions.lua")
     with open(path, "w") as out:
-        out.write(SESSIONS % ", ".join(f'"{cookie}"' for cookie in cookies))
+        out.write((SESSIONS % ", ".join(f'"{cookie}"' for cookie in cookies)).replace("THREADS", str(threads)))
     return path
 
 
 def measured(server, target, connections, folder):
     """Requests a second, and the processor seconds for each in user and in system mode."""
-    threads = connections if target == COUNTER else min(connections, 2)
+    # (as many threads at any number of connections, so that what the client costs for a request stays the same)
+    threads = min(connections, 2)
     words = ["wrk", f"-t{threads}", f"-c{connections}", f"-d{SECONDS}s", "--latency"]
     if target == COUNTER:
-        words += ["-s", script(folder, [cookie_of(server) for _ in range(connections)])]
+        sessions = SESSIONS_PER_CONNECTION * connections
+        words += ["-s", script(folder, [cookie_of(server) for _ in range(sessions)], threads)]
     before = server.processor_seconds()
     said = subprocess.run([*words, f"http://{HOST}:{server.port}{target}"], capture_output=True, text=True).stdout
     after = server.processor_seconds()
