@@ -14,8 +14,8 @@ use page_code::{Code, Shape};
 use pg_text::{Listed, Place, Text};
 use std::alloc::{AllocError, Global};
 
-/// The code of a test and of two parts, behind the values of its attributes: the first part runs
-/// where the test is true.
+/// The code of a test and of two parts, behind the values of attributes with these names: `test` is
+/// taken, the others are dropped, and the first part runs where it is true, else the second.
 fn tested(
     alloc: Global,
     ground: &Shape,

@@ -17,7 +17,8 @@ pub fn depth()
     ensures chains { ChainsEnd }
 {}
 
-/// A request under more answers to its steps is answered as under fewer.
+/// A request under more answers to its steps is answered as under fewer; a response's pieces are
+/// those that its pages committed; one that needs no answer is answered alike under any answers.
 pub fn requests()
     ensures more { RequestsGoOn }
     ensures pieces { PiecesAreCommitted }

@@ -49,7 +49,7 @@ fn too_large(path: &Path) -> Result<PageFault, AllocError>
     })
 }
 
-// The fault of a file that is UTF-8 up to the end of this front.
+// The fault of a file that is UTF-8 up to the end of this front: it stands right behind that.
 #[tactic(auto, using(std::proofs::lemmas::List::take_all))]
 fn not_utf8(path: &Path, front: &str) -> Result<PageFault, AllocError>
     requires { length front.now ≤ MAX_FILE_BYTES }

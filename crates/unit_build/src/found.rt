@@ -120,7 +120,7 @@ impl<'t> Found<'t> {
         self.names.insert(name.copy()?)
     }
 
-    /// Meets the break of a file.
+    /// Meets the break that ended the reading of a file: its fault is kept if it is the first.
     pub fn meet_break(&mut self, fault: &PageFault) -> Result<(), AllocError>
         ensures { OnOk result (IsMet self.old self.new (faulty fault.now ∷ [])) }
     {
