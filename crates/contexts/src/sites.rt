@@ -49,8 +49,9 @@ fn site_at<P: Compiled>(
     requires few { passes ≤ 64 }
     ensures { IfOk result (λ site. site ≡ site_at seed passes context) }
 {
+    let own = seed_at(seed, context);
     let settings = SiteSettings {
-        seed: seed_at(seed, context),
+        seed: own,
         limit: CONTEXT_JOURNAL_LIMIT,
         passes,
         idle: IDLE_SECONDS,

@@ -183,8 +183,9 @@ fn site_of(alloc: Global, settings: &Settings) -> Result<Site<Made>, AllocError>
     ensures passes { IfOk result (λ site. site.opening.passes
         ≡ settings.now.workers + 1 + count_of settings.now.preview_port) }
 {
+    let seed = settings.seed;
     let of_site = SiteSettings {
-        seed: settings.seed,
+        seed,
         limit: JOURNAL_LIMIT,
         passes: passes_of(settings),
         idle: settings.idle,

@@ -61,13 +61,19 @@ pub fn start<P: Compiled>(
     ensures { IfOk result (λ site. (site.opening ≡ first_opening settings.seed app tree settings.limit
         settings.passes settings.idle) × (site.history ≡ [])) }
 {
+    let SiteSettings {
+        seed,
+        limit,
+        passes,
+        idle,
+    } = settings;
     Site::resume(
         alloc,
         Opening {
-            seed: settings.seed,
-            limit: settings.limit,
-            passes: settings.passes,
-            idle: settings.idle,
+            seed,
+            limit,
+            passes,
+            idle,
             version: 0,
             begins: 0,
             freshes: 0,
