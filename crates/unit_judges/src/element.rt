@@ -11,9 +11,9 @@ ghost use Rattle.jstl_tags.specs.Content.{inner};
 ghost use Rattle.jstl_tags.specs.Standing.{IsBody, standing_in, standing_made};
 ghost use Rattle.unit_source.specs.InPlace.{flat};
 ghost use Rattle.unit_source.specs.Placed.{in_place};
-ghost use Rattle.unit_words.specs.Elements.{Here as Around, asked, element_faults, is_text_alone};
-ghost use Rattle.unit_words.specs.Elements.{kind_faults, own_faults, takes_text_alone};
-ghost use Rattle.unit_words.specs.Elements.{value_faults};
+ghost use Rattle.unit_words.specs.Elements.{Here as Around, asked, attribute_faults};
+ghost use Rattle.unit_words.specs.Elements.{element_faults, given_value_faults, kind_faults};
+ghost use Rattle.unit_words.specs.Elements.{own_faults, value_faults};
 ghost use Rattle.unit_judges.specs.Made.{around_made, here_made, kind_made};
 
 use crate::beginning::Beginning;
@@ -34,26 +34,28 @@ use tag_decl::TagDecl;
 use unit_nodes::JspName;
 use unit_source::{MAX_NESTING, PlacedNode};
 
-// Whether `jsp:attribute` can't give this attribute: its value is text, or one `${name}`, as it is
-// written. What is unknown or left out is refused elsewhere.
-fn takes_text_alone(takes: Option<Takes>) -> bool
-    ensures { result ≡ takes_text_alone takes }
+// The fault of an attribute that `jsp:attribute` gives, by what it takes: a value that is text, or
+// one `${name}`, is written. One that is unknown or left out is refused at its action.
+fn given_value_faults(takes: Option<Takes>) -> Faults
+    ensures { result ≡ in_order (given_value_faults takes) }
 {
     match takes {
-        None => false,
-        Some(Takes::AnyValue) => false,
-        Some(Takes::LeftOut) => false,
-        Some(_) => true,
+        None => Faults::none(),
+        Some(Takes::AnyValue) => Faults::none(),
+        Some(Takes::LeftOut) => Faults::none(),
+        Some(Takes::OneName) => Faults::one(TranslationFault::LeftOut),
+        Some(_) => Faults::one(TranslationFault::BadAttribute),
     }
 }
 
-// Whether `jsp:attribute` can't give the attribute of that name in this row.
-fn is_text_alone(name: Option<&str>, row: Option<Row>) -> bool
-    ensures { result ≡ is_text_alone (option_map (λ name. name.now) name.entry) (option_map row_made row) }
+// The fault of a `jsp:attribute` of that name in an action of this row.
+fn attribute_faults(name: Option<&str>, row: Option<Row>) -> Faults
+    ensures { result ≡ in_order (attribute_faults (option_map (λ name. name.now) name.entry)
+        (option_map row_made row)) }
 {
     match (name, row) {
-        (Some(name), Some(row)) => takes_text_alone(takes_of(name, row.attributes)),
-        _ => false,
+        (Some(name), Some(row)) => given_value_faults(takes_of(name, row.attributes)),
+        _ => Faults::none(),
     }
 }
 
@@ -63,10 +65,7 @@ fn own_faults(action: JspName, row: Option<Row>, head: &Element, body: Body) -> 
         → result ≡ in_order (own_faults action here (opened_of head.now) tree) }
 {
     match action {
-        JspName::Attribute => Faults::one_if(
-            is_text_alone(head.attributes.plain("name"), row),
-            TranslationFault::BadAttribute,
-        ),
+        JspName::Attribute => attribute_faults(head.attributes.plain("name"), row),
         JspName::SetProperty => {
             let given = Given::of(head, body);
             let both = given.contains("value") && given.contains("param");

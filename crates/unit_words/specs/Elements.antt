@@ -53,19 +53,22 @@ deeper deep = if nat_le deep most_nested then deep + 1 else deep
 abbrev pub within : Kind → Tag → Here → Here
 within kind tag here = record { around = host kind tag ∷ take 1 here.around; row = if takes_parts tag then row_in kind else None; deep = deeper here.deep }
 
-abbrev pub takes_text_alone : Option Takes → Bool
-takes_text_alone None = false
-takes_text_alone (Some takes.AnyValue) = false
-takes_text_alone (Some takes.LeftOut) = false
-takes_text_alone (Some _) = true
+-- the fault of an attribute that `jsp:attribute` gives, by what it takes; one that is unknown or left out is refused at its action
+abbrev pub given_value_faults : Option Takes → List TranslationFault
+given_value_faults None = []
+given_value_faults (Some takes.AnyValue) = []
+given_value_faults (Some takes.LeftOut) = []
+given_value_faults (Some takes.OneName) = fault.LeftOut ∷ []
+given_value_faults (Some _) = fault.BadAttribute ∷ []
 
-abbrev pub is_text_alone : Option (List ℕ) → Option Row → Bool
-is_text_alone (Some name) (Some row) = takes_text_alone (row_of name row.attributes)
-is_text_alone _ _ = false
+-- the fault of a `jsp:attribute` of that name in an action of that row
+abbrev pub attribute_faults : Option (List ℕ) → Option Row → List TranslationFault
+attribute_faults (Some name) (Some row) = given_value_faults (row_of name row.attributes)
+attribute_faults _ _ = []
 
--- what a row doesn't say: `jsp:attribute` gives no attribute that takes no expression; `jsp:setProperty` has one of its two sources
+-- what a row doesn't say: `jsp:attribute` gives no attribute that takes no expression, and no `target`; `jsp:setProperty` has one of its two sources
 abbrev pub own_faults : JspName → Here → Opened → Tree → List TranslationFault
-own_faults jsp.Attribute here opened body = fault_if (is_text_alone (value_of (codes "name") opened.tag.attributes) here.row) fault.BadAttribute
+own_faults jsp.Attribute here opened body = attribute_faults (value_of (codes "name") opened.tag.attributes) here.row
 own_faults jsp.SetProperty here opened body =
     let given = given_names opened.tag body in fault_if (contains_text (codes "value") given && contains_text (codes "param") given) fault.BadAttribute
 own_faults _ here opened body = []
