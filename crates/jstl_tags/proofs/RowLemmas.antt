@@ -11,11 +11,11 @@ use Rattle.jstl_tags.specs.declared.core_name.CoreName.TheVariants as core
 use Rattle.jstl_tags.specs.declared.rows.Holds.{Holds}
 use Rattle.jstl_tags.specs.declared.rows.Holds.TheVariants as holds
 use Rattle.jstl_tags.specs.Check.{are_set_well, body_faults, given_faults, is_core, is_param, is_whole, own_faults, row_faults, split_faults}
-use Rattle.jstl_tags.specs.Content.{attribute_names, body_of, given_names, has_element, has_other, has_two, inner, is_empty, is_part, is_split, is_standard, takes_parts}
+use Rattle.jstl_tags.specs.Content.{attribute_names, body_of, given_names, has_other, has_two, inner, is_empty, is_part, is_split, is_standard, takes_parts}
 use Rattle.jstl_tags.specs.ReadCheck.{action_by, body_in, holds_by, names_in, own_by, own_of, row_by, split_by, split_in}
 use Rattle.jstl_tags.specs.Rows.{Row}
 use Rattle.jstl_tags.specs.Standing.{Standing, standing_in}
-use Rattle.jstl_tags.specs.ReadStanding.{element_stands, nothing_stands, other_stands}
+use Rattle.jstl_tags.specs.ReadStanding.{nothing_stands, other_stands}
 use Rattle.jstl_tags.proofs.StandingLemmas.{element_is, empty_is, other_is, part_names_are, two_is}
 
 split_is : (t : Tag) (tree : Tree) → is_split t tree ≡ split_in t (standing_in tree)
@@ -39,13 +39,10 @@ splits_are t tree =
     ∙ ap (λ b. cond (split_in t (standing_in tree)) (fault_if (other_stands is_part (standing_in tree)) fault.BadBody ++ fault_if b fault.BadNesting) []) (two_is (is_standard (codes "body")) tree))
 
 bodies_are : (library : List ℕ → Bool) (kind : Holds) (opened : Opened) (tree : Tree)
-    → body_faults library kind opened tree ≡ holds_by library kind opened.closing (split_in opened.tag (standing_in tree)) (standing_in tree) (standing_in (body_of opened.tag tree))
+    → body_faults library kind opened tree ≡ holds_by library kind opened.closing (standing_in (body_of opened.tag tree))
 unfolding body_faults
 bodies_are library holds.Anything opened tree = refl
-bodies_are library holds.Nothing opened tree =
-    ap (λ b. fault_if (cond b (has_element (is_standard (codes "body")) tree) (not (is_empty tree))) fault.BadBody) (split_is opened.tag tree)
-    ∙ (ap (λ b. fault_if (cond (split_in opened.tag (standing_in tree)) b (not (is_empty tree))) fault.BadBody) (element_is (is_standard (codes "body")) tree)
-    ∙ ap (λ b. fault_if (cond (split_in opened.tag (standing_in tree)) (element_stands (is_standard (codes "body")) (standing_in tree)) (not b)) fault.BadBody) (empty_is tree))
+bodies_are library holds.Nothing opened tree = ap (λ b. fault_if (not b) fault.BadBody) (empty_is (body_of opened.tag tree))
 bodies_are library holds.Params opened tree = ap (λ b. fault_if b fault.BadBody) (other_is (is_param library) (body_of opened.tag tree))
 bodies_are library holds.Branches opened tree = ap (λ b. fault_if (is_whole opened.closing && not b) fault.BadBody) (element_is (is_core library (codes "when")) (body_of opened.tag tree))
 
@@ -59,7 +56,7 @@ rows_are library row opened tree =
     ∙ (ap (λ faults. given_faults row opened.closing (names_in opened.tag (standing_in tree)) ++ (faults ++ body_faults library row.holds opened tree)) (splits_are opened.tag tree)
     ∙ ap (λ faults. given_faults row opened.closing (names_in opened.tag (standing_in tree)) ++ (split_by (split_in opened.tag (standing_in tree)) (standing_in tree) ++ faults))
     (bodies_are library row.holds opened tree
-    ∙ ap (holds_by library row.holds opened.closing (split_in opened.tag (standing_in tree)) (standing_in tree)) (within_is opened.tag tree)))
+    ∙ ap (holds_by library row.holds opened.closing) (within_is opened.tag tree)))
 
 -- an action's faults by its row are those by what stands in its body
 pub action_is : (library : List ℕ → Bool) (row : Row) (opened : Opened) (tree : Tree) (standing within : List Standing) → standing ≡ standing_in tree → within ≡ standing_in (inner tree)

@@ -71,7 +71,7 @@ is_param library tag = is_standard (codes "param") tag || is_core library (codes
 -- the faults of what a body holds
 unfoldable pub body_faults : (List ℕ → Bool) → Holds → Opened → Tree → List TranslationFault
 body_faults library holds.Anything opened body = []
-body_faults library holds.Nothing opened body = fault_if (if is_split opened.tag body then has_element (is_standard (codes "body")) body else not (is_empty body)) fault.BadBody
+body_faults library holds.Nothing opened body = fault_if (not (is_empty (body_of opened.tag body))) fault.BadBody
 body_faults library holds.Params opened body = fault_if (has_other (is_param library) (body_of opened.tag body)) fault.BadBody
 body_faults library holds.Branches opened body = fault_if (is_whole opened.closing && not (has_element (is_core library (codes "when")) (body_of opened.tag body))) fault.BadBody
 

@@ -22,20 +22,16 @@ abbrev pub split_by : (split : Bool) → List Standing → List TranslationFault
 split_by split standing =
     if split then fault_if (other_stands is_part standing) fault.BadBody ++ fault_if (two_stand (is_standard (codes "body")) standing) fault.BadNesting else []
 
--- whether there is a body, where there may be none
-abbrev pub stands_as_body : (split : Bool) → List Standing → Bool
-stands_as_body split standing = if split then element_stands (is_standard (codes "body")) standing else not (nothing_stands standing)
-
 -- the faults of what a body holds
-abbrev pub holds_by : (List ℕ → Bool) → Holds → Closing → (split : Bool) → (standing body : List Standing) → List TranslationFault
-holds_by library holds.Anything closing split standing body = []
-holds_by library holds.Nothing closing split standing body = fault_if (stands_as_body split standing) fault.BadBody
-holds_by library holds.Params closing split standing body = fault_if (other_stands (is_param library) body) fault.BadBody
-holds_by library holds.Branches closing split standing body = fault_if (is_whole closing && not (element_stands (is_core library (codes "when")) body)) fault.BadBody
+abbrev pub holds_by : (List ℕ → Bool) → Holds → Closing → (body : List Standing) → List TranslationFault
+holds_by library holds.Anything closing body = []
+holds_by library holds.Nothing closing body = fault_if (not (nothing_stands body)) fault.BadBody
+holds_by library holds.Params closing body = fault_if (other_stands (is_param library) body) fault.BadBody
+holds_by library holds.Branches closing body = fault_if (is_whole closing && not (element_stands (is_core library (codes "when")) body)) fault.BadBody
 
 -- the faults of an action by its row
 abbrev pub row_by : (List ℕ → Bool) → Row → Closing → (split : Bool) → (standing body : List Standing) → (given : List (List ℕ)) → List TranslationFault
-row_by library row closing split standing body given = given_faults row closing given ++ (split_by split standing ++ holds_by library row.holds closing split standing body)
+row_by library row closing split standing body given = given_faults row closing given ++ (split_by split standing ++ holds_by library row.holds closing body)
 
 -- what a row doesn't say
 abbrev pub own_by : CoreName → Closing → (body : List Standing) → (given : List (List ℕ)) → List TranslationFault

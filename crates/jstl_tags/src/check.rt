@@ -9,11 +9,11 @@ ghost use Rattle.jstl_tags.specs.Elements.{opened_of};
 ghost use Rattle.jstl_tags.specs.Given.{names_made};
 ghost use Rattle.jstl_tags.specs.Hosts.{host_made};
 ghost use Rattle.jstl_tags.specs.ReadCheck.{action_by, body_in, holds_by, own_by, own_of, split_by};
-ghost use Rattle.jstl_tags.specs.ReadCheck.{split_in, stands_as_body};
+ghost use Rattle.jstl_tags.specs.ReadCheck.{split_in};
 ghost use Rattle.jstl_tags.specs.Rows.{row_made};
 ghost use Rattle.jstl_tags.specs.Standing.{IsBody, standing_made};
 
-use crate::content::{Sort, element_stands, other_stands, two_stand};
+use crate::content::{Sort, element_stands, nothing_stands, other_stands, two_stand};
 use crate::core_name::CoreName;
 use crate::given::{Given, given_to, lacks, names_faults, takes_parts};
 use crate::host::Host;
@@ -62,33 +62,14 @@ fn split_faults_by(split: bool, standing: &Standings) -> Faults
     ))
 }
 
-// Whether an action that may have no body has one: where `jsp:attribute` or `jsp:body` stands in it
-// (`split`) that is a `jsp:body`, an empty one too; else anything but comments and directives.
-fn stands_as_body(split: bool, standing: &Standings) -> bool
-    ensures { result ≡ stands_as_body split (map standing_made standing.now) }
-{
-    if split {
-        element_stands(Sort::PartBody, standing.as_slice())
-    } else {
-        !standing.as_slice().is_empty()
-    }
-}
-
 // The faults of what a body holds.
-fn body_faults(
-    library: &Prefixes,
-    holds: Holds,
-    closing: Closing,
-    split: bool,
-    standing: &Standings,
-    body: &[Standing],
-) -> Faults
-    ensures { result ≡ in_order (holds_by (λ prefix. contains_text prefix library.now) holds closing split
-        (map standing_made standing.now) (map standing_made body.now)) }
+fn body_faults(library: &Prefixes, holds: Holds, closing: Closing, body: &[Standing]) -> Faults
+    ensures { result ≡ in_order (holds_by (λ prefix. contains_text prefix library.now) holds closing
+        (map standing_made body.now)) }
 {
     let is_bad = match holds {
         Holds::Anything => false,
-        Holds::Nothing => stands_as_body(split, standing),
+        Holds::Nothing => !nothing_stands(body),
         Holds::Params => other_stands(Sort::Param(library), body),
         Holds::Branches => is_whole(closing) && !element_stands(Sort::When(library), body),
     };
@@ -172,12 +153,7 @@ fn action_faults(library: &Prefixes, row: &Row, element: &Element, body: Body) -
     let within = body_in(element, body);
     let closing = element.closing;
     given_faults(row, closing, given).and(split_faults_by(split, body.standing).and(body_faults(
-        library,
-        row.holds,
-        closing,
-        split,
-        body.standing,
-        within,
+        library, row.holds, closing, within,
     )))
 }
 
@@ -195,7 +171,7 @@ pub fn is_bodiless(element: &Element, body: Body) -> bool
     ensures { (tree : Tree) → IsBody body.entry tree →
         result ≡ is_empty (body_of (opened_of element.now).tag tree) }
 {
-    body_in(element, body).is_empty()
+    nothing_stands(body_in(element, body))
 }
 
 /// The faults of what stands beside `jsp:attribute` and `jsp:body` in an element.

@@ -1,7 +1,8 @@
 ghost use Rattle.std.specs.Prelude.{◌≡◌, map};
 ghost use Rattle.jstl_tags.specs.ReadSorts.{is_of, thing_is, thing_is_other};
 ghost use Rattle.jstl_tags.specs.Standing.{standing_made};
-ghost use Rattle.jstl_tags.specs.ReadStanding.{element_stands, other_stands, two_stand};
+ghost use Rattle.jstl_tags.specs.ReadStanding.{element_stands, nothing_stands};
+ghost use Rattle.jstl_tags.specs.ReadStanding.{other_stands, two_stand};
 
 use crate::standing::Standing;
 use page_pieces::Prefixes;
@@ -45,6 +46,14 @@ fn is_other(sort: Sort, thing: Standing) -> bool
         Standing::Other => true,
         Standing::Element { .. } => !is_of(sort, thing),
     }
+}
+
+// Whether nothing stands there, not even white space.
+#[tactic(auto, using(crate::proofs::StandingLemmas::none_stands))]
+pub(crate) fn nothing_stands(standing: &[Standing]) -> bool
+    ensures { result ≡ nothing_stands (map standing_made standing.now) }
+{
+    standing.is_empty()
 }
 
 // Whether something else stands there than these elements, white space apart.

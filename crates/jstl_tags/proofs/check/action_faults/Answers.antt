@@ -21,7 +21,7 @@ returns c =
     let inner = map standing_made c.args.body.inner.now in
     let within = map standing_made c.body_in-within.result.now in
     let names = names_made c.given_to-given.result in
-    let held = holds_by library row.holds closing split standing within in
+    let held = holds_by library row.holds closing within in
     c.and-2.ensures.of (given_faults row closing names) (split_by split standing ++ held) c.given_faults.ensures
     (c.and.ensures.of (split_by split standing) held c.split_faults_by.ensures c.body_faults.ensures)
     ∙ ap in_order (action_parts library row (opened_of c.args.element.now) standing inner split within names c.is_split-split.ensures c.body_in-within.ensures c.given_to-given.ensures.names)
