@@ -1,5 +1,6 @@
 ghost use Rattle.std.specs.Prelude.{◌≡◌, IfOk, IfErr, Some, None};
-ghost use Rattle.pg_value.specs.Json.{json_value, json_data, whole, whole_items, whole_members};
+ghost use Rattle.pg_value.specs.Json.{json_data, json_record, json_value, limited};
+ghost use Rattle.pg_value.specs.Json.{whole, whole_items, whole_members};
 ghost use Rattle.pg_value.specs.ReadJson.{Converts, ConvertsTo, Refuses};
 ghost use Rattle.pg_value.specs.Value.{datum_of};
 ghost use Rattle.pg_text.specs.Failure.{AnswersAs};
@@ -15,11 +16,13 @@ use pg_text::{Failure, Text};
 use serde_json::Map;
 use std::alloc::{AllocError, Global};
 
-/// Why a JSON text gives no value. Where several hold, the first is answered.
+/// Why a JSON text gives no value, or no record. Where several hold, the first is answered.
 #[derive(Clone, Copy, Debug, PartialEq, Eq)]
 pub enum JsonFault {
     /// The bytes are no JSON text in UTF-8.
     NotJson,
+    /// The value is no record, where one is asked for.
+    NotRecord,
     /// Some number isn't written as a whole number of 64 bits; `1e2` and `-0` aren't.
     Decimal,
     /// Lists and records stand more than `MAX_DEPTH` deep in one another.
@@ -33,7 +36,26 @@ pub fn from_json(alloc: Global, bytes: &[u8]) -> Result<Value, Failure<JsonFault
     ensures { AnswersAs datum_of (json_value bytes.now) result }
 {
     let json = read(alloc, bytes)?;
-    let value = converted(alloc, &json)?;
+    limited(alloc, &json)
+}
+
+/// The record of a JSON text. Of equal keys of an object the last stands.
+pub fn record_from_json(alloc: Global, bytes: &[u8]) -> Result<Value, Failure<JsonFault>>
+    ensures { AnswersAs datum_of (json_record bytes.now) result }
+{
+    let json = read(alloc, bytes)?;
+    if json.is_object() {
+        limited(alloc, &json)
+    } else {
+        Err(Failure::Fault(JsonFault::NotRecord))
+    }
+}
+
+// The value of JSON data whose numbers are whole, where it is within the limits.
+fn limited(alloc: Global, json: &serde_json::Value) -> Result<Value, Failure<JsonFault>>
+    ensures { AnswersAs datum_of (limited (whole (view json.now))) result }
+{
+    let value = converted(alloc, json)?;
     if measures::depth(&value) > MAX_DEPTH {
         return Err(Failure::Fault(JsonFault::TooDeep));
     }

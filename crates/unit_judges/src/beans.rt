@@ -3,18 +3,18 @@ ghost use Rattle.unit_words.specs.Beans.{bean_of, bean_path, json_fault};
 ghost use Rattle.unit_judges.specs.Made.{bean_made};
 
 use pg_text::{Failure, Path, TranslationFault, resolve};
-use pg_value::{JsonFault, Value, from_json};
+use pg_value::{JsonFault, Value, record_from_json};
 use std::alloc::{AllocError, Global};
 
 /// The bean of a class, or the fault of its file.
 pub type Bean = Result<Value, TranslationFault>;
 
-// The fault of a bean's file whose text is no value for this reason: E12, E18 or E20.
+// The fault of a bean's file whose text is no record for this reason: E12, E18 or E20.
 fn json_fault(fault: JsonFault) -> TranslationFault
     ensures { result ≡ json_fault fault }
 {
     match fault {
-        JsonFault::NotJson => TranslationFault::BadAttribute,
+        JsonFault::NotJson | JsonFault::NotRecord => TranslationFault::BadAttribute,
         JsonFault::Decimal => TranslationFault::Decimal,
         JsonFault::TooDeep | JsonFault::TooLarge => TranslationFault::TooLarge,
     }
@@ -24,11 +24,8 @@ fn json_fault(fault: JsonFault) -> TranslationFault
 pub fn bean_of(alloc: Global, text: &[u8]) -> Result<Bean, AllocError>
     ensures { IfOk result (λ bean. bean_made bean ≡ bean_of text.now) }
 {
-    match from_json(alloc, text) {
-        Ok(value) => match &value {
-            Value::Rec(_) => Ok(Ok(value)),
-            _ => Ok(Err(TranslationFault::BadAttribute)),
-        },
+    match record_from_json(alloc, text) {
+        Ok(value) => Ok(Ok(value)),
         Err(Failure::Fault(fault)) => Ok(Err(json_fault(fault))),
         Err(Failure::NoMemory) => Err(AllocError),
     }

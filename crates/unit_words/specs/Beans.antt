@@ -1,7 +1,7 @@
 -- The beans of a unit: each class is a record of a JSON file.
 use Rattle.std.specs.Prelude.{ℕ, List, [], ◌∷◌, ◌++◌, codes, Option, Some, None, Result, Ok, Err, length}
-use Rattle.pg_value.specs.Datum.{Datum, rec}
-use Rattle.pg_value.specs.Json.{json_value}
+use Rattle.pg_value.specs.Datum.{Datum}
+use Rattle.pg_value.specs.Json.{json_record}
 use Rattle.pg_value.specs.declared.json.JsonFault.{JsonFault}
 use Rattle.pg_value.specs.declared.json.JsonFault.TheVariants as json
 use Rattle.page_directives.specs.Directive.{row_of}
@@ -20,19 +20,18 @@ bean_path class = path_or_none (resolved (segments None (codes "/WEB-INF/beans/"
 
 abbrev pub json_fault : JsonFault → TranslationFault
 json_fault json.NotJson = fault.BadAttribute
+json_fault json.NotRecord = fault.BadAttribute
 json_fault json.Decimal = fault.Decimal
 json_fault json.TooDeep = fault.TooLarge
 json_fault json.TooLarge = fault.TooLarge
 
--- a bean is a record
-abbrev pub record_of : Result Datum JsonFault → Result Datum TranslationFault
-record_of (Ok (rec entries)) = Ok (rec entries)
-record_of (Ok other) = Err fault.BadAttribute
-record_of (Err why) = Err (json_fault why)
+abbrev pub bean_or_fault : Result Datum JsonFault → Result Datum TranslationFault
+bean_or_fault (Ok bean) = Ok bean
+bean_or_fault (Err why) = Err (json_fault why)
 
--- the bean that a text is, or its fault
+-- the bean that a text is, its record, or its fault
 abbrev pub bean_of : List ℕ → Result Datum TranslationFault
-bean_of text = record_of (json_value text)
+bean_of text = bean_or_fault (json_record text)
 
 abbrev pub bean_faults : Result Datum TranslationFault → List TranslationFault
 bean_faults (Ok bean) = []

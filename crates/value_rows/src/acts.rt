@@ -5,18 +5,40 @@ use crate::shown::{fault_told, text_told, value_told};
 use el_coercion::{to_bool, to_int, to_text};
 use el_ops::{binary, index, unary};
 use jstl_functions::call;
-use pg_value::{Failure, Function, JsonFault, Value, depth, from_json, is_too_large, weight};
+use pg_value::{
+    Failure, Function, JsonFault, Value, depth, from_json, is_too_large, record_from_json, weight,
+};
 use std::alloc::{AllocError, Global};
 
 /// Why the first of these texts has no value, where it has none.
 pub fn json_told(alloc: Global, written: &[String]) -> Result<String, AllocError> {
-    let text = match written.first() {
+    let read = from_json(alloc, first_text(written).as_bytes());
+    reading_told(alloc, read)
+}
+
+/// Why the first of these texts has no record, where it has none.
+pub fn record_told(alloc: Global, written: &[String]) -> Result<String, AllocError> {
+    let read = record_from_json(alloc, first_text(written).as_bytes());
+    reading_told(alloc, read)
+}
+
+// The first of these texts, or else an empty one.
+fn first_text(written: &[String]) -> &str {
+    match written.first() {
         Some(text) => text.as_str(),
         None => "",
-    };
-    let told = match from_json(alloc, text.as_bytes()) {
+    }
+}
+
+// Whether a text had a value, or why not.
+fn reading_told(
+    alloc: Global,
+    read: Result<Value, Failure<JsonFault>>,
+) -> Result<String, AllocError> {
+    let told = match read {
         Ok(_) => "a value",
         Err(Failure::Fault(JsonFault::NotJson)) => "NotJson",
+        Err(Failure::Fault(JsonFault::NotRecord)) => "NotRecord",
         Err(Failure::Fault(JsonFault::Decimal)) => "Decimal",
         Err(Failure::Fault(JsonFault::TooDeep)) => "TooDeep",
         Err(Failure::Fault(JsonFault::TooLarge)) => "TooLarge",

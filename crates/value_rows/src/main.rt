@@ -2,13 +2,14 @@
 //! texts, and tells what comes of it.
 //!
 //! A row is some lines up to an empty one: first what is done, then a JSON text on each line.
-//! `json` tells whether a text is one and has a value; `measure` tells what a value weighs, how
-//! deep it is, and whether it is over a limit; `text`, `number` and `truth` coerce a value; `unary`
-//! and `binary` and an operator, and `index`, take one value or two; `call` and the name of a
-//! function takes a list of its arguments; and `rounds` and what a loop goes over takes a record of
-//! what it is given. In writing `«9 x»` is x nine times. A line that begins with `# ` says what the
-//! rows behind it show. The lines are written as they are read, and behind each row, after `> `,
-//! comes what is told: of a value its kind and its text, and of a long text its size; or a fault.
+//! `json` tells whether a text is one and has a value, `record` whether it has a record; `measure`
+//! tells what a value weighs, how deep it is, and whether it is over a limit; `text`, `number` and
+//! `truth` coerce a value; `unary` and `binary` and an operator, and `index`, take one value or
+//! two; `call` and the name of a function takes a list of its arguments; and `rounds` and what a
+//! loop goes over takes a record of what it is given. In writing `«9 x»` is x nine times. A line
+//! that begins with `# ` says what the rows behind it show. The lines are written as they are read,
+//! and behind each row, after `> `, comes what is told: of a value its kind and its text, and of a
+//! long text its size; or a fault.
 #![tactic(auto)]
 
 mod acts;
@@ -70,6 +71,9 @@ fn told(alloc: Global, lines: &[String]) -> Result<String, AllocError> {
         .unwrap_or((first.as_str(), ""));
     if act == "json" {
         return acts::json_told(alloc, written);
+    }
+    if act == "record" {
+        return acts::record_told(alloc, written);
     }
     match acts::values_of(alloc, written) {
         Ok(values) => acts::values_told(alloc, act, word, &values),
