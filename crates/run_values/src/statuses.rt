@@ -132,7 +132,7 @@ fn given_entry(
     name: &str,
     table: &[(Text, Value)],
 ) -> Result<(Text, Value), AllocError>
-    ensures { IfOk result (λ made. entry_of made ≡ (name.now, or_null (value_at name.now (map entry_of table.now)))) }
+    ensures { IfOk result (λ e. entry_of e ≡ (name.now, or_null (value_at name.now (map entry_of table.now)))) }
 {
     match value_at(table, name) {
         Some(value) => entry(alloc, name, value.copy()?),

@@ -66,7 +66,7 @@ impl AttrDecls {
 // The first of these declarations that has that name, where it is known where the first of each
 // name stands.
 fn first_of<'a>(firsts: &Firsts, decls: &'a [AttrDecl], name: &str) -> Option<&'a AttrDecl>
-    ensures { HasFirsts firsts.now decls.now → option_map (λ decl. decl.now) result ≡ first_named name.now decls.now }
+    ensures { HasFirsts firsts.now decls.now → option_map (λ d. d.now) result ≡ first_named name.now decls.now }
 {
     match firsts.get(name) {
         Some(at) => decl_at(decls, *at),

@@ -21,7 +21,7 @@ fn brought_first(
     volume: Volume,
     directive: &WrittenDirective,
 ) -> Result<First, AllocError>
-    ensures first { IfOk result (λ first. first ≡ told (brought_first (text_in files.old) chain.now volume directive.now)) }
+    ensures first { IfOk result (λ f. f ≡ told (brought_first (text_in files.old) chain.now volume directive.now)) }
     ensures files { files.new ≡ files.old }
 {
     let mut found = First::new(files.alloc(), volume);
