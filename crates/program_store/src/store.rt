@@ -103,6 +103,18 @@ impl<P: Compiled> Store<P> {
         clear(&mut self.shelves, paths);
         self.deps.remove_all(paths);
     }
+
+    /// Takes out the values that need one of the names, and tells their paths.
+    pub fn drop_dirty(&mut self, names: &Names) -> Result<Names, AllocError>
+        ensures ok { IfOk result (λ dirty. (dirty
+            ≡ dirty_in P.needed names.now (kept_in self.old.shelves.items)) × (kept_in self.new.shelves.items
+            ≡ clean_in P.needed names.now (kept_in self.old.shelves.items))) }
+        ensures err { OnErr result (kept_in self.new.shelves.items ≡ kept_in self.old.shelves.items) }
+    {
+        let dirty = self.dirty(names)?;
+        self.clear(&dirty);
+        Ok(dirty)
+    }
 }
 
 // The value of the shelf, where its needs stand so in the tree.

@@ -93,7 +93,6 @@ fn drop_dirty(
     changed: &[&str],
 ) -> Result<String, Failure<BadPath>> {
     let changed = names(alloc, changed)?;
-    let dirty = store.dirty(&changed)?;
-    store.clear(&dirty);
+    let dirty = store.drop_dirty(&changed)?;
     Ok(listed(alloc, &dirty)?)
 }
