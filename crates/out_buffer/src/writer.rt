@@ -194,6 +194,17 @@ impl Writer {
         Ok(())
     }
 
+    /// Gives the response another head.
+    pub fn set_head(&mut self, head: Head)
+        requires { self.old.committed ≡ false }
+        ensures head { self.new ≡ record self.old { head = head } }
+        ensures stands { (start : Option (List ℕ)) (before : ℕ) (taken : Option (List ℕ)) (faults : ℕ)
+            (writer : Written) → Stands start before self.old taken faults writer →
+            Stands start before self.new taken faults writer }
+    {
+        self.stream.head = head;
+    }
+
     /// Lets the response begin the session with this id.
     pub fn set_cookie(&mut self, id: Text)
         requires { self.old.committed ≡ false }

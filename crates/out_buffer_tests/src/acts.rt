@@ -19,8 +19,8 @@ pub enum Act<'a> {
     /// So many bodies are left.
     Leave(usize),
     Clear,
-    /// The response begins a session.
-    Begin,
+    /// The head becomes that of a page that isn't there, with the id of a session.
+    NotFound,
     /// How many bodies are kept, and whether something was committed.
     State,
     /// What stands in the buffer.
@@ -105,7 +105,7 @@ fn done(
             Ok(())
         }
         Act::Clear => clear(writer, told),
-        Act::Begin => begin(alloc, writer),
+        Act::NotFound => not_found(alloc, writer),
         Act::State => state(writer, told),
         Act::Rest => tell(told, text_of(writer.rest())),
         Act::Sink => tell(told, text_of(sink.taken())),
@@ -161,9 +161,11 @@ fn clear(writer: &mut Writer, told: &mut String) -> Result<(), AllocError> {
     }
 }
 
-fn begin(alloc: Global, writer: &mut Writer) -> Result<(), AllocError> {
+fn not_found(alloc: Global, writer: &mut Writer) -> Result<(), AllocError> {
+    let head = Head::plain(Status::NotFound, false);
     let id = Text::copy_of(alloc, "00ff")?;
     if !writer.committed() {
+        writer.set_head(head);
         writer.set_cookie(id);
     }
     Ok(())

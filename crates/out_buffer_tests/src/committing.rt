@@ -109,7 +109,7 @@ pub const ROWS: [Row<'static>; 11] = [
         end: Some(false),
         told: "Failed|HTTP/1.1 200 OK\r\nContent-Type: text/html;charset=UTF-8\r\nTransfer-Encoding: chunked\r\n\r\n2\r\n",
     },
-    // A session may begin until something is committed.
+    // Another head may be given until something is committed.
     Row {
         kilobytes: 1,
         autoflush: true,
@@ -122,11 +122,11 @@ pub const ROWS: [Row<'static>; 11] = [
             Act::State,
             Act::Flush,
             Act::State,
-            Act::Begin,
-            Act::Put("text"),
+            Act::NotFound,
+            Act::Put("gone"),
         ],
         end: Some(false),
-        told: "0 open|0 open|HTTP/1.1 200 OK\r\nContent-Type: text/html;charset=UTF-8\r\nSet-Cookie: JSESSIONID=00ff; Path=/; HttpOnly\r\nContent-Length: 4\r\n\r\ntext",
+        told: "0 open|0 open|HTTP/1.1 404 Not Found\r\nContent-Type: text/plain;charset=UTF-8\r\nSet-Cookie: JSESSIONID=00ff; Path=/; HttpOnly\r\nContent-Length: 4\r\n\r\ngone",
     },
     Row {
         kilobytes: 1,
@@ -140,10 +140,10 @@ pub const ROWS: [Row<'static>; 11] = [
             Act::State,
             Act::Flush,
             Act::State,
-            Act::Begin,
-            Act::Put("text"),
+            Act::NotFound,
+            Act::Put("gone"),
         ],
         end: Some(false),
-        told: "0 open|0 open|HTTP/1.1 200 OK\r\nContent-Type: text/html;charset=UTF-8\r\nSet-Cookie: JSESSIONID=00ff; Path=/; HttpOnly\r\nContent-Length: 4\r\n\r\n",
+        told: "0 open|0 open|HTTP/1.1 404 Not Found\r\nContent-Type: text/plain;charset=UTF-8\r\nSet-Cookie: JSESSIONID=00ff; Path=/; HttpOnly\r\nContent-Length: 4\r\n\r\n",
     },
 ];
