@@ -1,9 +1,9 @@
 //! The program `pages_audit`: says of the journals that stand one behind the other on standard
 //! input whether each is right. It writes one line: `yes` with how many journals and entries there
-//! are; or `no` with how many right journals stand before and which part of the next is wrong first;
-//! or `notjournal` or `toolong` with how many right ones stand before. Its status is 0 for yes and 6
-//! for the other lines, 1 where there is any word, 3 and 4 where reading or writing failed, and 5
-//! where memory ran out.
+//! are; or `no` with how many right journals stand before and which part of the next is wrong
+//! first; or `notjournal` or `toolong` with how many right ones stand before. Its status is 0 for
+//! yes and 6 for the other lines, 1 where there is any word, 3 and 4 where reading or writing
+//! failed, and 5 where memory ran out.
 #![tactic(auto)]
 
 use edges::{ReadSource, WriteSink};

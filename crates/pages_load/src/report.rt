@@ -16,7 +16,7 @@ pub(crate) fn report(
     requires few { number ≤ MAX_PAGES }
     ensures { IfOk result (λ lines. lines.items ≡ report number history.now.items answers.now) }
 {
-    // (by this law the messages for so many pages ask four times as often for a page)
+    // By this law the messages for so many pages ask four times as often for a page.
     counted();
     let mut lines = Vec::new(alloc);
     add_line(alloc, &mut lines, b"pages ", number as usize)?;

@@ -1,6 +1,6 @@
 use crate::wires::Wire;
 
-/// The connections of a round, by whom they are for.
+/// The connections of a round: those of readers, of the editor and of previews.
 #[derive(Clone, Copy)]
 pub struct Parted<'a> {
     pub readers: &'a [Wire],
