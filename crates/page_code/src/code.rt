@@ -1,7 +1,7 @@
 ghost use Rattle.std.specs.Prelude.{◌≡◌, ◌++◌, ◌∷◌, [], length, slice_get, option_map, IfOk, OnOk, OnErr};
 ghost use Rattle.page_code.specs.Shapes.{cell};
 
-use crate::compact::compact;
+use crate::compact::{compact, sharing_with};
 use crate::instr::Instr;
 use crate::shape::Shape;
 use crate::shared::Shared;
@@ -61,12 +61,13 @@ impl Code {
         Ok(())
     }
 
-    /// The cells of another code behind these.
+    /// The cells of another code behind these. Where they are few, each shares its place and its
+    /// shape with a near cell of these that has the same.
     pub fn join(&mut self, other: Code) -> Result<(), AllocError>
         ensures ok { OnOk result (self.new ≡ self.old ++ other) }
         ensures err { OnErr result (self.new ≡ self.old) }
     {
-        let mut cells = other.cells;
+        let mut cells = sharing_with(self.cells.as_slice(), other.cells)?;
         self.cells.append(&mut cells)?;
         Ok(())
     }

@@ -22,6 +22,22 @@ pub(crate) fn compact(cells: Vec<Cell>) -> Result<Vec<Cell>, AllocError>
     Ok(made)
 }
 
+// The same cells, each of which shares what it can with near cells before the first of them, where
+// there are few.
+pub(crate) fn sharing_with(before: &[Cell], cells: Vec<Cell>) -> Result<Vec<Cell>, AllocError>
+    ensures { IfOk result (λ same. same.items ≡ cells.items) }
+{
+    if before.is_empty() || cells.len() > NEAR {
+        return Ok(cells);
+    }
+    let mut made = Vec::with_capacity(*cells.allocator(), cells.len())?;
+    for cell in cells {
+        let cell = sharing(before, cell)?;
+        made.push(cell)?;
+    }
+    Ok(made)
+}
+
 // The same cell, which shares what it can with the near cells before it.
 fn sharing(before: &[Cell], mut cell: Cell) -> Result<Cell, AllocError>
     ensures { IfOk result (λ same. same ≡ cell) }
