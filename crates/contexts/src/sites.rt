@@ -49,6 +49,8 @@ fn site_at<P: Compiled>(
     requires few { passes ≤ 64 }
     ensures { IfOk result (λ site. site ≡ site_at seed passes context) }
 {
+    // An array goes through a variable into a struct that is handed on: the prover doesn't follow
+    // it there otherwise.
     let own = seed_at(seed, context);
     let settings = SiteSettings {
         seed: own,

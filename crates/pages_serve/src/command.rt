@@ -183,6 +183,8 @@ fn site_of(alloc: Global, settings: &Settings) -> Result<Site<Made>, AllocError>
     ensures passes { IfOk result (λ site. site.opening.passes
         ≡ settings.now.workers + 1 + count_of settings.now.preview_port) }
 {
+    // An array goes through a variable into a struct that is handed on: the prover doesn't follow
+    // it there otherwise.
     let seed = settings.seed;
     let of_site = SiteSettings {
         seed,

@@ -42,9 +42,11 @@ struct Row {
     answers: &'static [&'static str],
 }
 
-// Two requests are answered at once: one thread for all would answer nobody while the first
-// operation is held, and so would a lock that is held over a request. Readers can't edit. What is
-// seen on the port of previews isn't seen on that of readers.
+// In the first round a request is held: its first operation waits at the gate until the other
+// request has its answer. So two are under way at once: with one thread for all connections, or one
+// lock held over a request, nobody would be answered until the gate gives up, which is a failure.
+// In the second, readers can't edit. In the third, what is seen on the port of previews isn't seen
+// on that of readers.
 const ROWS: [Row; 3] = [
     Row {
         said: Said {
