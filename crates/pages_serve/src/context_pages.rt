@@ -57,7 +57,8 @@ pub(crate) fn pages_for<'a, R, W>(
     role: Role,
     clocks: &'a W,
 ) -> ContextPages<'a, R, W>
-    ensures { result.names.now ≡ names.now }
+    ensures names { result.names.now ≡ names.now }
+    ensures role { result.role ≡ role }
 {
     ContextPages {
         alloc,
