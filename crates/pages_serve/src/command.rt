@@ -7,9 +7,9 @@ ghost use Rattle.serve_words.specs.Words.{count_of, settings_asked};
 
 use crate::next_round::onward;
 use crate::notice::announce;
-use crate::pages::{Audience, Pages};
 use crate::platform::Platform;
 use crate::several::serve_contexts;
+use crate::talks::talks_of;
 use crate::threads::can_run;
 use crate::unmarked::without_rounds;
 use compiled_pages::Made;
@@ -19,7 +19,7 @@ use edges::{Accept, Bind, Clocks, Failed, OpenGate, Sink};
 use pg_value::Attrs;
 use serve_words::{Asked, Settings, settings_asked};
 use site_core::{Site, SiteSettings, start};
-use site_rounds::{Listeners, Service, Talks, round};
+use site_rounds::{Listeners, Service, round};
 use site_words::JOURNAL_LIMIT;
 use source_tree::Tree;
 use std::alloc::{AllocError, Global};
@@ -116,20 +116,7 @@ fn rounds<R: Threads + Wait + Sync, A: Accept + Sync + Drop, W: Clocks + Sync, J
     ensures { result ≡ 5 }
 {
     let Platform { rt, alloc, clocks } = platform;
-    let talks = Talks {
-        readers: Pages {
-            alloc,
-            audience: Audience::Readers,
-        },
-        editors: Pages {
-            alloc,
-            audience: Audience::Editors,
-        },
-        previews: Pages {
-            alloc,
-            audience: Audience::Previews,
-        },
-    };
+    let talks = talks_of(alloc);
     for _ in rt.forever() {
         let service = Service {
             talks: &talks,

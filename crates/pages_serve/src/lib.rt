@@ -12,6 +12,7 @@ mod notice;
 mod pages;
 mod platform;
 mod several;
+mod talks;
 mod threads;
 mod unmarked;
 
@@ -19,3 +20,4 @@ pub use command::serve;
 pub use next_round::onward;
 pub use pages::{Audience, Pages};
 pub use platform::Platform;
+pub use talks::talks_of;

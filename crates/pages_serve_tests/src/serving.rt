@@ -5,9 +5,9 @@ use crate::parted::Parted;
 use crate::wires::{HeldGate, Wire, WireAccept};
 use compiled_pages::Made;
 use edges::StillClock;
-use pages_serve::{Audience, Pages};
+use pages_serve::talks_of;
 use site_core::Site;
-use site_rounds::{Listeners, Service, Talks, round};
+use site_rounds::{Listeners, Service, round};
 use std::alloc::Global;
 use std::sync::Wait;
 use std::sync::atomic::AtomicU64;
@@ -92,20 +92,7 @@ fn serve_once<R: Threads + Wait + Sync>(
             Some(WireAccept::new(rt, alloc, wires.previews))
         },
     };
-    let talks = Talks {
-        readers: Pages {
-            alloc,
-            audience: Audience::Readers,
-        },
-        editors: Pages {
-            alloc,
-            audience: Audience::Editors,
-        },
-        previews: Pages {
-            alloc,
-            audience: Audience::Previews,
-        },
-    };
+    let talks = talks_of(alloc);
     let clocks = StillClock { moment: 0 };
     let service = Service {
         talks: &talks,
