@@ -1,5 +1,6 @@
-//! Tests of the response of a request: over the port of a pass that is alone on its site, also from
-//! one request of a session to the next, and over a site on which another pass publishes meanwhile.
+//! Tests of the response of a request over the port of a pass that is alone on its site, also from
+//! one request of a session to the next; and of connections to a site on which another pass
+//! publishes meanwhile.
 #![tactic(auto)]
 
 #[cfg(test)]

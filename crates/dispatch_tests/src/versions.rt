@@ -2,12 +2,12 @@ ghost use Rattle.std.specs.Prelude.{◌≡◌, ◌<◌, All, IfSome};
 ghost use Rattle.pass_course.specs.Course.{IsIdle};
 ghost use Rattle.turn_table.specs.Passes.{IsPassOf};
 
-use crate::asking::ask;
+use crate::asking::connect;
 use crate::opening::{AMPLE, edits_of, resumed};
 use crate::preceded::Preceded;
 use crate::publishing::Publishing;
 use compiled_pages::Made;
-use edges::{MemClock, MemSink, OpenGate, Steps, Unseen};
+use edges::{MemClock, OpenGate, Steps, Unseen};
 use site_shared::{SharedPort, SharedSite, SitePasses, start};
 use site_words::Port;
 use source_tree::Edits;
@@ -28,9 +28,16 @@ const FILES: [(&str, &str); 2] = [
 
 const CHANGED: [(&str, &str); 1] = [("/inc.jsp", "<%@ page session=\"false\" %>new")];
 
-// The outcomes of two requests, the version that is published meanwhile, and the answers.
-const TOLD: &str = "Whole Whole Some(4) \
+// A connection that asks for the page once, and one that does so twice.
+const ONCE: &str = "GET /a.jsp HTTP/1.1\r\nHost: x\r\n\r\n";
+
+const TWICE: &str = "GET /a.jsp HTTP/1.1\r\nHost: x\r\n\r\nGET /a.jsp HTTP/1.1\r\nHost: x\r\n\r\n";
+
+// The version that is published during the first request of a connection, how that connection ends
+// and what it is answered, and then one over the port of a pass that has seen nothing of all this.
+const TOLD: &str = "Some(4) Done \
     HTTP/1.1 200 OK\r\nContent-Type: text/html;charset=UTF-8\r\nContent-Length: 4\r\n\r\naold\
+    HTTP/1.1 200 OK\r\nContent-Type: text/html;charset=UTF-8\r\nContent-Length: 4\r\n\r\nanew Done \
     HTTP/1.1 200 OK\r\nContent-Type: text/html;charset=UTF-8\r\nContent-Length: 4\r\n\r\nanew";
 
 // The port of one of these passes, which it takes out.
@@ -50,27 +57,26 @@ fn port_of<'a, R: Wait>(
     Some(site.port(rt, pass))
 }
 
-// What comes of two requests over this port, and the version that its other pass publishes while
-// the first is under way.
-fn asked_twice<N: Ledger, P: Port<Made>, Q: Port<Made>>(
+// What comes of a connection over this port, whose other pass publishes while the first request is
+// under way, and then of one over the port of a third pass.
+fn talked<N: Ledger, P: Port<Made>, Q: Port<Made>, T: Port<Made>>(
     alloc: Global,
     blank: Blank,
     port: &mut Preceded<P, Publishing<'_, Q>>,
+    third: &mut T,
 ) -> Result<String, Fail>
     requires name { blank.name ≡ N.name }
     requires parts { blank.parts ≡ N.parts }
     requires some { 0 < N.parts }
     requires idle { IsIdle (P.opening port.old.port) (P.pass port.old.port) (P.seen port.old.port) }
+    requires third { IsIdle (T.opening third.old) (T.pass third.old) (T.seen third.old) }
 {
-    let mut clock = MemClock::new(vec![in alloc; 0, 1]?);
-    let mut sink = MemSink::new(alloc, Vec::new(alloc));
+    let mut clock = MemClock::new(vec![in alloc; 0, 1, 2]?);
     let mut steps = Steps::<Unseen<N>>::unseen(blank);
-    let asked = ("GET", "/a.jsp", "");
-    let first = ask(alloc, port, asked, &mut sink, &mut clock, &mut steps)?;
-    let second = ask(alloc, port, asked, &mut sink, &mut clock, &mut steps)?;
-    let text = str::from_utf8(sink.taken()).unwrap_or("no text");
+    let first = connect(alloc, port, TWICE, &mut clock, &mut steps)?;
+    let second = connect(alloc, third, ONCE, &mut clock, &mut steps)?;
     let published = port.before.published;
-    Ok(format!(in alloc; "{first:?} {second:?} {published:?} {text}")?)
+    Ok(format!(in alloc; "{published:?} {first} {second}")?)
 }
 
 // The same over a shared site of these passes, of which one publishes the edits.
@@ -90,7 +96,8 @@ fn on_site<N: Ledger, R: Wait>(
 {
     let other = port_of(rt, site, passes);
     let port = port_of(rt, site, passes);
-    let (Some(other), Some(port)) = (other, port) else {
+    let third = port_of(rt, site, passes);
+    let (Some(other), Some(port), Some(mut third)) = (other, port, third) else {
         return Err(Fail::new("a pass is missing"));
     };
     let mut port = Preceded {
@@ -101,7 +108,7 @@ fn on_site<N: Ledger, R: Wait>(
             published: None,
         },
     };
-    asked_twice::<N, _, _>(alloc, blank, &mut port)
+    talked::<N, _, _, _>(alloc, blank, &mut port, &mut third)
 }
 
 // The same on a shared site of the version 3.
@@ -111,7 +118,7 @@ fn come_of<N: Ledger, R: Wait>(rt: &R, alloc: Global, blank: Blank) -> Result<St
     requires some { 0 < N.parts }
 {
     let edits = edits_of(alloc, &CHANGED)?;
-    let site = resumed(alloc, &FILES, AMPLE, 3, 2)?;
+    let site = resumed(alloc, &FILES, AMPLE, 3, 3)?;
     let (site, mut passes) = start(alloc, site, OpenGate)?;
     on_site::<N, R>(rt, alloc, blank, &site, &mut passes, &edits)
 }
