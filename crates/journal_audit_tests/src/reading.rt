@@ -1,5 +1,5 @@
-use crate::{Part, Unread, next_journal};
 use edges::MemSource;
+use journal_reader::{Part, Unread, next_journal};
 use pg_text::{Failure, Listed, Names, Text};
 use pg_value::{Attrs, Value, depth};
 use std::alloc::Global;
