@@ -12,36 +12,59 @@ use std::marker::Brand;
 use std::sync::ledger::{Blank, Ledger};
 use std::test::Fail;
 
+// How many bytes were read or written at a call.
+type Count = Result<usize, Failed>;
+
+// Whether a source answers reads so, one after the other.
+fn gives<S: Source>(source: &mut S, counts: &[Count]) -> bool {
+    let mut piece = [0u8; 8];
+    let mut is_so = true;
+    for wanted in counts {
+        is_so = is_so && source.read(&mut piece) == *wanted;
+    }
+    is_so
+}
+
+// Whether a sink answers writes of this piece so, one after the other.
+fn takes<S: Sink>(sink: &mut S, piece: &[u8], counts: &[Count]) -> bool {
+    let mut is_so = true;
+    for wanted in counts {
+        is_so = is_so && sink.write(piece) == *wanted;
+    }
+    is_so
+}
+
+// Whether a clock answers so, one moment after the other.
+fn tells<C: Clock>(clock: &mut C, moments: &[u64]) -> bool {
+    let mut is_so = true;
+    for wanted in moments {
+        is_so = is_so && clock.now() == *wanted;
+    }
+    is_so
+}
+
 #[test]
 fn a_source_in_memory_gives_pieces_and_fails_by_number(rt: HostRuntime) -> Result<(), Fail> {
     let bytes = b"abc".to_vec(rt.alloc())?;
     let mut source = MemSource::new(bytes, 2, vec![in rt.alloc(); 1]?);
-    let mut piece = [0u8; 8];
-    for &wanted in &[Ok(2), Err(Failed), Ok(1), Ok(0)] {
-        assert_eq!(rt; source.read(&mut piece), wanted);
-    }
+    assert!(rt; gives(&mut source, &[Ok(2), Err(Failed), Ok(1), Ok(0)]));
     Ok(())
 }
 
 #[test]
 fn a_sink_in_memory_takes_all_and_fails_by_number(rt: HostRuntime) -> Result<(), Fail> {
     let mut sink = MemSink::new(rt.alloc(), vec![in rt.alloc(); 1]?);
-    for &wanted in &[Ok(2), Err(Failed), Ok(2)] {
-        assert_eq!(rt; sink.write(b"hi"), wanted);
-    }
-    assert_eq!(rt; sink.taken(), b"hihi".as_slice());
+    let takes_all = takes(&mut sink, b"hi", &[Ok(2), Err(Failed), Ok(2)]);
+    assert!(rt; takes_all && sink.taken() == b"hihi".as_slice());
     Ok(())
 }
 
 #[test]
-fn readers_and_writers_of_the_library_serve(rt: HostRuntime) -> Result<(), Fail> {
+fn readers_and_writers_of_the_library_serve(rt: HostRuntime) {
     let mut source = ReadSource::new(Cursor::new(b"abc".as_slice()));
-    let mut piece = [0u8; 8];
-    assert_eq!(rt; source.read(&mut piece), Ok(3));
-    assert_eq!(rt; source.read(&mut piece), Ok(0));
+    let gives_all = gives(&mut source, &[Ok(3), Ok(0)]);
     let mut sink = WriteSink::new(Vec::<u8>::new(rt.alloc()));
-    assert_eq!(rt; sink.write(b"abc"), Ok(3));
-    Ok(())
+    assert!(rt; gives_all && takes(&mut sink, b"abc", &[Ok(3)]));
 }
 
 // A reader and a writer that fail once, and a writer that then takes nothing.
@@ -81,27 +104,17 @@ impl Write for Halting {
 // An interruption is an error too, and so is a 0 for a piece that isn't empty.
 #[test]
 fn errors_and_pieces_that_are_not_taken_are_failures(rt: HostRuntime) {
-    let mut piece = [0u8; 8];
     let mut source = ReadSource::new(Halting { failed: false });
-    assert_eq!(rt; source.read(&mut piece), Err(Failed));
-    assert_eq!(rt; source.read(&mut piece), Ok(0));
+    let gives_none = gives(&mut source, &[Err(Failed), Ok(0)]);
     let mut sink = WriteSink::new(Halting { failed: false });
-    for &(piece, wanted) in &[
-        (b"ab".as_slice(), Err(Failed)),
-        (b"ab", Err(Failed)),
-        (b"", Ok(0)),
-    ] {
-        assert_eq!(rt; sink.write(piece), wanted);
-    }
+    let takes_none = takes(&mut sink, b"ab", &[Err(Failed), Err(Failed)]);
+    assert!(rt; gives_none && takes_none && takes(&mut sink, b"", &[Ok(0)]));
 }
 
 #[test]
 fn a_clock_in_memory_keeps_its_last_moment(rt: HostRuntime) -> Result<(), Fail> {
     let mut clock = MemClock::new(Vec::from_array(rt.alloc(), [5, 3])?);
-    for &wanted in &[5, 3, 3] {
-        assert_eq!(rt; clock.now(), wanted);
-    }
-    assert_eq!(rt; clock.left(), 1);
+    assert!(rt; tells(&mut clock, &[5, 3, 3]) && clock.left() == 1);
     OpenGate.pass(0);
     Ok(())
 }
@@ -110,11 +123,9 @@ fn a_clock_in_memory_keeps_its_last_moment(rt: HostRuntime) -> Result<(), Fail> 
 fn a_clock_notes_what_another_answers(rt: HostRuntime) -> Result<(), Fail> {
     let moments = Vec::from_array(rt.alloc(), [5, 3])?;
     let mut clock = NotedClock::new(rt.alloc(), MemClock::new(moments));
-    assert!(rt; matches!(clock.noted(), Some([])));
-    for &wanted in &[5, 3, 3] {
-        assert_eq!(rt; clock.now(), wanted);
-    }
-    assert!(rt; matches!(clock.noted(), Some([5, 3, 3])));
+    let is_new = matches!(clock.noted(), Some([]));
+    let is_told = tells(&mut clock, &[5, 3, 3]);
+    assert!(rt; is_new && is_told && matches!(clock.noted(), Some([5, 3, 3])));
     Ok(())
 }
 

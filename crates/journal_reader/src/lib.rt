@@ -18,8 +18,6 @@ mod opening;
 mod part;
 mod rising;
 mod talk;
-#[cfg(test)]
-mod tests;
 mod texts;
 mod tree;
 mod unread;

@@ -1,5 +1,6 @@
 use crate::lines::made;
 use load_gen::counted;
+use std::alloc::{AllocError, Global};
 use std::test::Fail;
 
 const ONE_PAGE: &str =
@@ -11,34 +12,47 @@ fn a_site_of_one_page_is_these_messages(rt: HostRuntime) -> Result<(), Fail> {
     Ok(())
 }
 
-#[test]
-fn the_pages_of_a_small_site_come_first(rt: HostRuntime) -> Result<(), Fail> {
-    let text = made(rt.alloc(), 2)?;
-    let first =
-        "PUT /_editor/files/p0.jsp HTTP/1.1\r\nHost: x\r\nContent-Length: 73\r\n\r\n<%@ page session=\"false\" %><%@ include file=\"/inc0.jspf\" %>${param.n + 0}PUT /_editor/files/p1.jsp HTTP/1.1\r\nHost: x\r\nContent-Length: 73\r\n\r\n<%@ page session=\"false\" %><%@ include file=\"/inc1.jspf\" %>${param.n + 1}";
-    assert_eq!(rt; text.as_str().starts_with(first), true);
-    assert_eq!(rt; text.len(), 1569);
-    Ok(())
+// The pages of a site of two.
+const TWO_PAGES: &str =
+    "PUT /_editor/files/p0.jsp HTTP/1.1\r\nHost: x\r\nContent-Length: 73\r\n\r\n<%@ page session=\"false\" %><%@ include file=\"/inc0.jspf\" %>${param.n + 0}PUT /_editor/files/p1.jsp HTTP/1.1\r\nHost: x\r\nContent-Length: 73\r\n\r\n<%@ page session=\"false\" %><%@ include file=\"/inc1.jspf\" %>${param.n + 1}";
+
+// Such a site from its first publishing on: each round changes a part, publishes it and asks four
+// times.
+const TWO_ROUNDS: &str =
+    "POST /_editor/publish HTTP/1.1\r\nHost: x\r\n\r\nPUT /_editor/files/inc0.jspf HTTP/1.1\r\nHost: x\r\nContent-Length: 3\r\n\r\nv1;POST /_editor/publish HTTP/1.1\r\nHost: x\r\n\r\nGET /p0.jsp?n=0 HTTP/1.1\r\nHost: x\r\n\r\nGET /p1.jsp?n=0 HTTP/1.1\r\nHost: x\r\n\r\nGET /p0.jsp?n=0 HTTP/1.1\r\nHost: x\r\n\r\nGET /p1.jsp?n=0 HTTP/1.1\r\nHost: x\r\n\r\nPUT /_editor/files/inc1.jspf HTTP/1.1\r\nHost: x\r\nContent-Length: 3\r\n\r\nv2;POST /_editor/publish HTTP/1.1\r\nHost: x\r\n\r\nGET /p1.jsp?n=1 HTTP/1.1\r\nHost: x\r\n\r\nGET /p0.jsp?n=1 HTTP/1.1\r\nHost: x\r\n\r\nGET /p1.jsp?n=1 HTTP/1.1\r\nHost: x\r\n\r\nGET /p0.jsp?n=1 HTTP/1.1\r\nHost: x\r\n\r\n";
+
+// How many pages a site has, how its messages begin and end, and how many bytes they have.
+const SITES: [(u32, &str, &str, usize); 5] = [
+    (0, "", "", 0),
+    (2, TWO_PAGES, TWO_ROUNDS, 1_569),
+    (
+        12,
+        "",
+        "GET /p2.jsp?n=11 HTTP/1.1\r\nHost: x\r\n\r\n",
+        5_622,
+    ),
+    (1_000, "", "", 424_556),
+    (1_001, "", "", 0),
+];
+
+// Whether the messages for so many pages begin and end so, and have so many bytes.
+fn is_made(
+    alloc: Global,
+    pages: u32,
+    first: &str,
+    last: &str,
+    bytes: usize,
+) -> Result<bool, AllocError> {
+    let text = made(alloc, pages)?;
+    let has_ends = text.as_str().starts_with(first) && text.as_str().ends_with(last);
+    Ok(has_ends && text.len() == bytes)
 }
 
 #[test]
-fn each_round_changes_a_part_and_asks_four_times(rt: HostRuntime) -> Result<(), Fail> {
-    let text = made(rt.alloc(), 2)?;
-    let rest =
-        "POST /_editor/publish HTTP/1.1\r\nHost: x\r\n\r\nPUT /_editor/files/inc0.jspf HTTP/1.1\r\nHost: x\r\nContent-Length: 3\r\n\r\nv1;POST /_editor/publish HTTP/1.1\r\nHost: x\r\n\r\nGET /p0.jsp?n=0 HTTP/1.1\r\nHost: x\r\n\r\nGET /p1.jsp?n=0 HTTP/1.1\r\nHost: x\r\n\r\nGET /p0.jsp?n=0 HTTP/1.1\r\nHost: x\r\n\r\nGET /p1.jsp?n=0 HTTP/1.1\r\nHost: x\r\n\r\nPUT /_editor/files/inc1.jspf HTTP/1.1\r\nHost: x\r\nContent-Length: 3\r\n\r\nv2;POST /_editor/publish HTTP/1.1\r\nHost: x\r\n\r\nGET /p1.jsp?n=1 HTTP/1.1\r\nHost: x\r\n\r\nGET /p0.jsp?n=1 HTTP/1.1\r\nHost: x\r\n\r\nGET /p1.jsp?n=1 HTTP/1.1\r\nHost: x\r\n\r\nGET /p0.jsp?n=1 HTTP/1.1\r\nHost: x\r\n\r\n";
-    assert_eq!(rt; text.as_str().ends_with(rest), true);
-    Ok(())
-}
-
-#[test]
-fn a_site_has_as_many_rounds_as_pages(rt: HostRuntime) -> Result<(), Fail> {
-    let text = made(rt.alloc(), 12)?;
-    assert_eq!(rt; text.len(), 5622);
-    assert_eq!(rt;
-        text.as_str()
-            .ends_with("GET /p2.jsp?n=11 HTTP/1.1\r\nHost: x\r\n\r\n"),
-        true
-    );
+fn sites_of_one_to_a_thousand_pages_have_their_messages(rt: HostRuntime) -> Result<(), Fail> {
+    for &(pages, first, last, bytes) in &SITES {
+        assert!(rt; is_made(rt.alloc(), pages, first, last, bytes)?);
+    }
     Ok(())
 }
 
@@ -46,15 +60,8 @@ fn a_site_has_as_many_rounds_as_pages(rt: HostRuntime) -> Result<(), Fail> {
 fn each_publishing_but_the_first_is_followed_by_four_requests(rt: HostRuntime) -> Result<(), Fail> {
     counted();
     let text = made(rt.alloc(), 12)?;
-    assert_eq!(rt; text.as_str().matches("POST /_editor/publish ").count(), 13);
-    assert_eq!(rt; text.as_str().matches("GET /p").count(), 48);
-    Ok(())
-}
-
-#[test]
-fn a_site_has_one_to_a_thousand_pages(rt: HostRuntime) -> Result<(), Fail> {
-    for &(pages, bytes) in &[(0, 0), (1_000, 424_556), (1_001, 0)] {
-        assert_eq!(rt; made(rt.alloc(), pages)?.len(), bytes);
-    }
+    let publishings = text.as_str().matches("POST /_editor/publish ").count();
+    let requests = text.as_str().matches("GET /p").count();
+    assert!(rt; (publishings, requests) == (13, 48));
     Ok(())
 }

@@ -31,9 +31,8 @@ fn a_journal_is_cut_off_where_a_write_fails(rt: HostRuntime) -> Result<(), Fail>
     assert_eq!(rt; status, 0);
     for call in 0..WRITES {
         let (status, text) = told(rt.alloc(), &list, 4_096, &[0], &[call])?;
-        assert_eq!(rt; status, 4);
-        assert!(rt; text.len() < wanted.len());
-        assert!(rt; wanted.starts_with(&text));
+        let is_cut = text.len() < wanted.len() && wanted.starts_with(&text);
+        assert!(rt; status == 4 && is_cut);
     }
     Ok(())
 }

@@ -34,11 +34,10 @@ fn the_next_connection_finds_the_session(rt: HostRuntime) -> Result<(), Fail> {
     let (status, text) = told(rt.alloc(), &list, 7, &[0], &[])?;
     let mut end = ANSWERS.as_bytes().to_vec(rt.alloc())?;
     end.push(0)?;
-    assert_eq!(rt; status, 0);
-    assert!(rt; text.ends_with(&end));
     let marks = text
         .windows(8)
         .filter(|bytes| *bytes == b"PGJRNL1\n".as_slice());
-    assert_eq!(rt; marks.count(), 2);
+    let journals = marks.count();
+    assert!(rt; (status, journals) == (0, 2) && text.ends_with(&end));
     Ok(())
 }

@@ -144,7 +144,8 @@ fn counts(names: Names) -> (usize, bool, usize) {
 #[test]
 fn names_are_distinct_in_order_and_counted(rt: HostRuntime) -> Result<(), Fail> {
     let names = names_of(rt.alloc(), &PATHS)?;
-    assert!(rt; matches!(are_distinct(rt.alloc(), &names), Ok(true)));
-    assert!(rt; counts(names) == (3, false, 3));
+    let are_found = matches!(are_distinct(rt.alloc(), &names), Ok(true));
+    let counted = counts(names);
+    assert!(rt; are_found && counted == (3, false, 3));
     Ok(())
 }

@@ -19,7 +19,10 @@ fn made(alloc: Global, letters: usize) -> Result<usize, Failure<RunFault>> {
 
 #[test]
 fn a_made_text_is_measured(rt: HostRuntime) {
-    assert_eq!(rt; made(rt.alloc(), 1_048_558), Ok(1_048_560));
-    let longer = made(rt.alloc(), 1_048_559);
-    assert_eq!(rt; longer, Err(Failure::Fault(RunFault::ValueTooLarge)));
+    for &(letters, ref wanted) in &[
+        (1_048_558, Ok(1_048_560)),
+        (1_048_559, Err(Failure::Fault(RunFault::ValueTooLarge))),
+    ] {
+        assert!(rt; made(rt.alloc(), letters) == *wanted);
+    }
 }

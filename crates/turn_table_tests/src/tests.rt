@@ -137,16 +137,18 @@ fn after_adding<R: Wait>(rt: &R, turns: &Turns<Sum>, mut pass: Pass<Sum>, times:
 fn each_pass_sees_one_history(rt: HostRuntime) -> Result<(), AllocError> {
     let alloc = rt.alloc();
     let (turns, mut first, mut second) = two(alloc)?;
-    assert_eq!(rt; second.number(), 1);
+    let number = second.number();
     add_ones(&rt, &turns, &mut first, 3);
     let note = turns.note(&mut first);
-    assert_eq!(rt; turns.latest(&mut second), 3);
+    let latest = turns.latest(&mut second);
     turns.meet(&mut second, note);
-    assert_eq!(rt; turns.latest(&mut second), 3);
-    assert!(rt; matches!(turns.act(&rt, &mut second, 0), Acted::Refused(Zero)));
-    assert_eq!(rt; turns.latest(&mut second), 3);
-    assert!(rt; matches!(turns.act(&rt, &mut second, 1), Acted::Did(4)));
-    assert_eq!(rt; close(alloc, turns, first, second)?, 4);
+    let met = turns.latest(&mut second);
+    let is_refused = matches!(turns.act(&rt, &mut second, 0), Acted::Refused(Zero));
+    let kept = turns.latest(&mut second);
+    let is_added = matches!(turns.act(&rt, &mut second, 1), Acted::Did(4));
+    let sum = close(alloc, turns, first, second)?;
+    let is_seen = (latest, met, kept) == (3, 3, 3);
+    assert!(rt; is_seen && is_refused && is_added && (number, sum) == (1, 4));
     Ok(())
 }
 

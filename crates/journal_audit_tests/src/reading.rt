@@ -1,5 +1,5 @@
-use crate::{Part, Unread, next_journal};
 use edges::MemSource;
+use journal_reader::{Part, Unread, next_journal};
 use pg_text::{Failure, Listed, Names, Text};
 use pg_value::{Attrs, Value, depth};
 use std::alloc::Global;
@@ -18,18 +18,48 @@ fn read<T: Part + Drop>(
     Ok((failure, room))
 }
 
+// A part that begins with how much it has.
+#[derive(Clone, Copy)]
+enum Sort {
+    List,
+    Text,
+    Numbers,
+    Names,
+    Attributes,
+}
+
+// The same of a part of this sort.
+fn read_sort(
+    alloc: Global,
+    sort: Sort,
+    bytes: &[u8],
+) -> Result<(Option<Failure<Unread>>, u64), Fail> {
+    match sort {
+        Sort::List => read::<Value>(alloc, bytes),
+        Sort::Text => read::<Text>(alloc, bytes),
+        Sort::Numbers => read::<Listed<u64>>(alloc, bytes),
+        Sort::Names => read::<Names>(alloc, bytes),
+        Sort::Attributes => read::<Attrs>(alloc, bytes),
+    }
+}
+
 const NOT_THERE: Failure<Unread> = Failure::Fault(Unread::NotThere);
 
 const ALL_ONES: [u8; 9] = [4, 255, 255, 255, 255, 255, 255, 255, 255];
 
+const NONE: [u8; 8] = [0; 8];
+
 #[test]
 fn a_list_of_more_items_than_there_are_is_not_there(rt: HostRuntime) -> Result<(), Fail> {
-    let alloc = rt.alloc();
-    assert!(rt; read::<Value>(alloc, &ALL_ONES)? == (Some(NOT_THERE), 991));
-    assert!(rt; read::<Text>(alloc, &ALL_ONES[1..])? == (Some(NOT_THERE), 992));
-    assert!(rt; read::<Listed<u64>>(alloc, &ALL_ONES[1..])? == (Some(NOT_THERE), 992));
-    assert!(rt; read::<Names>(alloc, &[0; 8])? == (None, 992));
-    assert!(rt; read::<Attrs>(alloc, &[0; 8])? == (None, 992));
+    for &(sort, bytes, ref answer) in &[
+        (Sort::List, &ALL_ONES[..], (Some(NOT_THERE), 991)),
+        (Sort::Text, &ALL_ONES[1..], (Some(NOT_THERE), 992)),
+        (Sort::Numbers, &ALL_ONES[1..], (Some(NOT_THERE), 992)),
+        (Sort::Names, &NONE[..], (None, 992)),
+        (Sort::Attributes, &NONE[..], (None, 992)),
+    ] {
+        assert!(rt; read_sort(rt.alloc(), sort, bytes)? == *answer);
+    }
     Ok(())
 }
 
@@ -78,8 +108,8 @@ fn journals_stand_one_behind_the_other(rt: HostRuntime) -> Result<(), Fail> {
     let mut room = 1_000;
     for &(there, left) in &[(true, 844), (true, 688), (false, 688)] {
         let next = next_journal(alloc, &mut source, &mut room);
-        assert!(rt; next.is_ok_and(|found| found.is_some() == there));
-        assert!(rt; room == left);
+        let is_right = next.is_ok_and(|found| found.is_some() == there);
+        assert!(rt; is_right && room == left);
     }
     Ok(())
 }
