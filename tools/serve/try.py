@@ -16,7 +16,9 @@ sys.dont_write_bytecode = True
 
 from by_contexts import NAMES, try_contexts  # noqa: E402
 from by_curl import try_curl  # noqa: E402
+from by_few_threads import try_few_threads  # noqa: E402
 from by_hard_clients import try_hard_clients  # noqa: E402
+from by_idle import IDLE_SECONDS, try_idle  # noqa: E402
 from by_many import try_large_publishing, try_many  # noqa: E402
 from by_previews import try_previews  # noqa: E402
 from front import Front  # noqa: E402
@@ -53,6 +55,8 @@ def main():
     tally = Tally()
     print("words")
     try_words(program, tally)
+    print("few threads")
+    try_few_threads(program, tally)
     print("curl")
     with Server(program, workers=16) as server:
         tally.note(server.line.strip())
@@ -63,6 +67,9 @@ def main():
     print("two sites in one")
     with Server(program, workers=4, contexts=NAMES) as server:
         try_contexts(server, tally)
+    print("a session's time")
+    with Server(program, workers=1, idle=IDLE_SECONDS) as server:
+        try_idle(server, tally)
     print("sixty readers and an editor")
     with Server(program, workers=60) as server:
         front = Front(server.port)
