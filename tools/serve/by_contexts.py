@@ -1,8 +1,10 @@
-"""What two sites in one server know of each other: nothing, also where the journal of one is full."""
+"""What two sites in one server know of each other: nothing, also where the journal of one is
+full."""
 
 import threading
 
-from by_curl import CORE, COUNTER, FILES, curl, status
+from by_curl import CORE, COUNTER, FILES
+from front import curl, status
 from messages import Connection
 
 NAMES = "shop,blog"
@@ -13,7 +15,8 @@ MOST_PUBLISHINGS = 140
 
 
 class Visitor(threading.Thread):
-    """Asks a context for the page that counts, in a session of its own, until it is over, and notes what wasn't the next number."""
+    """Asks a context for the page that counts, in a session of its own, until it is over, and notes
+    what wasn't the next number."""
 
     def __init__(self, port, context, is_over):
         super().__init__(daemon=True)
@@ -59,7 +62,8 @@ def try_contexts(server, tally):
 
 
 def fill(port):
-    """Publishes large files in the first context until its journal has no room, and gives how many there were and the last answer."""
+    """Publishes large files in the first context until its journal has no room, and gives how many
+    there were and the last answer."""
     with Connection(port) as editor:
         for number in range(MOST_PUBLISHINGS):
             editor.ask("PUT", "/shop/_editor/files/large.txt", body=LARGE)

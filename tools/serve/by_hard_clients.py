@@ -1,4 +1,5 @@
-"""Clients that are slow, silent, many or gone, a program that is stopped and one that is killed: nobody else notices."""
+"""Clients that are slow, silent, many or gone, a program that is stopped and one that is killed:
+nobody else notices."""
 
 import signal
 import socket
@@ -12,6 +13,20 @@ FILES = {
     "/hi.jsp": '<%@ page session="false" %>Hi ${param.who}!',
     "/large.txt": "0123456789abcdef" * 60_000,
 }
+HEAD_OF_FORM = (
+    b"POST /hi.jsp HTTP/1.1\r\nHost: x\r\n"
+    b"Content-Type: application/x-www-form-urlencoded\r\nContent-Length: 100\r\n\r\n"
+)
+# What a client does, and behind how many seconds at least and at most its connection is closed: 5
+# before a request, and 20 for a head, in a silent body, for a body that comes too slowly, and where
+# no more of an answer is taken (of which the kernel first holds a part).
+WAITS = (
+    ("a byte a second", 18, 30),
+    ("silent", 4, 12),
+    ("reads nothing", 18, 60),
+    ("silent in a body", 18, 30),
+    ("a byte of a body a second", 18, 30),
+)
 
 
 def asks_well(port, seconds=3.0):
@@ -39,20 +54,22 @@ def try_hard_clients(program, tally):
 
 
 def slow_and_silent(server, tally):
-    """Five that send a byte a second, five that send none, and three that read nothing, of sixteen workers."""
+    """Fifteen of sixteen workers have a client that is slow, silent or deaf."""
     ends = {}
-    is_over = threading.Event()
     kinds = [(drip, "a byte a second")] * 5 + [(silent, "silent")] * 5 + [(deaf, "reads nothing")] * 3
-    threads = [threading.Thread(target=kind, args=(server.port, name, ends, is_over), daemon=True) for kind, name in kinds]
+    kinds += [(halt, "silent in a body"), (crawl, "a byte of a body a second")]
+    threads = [
+        threading.Thread(target=kind, args=(server.port, name, ends), daemon=True)
+        for kind, name in kinds
+    ]
     for it in threads:
         it.start()
     time.sleep(1)
     well = [asks_well(server.port) for _ in range(20)]
-    tally.same("others are answered beside thirteen that are slow, silent or deaf", well, [True] * 20)
+    tally.same("others are answered beside fifteen that are slow, silent or deaf", well, [True] * 20)
     for it in threads:
         it.join(90)
-    is_over.set()
-    for name, least, most in (("a byte a second", 18, 30), ("silent", 4, 12), ("reads nothing", 18, 60)):
+    for name, least, most in WAITS:
         seen = [round(it, 1) for it in ends.get(name, [])]
         holds = bool(seen) and all(least <= it <= most for it in seen)
         tally.check(f"{name}: closed behind {least} to {most} seconds", holds, seen)
@@ -62,31 +79,53 @@ def note_end(ends, name, begun):
     ends.setdefault(name, []).append(time.perf_counter() - begun)
 
 
-def drip(port, name, ends, is_over):
+def drip(port, name, ends):
+    message = request("GET", "/hi.jsp", "X: " + "y" * 100 + "\r\n")
     begun = time.perf_counter()
     with Connection(port) as connection:
-        for byte in request("GET", "/hi.jsp", "X: " + "y" * 100 + "\r\n"):
-            try:
-                connection.send(bytes([byte]))
-                connection.socket.settimeout(1)
-                if connection.socket.recv(1) == b"":
-                    break
-            except TimeoutError:
-                continue
-            except OSError:
-                break
+        send_slowly(connection, message)
     note_end(ends, name, begun)
 
 
-def silent(port, name, ends, is_over):
+def crawl(port, name, ends):
+    begun = time.perf_counter()
+    with Connection(port) as connection:
+        connection.send(HEAD_OF_FORM)
+        send_slowly(connection, b"who=" + b"y" * 96)
+    note_end(ends, name, begun)
+
+
+def send_slowly(connection, message):
+    """Sends a byte a second until the other side closes."""
+    connection.socket.settimeout(1)
+    for byte in message:
+        try:
+            connection.send(bytes([byte]))
+            if connection.socket.recv(1) == b"":
+                break
+        except TimeoutError:
+            continue
+        except OSError:
+            break
+
+
+def halt(port, name, ends):
+    begun = time.perf_counter()
+    with Connection(port) as connection:
+        connection.send(HEAD_OF_FORM + b"who=")
+        connection.is_closed()
+    note_end(ends, name, begun)
+
+
+def silent(port, name, ends):
     begun = time.perf_counter()
     with Connection(port) as connection:
         connection.is_closed()
     note_end(ends, name, begun)
 
 
-def deaf(port, name, ends, is_over):
-    """Asks for forty megabytes, reads nothing, and sees its connection reset once it sends again."""
+def deaf(port, name, ends):
+    """Asks for forty megabytes, reads nothing, and sees its connection reset as it sends again."""
     begun = time.perf_counter()
     with Connection(port) as connection:
         connection.send(request("GET", "/large.txt") * 40)
@@ -129,7 +168,8 @@ def two_hundred(server, tally):
 
 
 def stopped(server, tally):
-    """The program is stopped and goes on, with one connection between requests and one inside one."""
+    """The program is stopped and goes on, with one connection between two requests, and one in a
+    request."""
     with Connection(server.port) as idle, Connection(server.port) as begun:
         idle.ask("GET", "/hi.jsp?who=1")
         begun.send(b"GET /hi.jsp?who=Flo HTTP/1.1\r\n")
@@ -154,7 +194,7 @@ def leftovers(server, tally, at_rest):
 
 
 def killed(server, tally):
-    """Killed in the middle of a request, it starts on the same ports at once, with an empty site."""
+    """Killed in the middle of a request, it starts on the same ports at once, without a file."""
     with Connection(server.port) as connection:
         connection.send(b"GET /hi.jsp HTTP/1.1\r\n")
         server.kill()
@@ -165,7 +205,8 @@ def killed(server, tally):
 
 
 def few_files(program, tally):
-    """Where it may open only 40 files, more connections wait for those before them, and all are answered."""
+    """Where it may open only 40 files, more connections wait for those before them, and all are
+    answered."""
     with Server(program, workers=60, files=40) as server:
         publish(server.editor_port, FILES)
         connections = []

@@ -1,6 +1,8 @@
-"""What an editor sees of a draft, with a visitor's session, while visitors see the published page."""
+"""What an editor sees of a draft, with a visitor's session, while visitors see the published
+page."""
 
-from by_curl import CORE, COUNTER, FILES, curl, status
+from by_curl import CORE, COUNTER, FILES
+from front import curl, status
 
 EDITED = "draft: " + FILES[COUNTER]
 
@@ -11,7 +13,9 @@ def try_previews(server, tally):
     previews = f"http://127.0.0.1:{server.preview_port}"
     put = ["--request", "PUT", "--data-binary"]
     edit = [*put, CORE + EDITED, f"{previews}/_editor/files{COUNTER}", "--next"]
-    curl(*put, CORE + FILES[COUNTER], f"{editor}/_editor/files{COUNTER}", "--next", "--request", "POST", f"{editor}/_editor/publish")
+    place = f"{editor}/_editor/files{COUNTER}"
+    publish = ["--next", "--request", "POST", f"{editor}/_editor/publish"]
+    curl(*put, CORE + FILES[COUNTER], place, *publish)
     head, _, body = curl("--include", here).partition(b"\r\n\r\n")
     tally.same("a visitor's first page", body, b"1")
     cookie = head.split(b"Set-Cookie: ")[1].split(b";")[0].decode()
@@ -22,7 +26,7 @@ def try_previews(server, tally):
     tally.same("a preview without a draft", curl(*mine, previews + COUNTER), b"3")
     tally.same("the visitor's third page", curl(*mine, here), b"3")
     tally.same("publishing where drafts are shown", status("--request", "POST", f"{previews}/_editor/publish"), "400")
-    curl(*put, CORE + EDITED, f"{editor}/_editor/files{COUNTER}", "--next", "--request", "POST", f"{editor}/_editor/publish")
+    curl(*put, CORE + EDITED, place, *publish)
     tally.same("the page once it is published", curl(*mine, here), b"draft: 4")
     words = [*put, "x", f"{previews}/_editor/files/x.txt", "--next", f"{previews}/x.txt"]
     tally.same("a file of a draft", curl(*words), b"draft 1\nx")

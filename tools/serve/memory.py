@@ -1,8 +1,11 @@
 #!/usr/bin/env python3
-"""Measures `pages serve` without wrk: `tools/serve/memory.py [PROGRAM [REQUESTS]]`. It says how long it takes from the start of the
-program to its line and to the first answer, and from the message that publishes an include to the right answer on another connection (of
-twenty the middle one and the greatest), and its memory at rest and behind a million requests, half of them of a page that counts in a
-session. Every answer is compared. Ends by itself in five minutes at the most."""
+"""Measures `pages serve` without wrk: `tools/serve/memory.py [PROGRAM [REQUESTS]]`. It says how
+long it takes from the start of the program to its line and to the first answer, and its memory at
+rest, with 1, 16 and 63 workers in turns; how long from the message that publishes an include to the
+right answer on another connection; and its memory behind a million requests, half of them of a page
+that counts in a session. Of 21 times it says the middle one and the greatest, beside them the goals
+that issues have set; and before and after all how fast the machine is. Every answer is compared. It
+takes two minutes, and ends by itself in five at the most."""
 
 import os
 import signal
@@ -14,12 +17,17 @@ HERE = os.path.dirname(os.path.abspath(__file__))
 sys.path.insert(0, HERE)
 sys.dont_write_bytecode = True
 
+from host import tell_host  # noqa: E402
 from messages import Connection, publish, put, request  # noqa: E402
 from server import Server, Tally  # noqa: E402
 
 BUILT = os.path.join(HERE, "../../crates/pages_cli/out/pages_cli")
 MOST_SECONDS = 300
-TIMES = 20
+TIMES = 21
+WORKERS = (1, 16, 63)
+# The goals.
+MOST_START_MILLIS = 5
+MOST_KIBIBYTES = 6 * 1024
 AT_ONCE = 500
 OF_A_CONNECTION = 60_000
 FILES = {
@@ -29,27 +37,49 @@ FILES = {
 }
 
 
-def try_starts(program, tally):
-    """From the start to the line on standard error, and to an answer that nothing is there."""
-    lines, firsts = [], []
-    for _ in range(TIMES):
+class Starts:
+    """Of a number of workers: milliseconds to the line on standard error and to the first answer,
+    and KiB of memory at rest."""
+
+    def __init__(self):
+        self.lines = []
+        self.answers = []
+        self.memory = []
+
+    def add(self, program, workers):
+        """Starts it once more, and answers whether it says that nothing is there."""
         begun = time.perf_counter()
-        with Server(program, workers=16) as server:
-            lines.append(server.seconds_to_start * 1e3)
+        with Server(program, workers=workers) as server:
+            self.lines.append(server.seconds_to_start * 1e3)
             with Connection(server.port) as connection:
-                right = connection.ask("GET", "/hello.jsp").status == 404
-            firsts.append((time.perf_counter() - begun) * 1e3)
-        if not right:
-            tally.check("the first answer", False)
-    for name, seen in (("its line", lines), ("the first answer", firsts)):
-        tally.note(f"from the start to {name}: {median(seen):.1f} ms, at most {max(seen):.1f} ms")
+                answer = connection.ask("GET", "/hello.jsp")
+            self.answers.append((time.perf_counter() - begun) * 1e3)
+            self.memory.append(server.memory())
+        return answer.status == 404
+
+
+def try_starts(program, tally):
+    starts, right = {workers: Starts() for workers in WORKERS}, True
+    for _ in range(TIMES):
+        for workers, seen in starts.items():
+            right &= seen.add(program, workers)
+    tally.check("the first answer is right", right)
+    for workers, seen in starts.items():
+        times = ", ".join(
+            f"{median(each):.1f} ms to {name} (at most {max(each):.1f})"
+            for name, each in (("its line", seen.lines), ("the first answer", seen.answers))
+        )
+        tally.note(f"from a start with {workers} workers {times} [goal: under {MOST_START_MILLIS}]")
+        middle, most = median(seen.memory), max(seen.memory)
+        tally.note(f"at rest {middle:,} KiB (at most {most:,}) [goal: under {MOST_KIBIBYTES:,}]")
 
 
 def try_publishings(program, tally):
     """From the message that publishes an include to the right answer on another connection."""
     took, right = [], True
     with Server(program, workers=16) as server:
-        publish(server.editor_port, {"/part.jspf": "0", "/all.jsp": '<%@ page session="false" %><%@ include file="part.jspf" %>'})
+        page = '<%@ page session="false" %><%@ include file="part.jspf" %>'
+        publish(server.editor_port, {"/part.jspf": "0", "/all.jsp": page})
         with Connection(server.editor_port) as editor, Connection(server.port) as reader:
             for version in range(1, TIMES + 1):
                 reader.ask("GET", "/all.jsp")
@@ -60,7 +90,8 @@ def try_publishings(program, tally):
                 took.append((time.perf_counter() - begun) * 1e3)
                 right &= body == str(version).encode()
     tally.check("behind its publishing an include is new on another connection", right)
-    tally.note(f"from the message that publishes it to that answer: {median(took):.2f} ms, at most {max(took):.2f} ms")
+    middle, longest = median(took), max(took)
+    tally.note(f"from the message that publishes it to that answer: {middle:.2f} ms (at most {longest:.2f})")
 
 
 def hello(server, count):
@@ -89,7 +120,6 @@ def counted(server, count):
 
 def try_memory(program, requests, tally):
     with Server(program, workers=16) as server:
-        tally.note(f"at rest: {server.memory()} KiB")
         publish(server.editor_port, FILES)
         done, is_right = 0, True
         while requests - done >= 2 * AT_ONCE and is_right:
@@ -99,7 +129,8 @@ def try_memory(program, requests, tally):
         tally.check(f"{done:,} answers are right", is_right)
         memory = server.memory()
         user, system = server.processor_seconds()
-        tally.note(f"behind them: {memory} KiB; {(user + system) / done * 1e6:.1f} us of processor time each, sent without waiting")
+        each = (user + system) / max(done, 1) * 1e6
+        tally.note(f"behind them: {memory:,} KiB; {each:.1f} us of processor time each, sent without waiting")
 
 
 def main():
@@ -107,9 +138,11 @@ def main():
     requests = int(sys.argv[2]) if len(sys.argv) > 2 else 1_000_000
     signal.alarm(MOST_SECONDS)
     tally = Tally()
+    tell_host("before")
     try_starts(program, tally)
     try_publishings(program, tally)
     try_memory(program, requests, tally)
+    tell_host("after")
     print(f"{tally.held} held, {tally.failed} failed")
     return 1 if tally.failed else 0
 

@@ -1,8 +1,11 @@
-"""Messages of HTTP over a socket, by hand: a connection that reads whole answers, and the messages of an editor."""
+"""Messages of HTTP over a socket, by hand: a connection that reads whole answers, and the messages
+of an editor."""
 
 import socket
 
 HOST = "127.0.0.1"
+# The most edits of a draft.
+MOST_EDITS = 1_024
 
 
 class Answer:
@@ -18,11 +21,13 @@ class Answer:
 
 
 class Connection:
-    """A connection to a port of this machine."""
+    """A connection to a port of this machine; with a context, over TLS."""
 
-    def __init__(self, port, timeout=60):
+    def __init__(self, port, timeout=60, context=None):
         self.socket = socket.create_connection((HOST, port), timeout=timeout)
         self.socket.setsockopt(socket.IPPROTO_TCP, socket.TCP_NODELAY, 1)
+        if context:
+            self.socket = context.wrap_socket(self.socket, server_hostname=HOST)
         self.file = self.socket.makefile("rb")
 
     def __enter__(self):
@@ -84,8 +89,12 @@ def put(connection, path, text):
 
 
 def publish(port, files):
-    """Puts these files into the draft of a new connection, publishes them, and gives the last answer."""
+    """Puts these files into the draft of a new connection, publishes them, and gives the last
+    answer. Where there are more of them than a draft takes, it is published as often as it is
+    full."""
     with Connection(port) as connection:
-        for path, text in files.items():
+        for number, (path, text) in enumerate(files.items()):
+            if number and number % MOST_EDITS == 0:
+                connection.ask("POST", "/_editor/publish")
             put(connection, path, text)
         return connection.ask("POST", "/_editor/publish")

@@ -1,4 +1,5 @@
-"""A program `pages serve` on two free ports of this machine, which is killed in any case, and what a try tells of it."""
+"""A program `pages serve` on free ports of this machine, which is killed in any case, and what a
+try tells of it."""
 
 import ctypes
 import os
@@ -10,6 +11,8 @@ import time
 
 HOST = "127.0.0.1"
 DIES_WITH_ITS_PARENT = 1
+# A user who has no process of his own. (The system's first user may have any number of threads.)
+LONELY_USER = 65_533
 
 
 def free_ports(count):
@@ -21,16 +24,28 @@ def free_ports(count):
     return ports
 
 
-class Server:
-    """The program while it serves: `with Server(program, workers=16) as server`."""
+def limit_threads(count):
+    """Lets this process, and what it becomes, have so many threads at the most."""
+    if os.geteuid() == 0:
+        os.setgroups([])
+        os.setgid(LONELY_USER)
+        os.setuid(LONELY_USER)
+    resource.setrlimit(resource.RLIMIT_NPROC, (count, count))
 
-    def __init__(self, program, workers=16, ports=None, files=None, shows_drafts=False, contexts=None):
+
+class Server:
+    """The program while it serves: `with Server(program, workers=16) as server`. What else is given
+    are words of its command, or limits: how many files it may have open, and how many threads."""
+
+    def __init__(self, program, workers=16, shows_drafts=False, contexts=None, idle=None, files=None, threads=None):
         self.program = program
         self.workers = workers
-        self.port, self.editor_port = ports or free_ports(2)
+        self.port, self.editor_port = free_ports(2)
         self.preview_port = free_ports(1)[0] if shows_drafts else None
-        self.files = files
         self.contexts = contexts
+        self.idle = idle
+        self.files = files
+        self.threads = threads
 
     def __enter__(self):
         self.start()
@@ -42,6 +57,7 @@ class Server:
     def words(self):
         previews = [f"--preview-port={self.preview_port}"] if self.preview_port else []
         contexts = ["--contexts", self.contexts] if self.contexts else []
+        idle = [f"--idle={self.idle}"] if self.idle else []
         return [
             "serve",
             f"--port={self.port}",
@@ -50,12 +66,15 @@ class Server:
             f"--workers={self.workers}",
             *previews,
             *contexts,
+            *idle,
         ]
 
     def start(self):
         """Starts it, and waits for its line."""
 
         def before():
+            if self.threads:
+                limit_threads(self.threads)
             ctypes.CDLL(None).prctl(DIES_WITH_ITS_PARENT, signal.SIGKILL)
             if self.files:
                 resource.setrlimit(resource.RLIMIT_NOFILE, (self.files, self.files))

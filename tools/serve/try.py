@@ -1,8 +1,9 @@
 #!/usr/bin/env python3
-"""Tries the program `pages serve` as its users would, on free ports of this machine: `tools/serve/try.py [PROGRAM]`.
+"""Tries the program `pages serve` as its users would, on free ports of this machine:
+`tools/serve/try.py [PROGRAM]`.
 
-It takes about two minutes, ends by itself in five at the most, leaves no process, and speaks with nobody but the program. Its last
-line is `N held, M failed`."""
+It takes about two minutes, ends by itself in five at the most, leaves no process, and speaks with
+nobody but the program. Its last line is `N held, M failed`."""
 
 import os
 import signal
@@ -15,9 +16,12 @@ sys.dont_write_bytecode = True
 
 from by_contexts import NAMES, try_contexts  # noqa: E402
 from by_curl import try_curl  # noqa: E402
+from by_few_threads import try_few_threads  # noqa: E402
 from by_hard_clients import try_hard_clients  # noqa: E402
+from by_idle import IDLE_SECONDS, try_idle  # noqa: E402
 from by_many import try_large_publishing, try_many  # noqa: E402
 from by_previews import try_previews  # noqa: E402
+from front import Front  # noqa: E402
 from server import Server, Tally, free_ports  # noqa: E402
 
 BUILT = os.path.join(HERE, "../../crates/pages_cli/out/pages_cli")
@@ -51,6 +55,8 @@ def main():
     tally = Tally()
     print("words")
     try_words(program, tally)
+    print("few threads")
+    try_few_threads(program, tally)
     print("curl")
     with Server(program, workers=16) as server:
         tally.note(server.line.strip())
@@ -61,10 +67,14 @@ def main():
     print("two sites in one")
     with Server(program, workers=4, contexts=NAMES) as server:
         try_contexts(server, tally)
+    print("a session's time")
+    with Server(program, workers=1, idle=IDLE_SECONDS) as server:
+        try_idle(server, tally)
     print("sixty readers and an editor")
     with Server(program, workers=60) as server:
-        try_many(server, tally)
-        try_large_publishing(server, tally)
+        front = Front(server.port)
+        try_many(front, server, tally)
+        try_large_publishing(front, server, tally)
     print("hard clients")
     try_hard_clients(program, tally)
     print(f"{tally.held} held, {tally.failed} failed")

@@ -1,9 +1,10 @@
 #!/usr/bin/env python3
-"""How long readers wait beside publishings: `tools/serve/waits.py [PROGRAM [PUBLISHINGS]]`. A site of 4,096 files is served, 1,000 of
-them pages that are kept; an editor publishes what changes one of them, and a reader in a process of its own asks for another page all the
-while. It says of the reader's answers, without an editor and beside one: how many, the middle one, and the longest in the time of a
-publishing (the middle of these times, and the longest of all), in microseconds. Processors that do other work show in both. Ends by
-itself in a minute."""
+"""How long readers wait beside publishings: `tools/serve/waits.py [PROGRAM [PUBLISHINGS]]`. A site
+of 4,096 files is served, 1,000 of them pages that are kept; an editor publishes what changes one of
+them, and a reader in a process of its own asks for another page all the while. It says of the
+reader's answers, without an editor and beside one: how many, the middle one, and the longest in the
+time of a publishing (the middle of these times, and the longest of all), in microseconds.
+Processors that do other work show in both. Ends by itself in a minute."""
 
 import multiprocessing
 import os
@@ -26,7 +27,8 @@ PAUSE_SECONDS = 0.02
 
 
 def read(port, target, is_over, results):
-    """Asks until it is over, and gives for each answer when it was asked for, and how long it took, in seconds."""
+    """Asks until it is over, and gives for each answer when it was asked for, and how long it took,
+    in seconds."""
     taken = []
     message = request("GET", target)
     with Connection(port) as connection:
@@ -109,8 +111,10 @@ def main(program=BUILT, count=PUBLISHINGS):
     with Server(program, workers=4) as server:
         publish(server.editor_port, {**pages, **others})
         with Connection(server.port) as connection:
-            for number in range(PAGES):
-                connection.ask("GET", f"/p{number}.jsp")
+            for path in (*pages, list(others)[-1]):
+                answer = connection.ask("GET", path)
+                if answer.status != 200:
+                    raise RuntimeError(f"{path}: {answer!r}")
         tell("without an editor", *beside(server, lambda: pauses(count)))
         tell("beside publishings", *beside(server, lambda: publishings(server, count)))
 
