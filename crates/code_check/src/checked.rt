@@ -1,14 +1,15 @@
-ghost use Rattle.std.specs.Prelude.{◌≡◌, IfErr, OkIff};
+ghost use Rattle.std.specs.Prelude.{◌≡◌, IfOk, SomeIff};
 ghost use Rattle.page_code.specs.Fits.{CodeFits};
 
 use crate::whole::check;
-use page_code::Code;
+use page_code::{Code, PackedCode};
+use std::alloc::AllocError;
 use std::marker::Model;
 
-/// A code whose shapes fit. Contracts see the list of its cells.
+/// A code whose shapes fit, packed. Contracts see the list of its cells.
 #[derive(Drop)]
 pub struct CheckedCode {
-    code: Code,
+    code: PackedCode,
 }
 
 impl Model for CheckedCode {
@@ -30,19 +31,17 @@ impl Model for CheckedCode {
 }
 
 impl CheckedCode {
-    /// The code, or the code given back where its shapes don't fit.
-    pub fn new(code: Code) -> Result<Self, Code>
-        ensures fits { OkIff result (CodeFits code) code }
-        ensures back { IfErr result (λ back. back ≡ code) }
+    /// The code, or None where its shapes don't fit.
+    pub fn new(code: Code) -> Result<Option<Self>, AllocError>
+        ensures { IfOk result (λ checked. SomeIff checked (CodeFits code) code) }
     {
-        if check(&code) {
-            Ok(CheckedCode { code })
-        } else {
-            Err(code)
+        if !check(&code) {
+            return Ok(None);
         }
+        Ok(Some(CheckedCode { code: code.pack()? }))
     }
 
-    pub fn code(&self) -> &Code
+    pub fn code(&self) -> &PackedCode
         ensures same { result.now ≡ self.now }
         ensures fits { CodeFits self.now }
     {

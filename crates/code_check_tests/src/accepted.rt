@@ -21,7 +21,7 @@ pub fn is_accepted(alloc: Global, cells: &str) -> Result<bool, Fail> {
             put(alloc, &mut code, &place, cell)?;
         }
     }
-    Ok(CheckedCode::new(code).is_ok())
+    Ok(CheckedCode::new(code)?.is_some())
 }
 
 fn put(alloc: Global, code: &mut Code, place: &Place, cell: &str) -> Result<(), Fail> {

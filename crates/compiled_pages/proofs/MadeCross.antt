@@ -28,13 +28,13 @@ use Rattle.page_code.proofs.operands.PropertyMode.TheSendSync as mode
 use Rattle.page_code.proofs.operands.ScopedName.TheSendSync as scoped
 use Rattle.page_code.proofs.shape.Shape.TheSendSync as shape
 use Rattle.page_code.proofs.shared.Shared.TheSendSync as shared
+use Rattle.page_code.proofs.step.Step.TheSendSync as step
 use Rattle.page_code.specs.contracts.bean.Bean as Bean
 use Rattle.page_code.specs.contracts.bean.Bean.TheInside as BeanInside
-use Rattle.page_code.specs.contracts.code.Cell as Cell
-use Rattle.page_code.specs.contracts.code.Code as Code
-use Rattle.page_code.specs.contracts.code.Code.TheInside as CodeInside
 use Rattle.page_code.specs.contracts.instr.Instr as Instr
 use Rattle.page_code.specs.contracts.op.Op as Op
+use Rattle.page_code.specs.contracts.packed.PackedCode as PackedCode
+use Rattle.page_code.specs.contracts.packed.PackedCode.TheInside as PackedInside
 use Rattle.code_check.specs.contracts.checked.CheckedCode as CheckedCode
 use Rattle.code_check.specs.contracts.checked.CheckedCode.TheInside as CheckedInside
 use Rattle.run_world.specs.contracts.program.Program as Program
@@ -68,11 +68,8 @@ each_instr_send = ((op_send, tt), ((search sendable, tt), (tt, (tt, ((search sen
 instr_send : IsSend (Instr.the_field).row
 instr_send = enum_send (E.shape Instr.the_type) each_instr_send
 
-cell_send : IsSend Cell.the_row
-cell_send = recorded_send (Cell.the_field).row _ _ (Cell.the_type).to_one (struct_send (S.shape Cell.the_type) (instr_send, (search (shared.the_send, place.the_field_send, place.the_field_sync, crosses, sendable), (search (shared.the_send, shape.the_field_send, shape.the_field_sync, crosses, sendable), tt))))
-
-code_send : IsSend (Code.the_field).row
-code_send = view_send _ _ _ _ _ (recorded_send (CodeInside.the_field).row _ _ (CodeInside.the_type).to_one (struct_send (S.shape CodeInside.the_type) (search (cell_send, crosses, sendable), tt)))
+code_send : IsSend (PackedCode.the_field).row
+code_send = view_send _ _ _ _ _ (recorded_send (PackedInside.the_field).row _ _ (PackedInside.the_type).to_one (struct_send (S.shape PackedInside.the_type) (search (step.the_field_send, crosses, sendable), (search (instr_send, crosses, sendable), (search (place.the_field_send, crosses, sendable), (search (shape.the_field_send, crosses, sendable), tt))))))
 
 checked_send : IsSend (CheckedCode.the_field).row
 checked_send = view_send _ _ _ _ _ (recorded_send (CheckedInside.the_field).row _ _ (CheckedInside.the_type).to_one (struct_send (S.shape CheckedInside.the_type) (code_send, tt)))
@@ -98,11 +95,8 @@ each_instr_sync = ((op_sync, tt), ((search sendable, tt), (tt, (tt, ((search sen
 instr_sync : IsSync (Instr.the_field).row
 instr_sync = enum_sync (E.shape Instr.the_type) each_instr_sync
 
-cell_sync : IsSync Cell.the_row
-cell_sync = recorded_sync (Cell.the_field).row _ _ (Cell.the_type).to_one (struct_sync (S.shape Cell.the_type) (instr_sync, (search (shared.the_sync, place.the_field_send, place.the_field_sync, crosses, sendable), (search (shared.the_sync, shape.the_field_send, shape.the_field_sync, crosses, sendable), tt))))
-
-code_sync : IsSync (Code.the_field).row
-code_sync = view_sync _ _ _ _ _ (recorded_sync (CodeInside.the_field).row _ _ (CodeInside.the_type).to_one (struct_sync (S.shape CodeInside.the_type) (search (cell_sync, crosses, sendable), tt)))
+code_sync : IsSync (PackedCode.the_field).row
+code_sync = view_sync _ _ _ _ _ (recorded_sync (PackedInside.the_field).row _ _ (PackedInside.the_type).to_one (struct_sync (S.shape PackedInside.the_type) (search (step.the_field_sync, crosses, sendable), (search (instr_sync, crosses, sendable), (search (place.the_field_sync, crosses, sendable), (search (shape.the_field_sync, crosses, sendable), tt))))))
 
 checked_sync : IsSync (CheckedCode.the_field).row
 checked_sync = view_sync _ _ _ _ _ (recorded_sync (CheckedInside.the_field).row _ _ (CheckedInside.the_type).to_one (struct_sync (S.shape CheckedInside.the_type) (code_sync, tt)))

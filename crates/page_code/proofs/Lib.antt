@@ -1,1 +1,2 @@
-mod Equal
+mod Levels
+mod TableLemmas

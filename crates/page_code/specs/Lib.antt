@@ -3,3 +3,4 @@ pub mod Fits
 pub mod Names
 pub mod Ops
 pub mod Shapes
+pub mod Tables

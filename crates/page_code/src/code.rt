@@ -1,10 +1,11 @@
 ghost use Rattle.std.specs.Prelude.{◌≡◌, ◌++◌, ◌∷◌, [], length, slice_get, option_map, IfOk, OnOk, OnErr};
 ghost use Rattle.page_code.specs.Shapes.{cell};
 
-use crate::compact::{compact, sharing_with};
 use crate::instr::Instr;
+use crate::packed::PackedCode;
 use crate::shape::Shape;
 use crate::shared::Shared;
+use crate::sharing::sharing_with;
 use pg_text::Place;
 use std::alloc::{AllocError, Global};
 use std::marker::Model;
@@ -72,14 +73,11 @@ impl Code {
         Ok(())
     }
 
-    /// The same code in no more memory than it needs: cells that stand near one another share what
-    /// is equal of their places and shapes, and there is no room for others.
-    pub fn compact(self) -> Result<Self, AllocError>
-        ensures { IfOk result (λ code. code ≡ self) }
+    /// The same code packed, as it is kept and run.
+    pub fn pack(self) -> Result<PackedCode, AllocError>
+        ensures { IfOk result (λ packed. packed ≡ self) }
     {
-        Ok(Code {
-            cells: compact(self.cells)?,
-        })
+        PackedCode::of(self.cells)
     }
 
     pub fn len(&self) -> usize

@@ -78,7 +78,7 @@ pub(crate) fn tag_call<'a, W: World>(
     ensures covered { W.covered world.new }
     ensures records { IsRecordsAt at.now records.new }
     ensures stepped { Stepped W.reached W.replies (ServesSo W.stores at.now.served.now) (seat_at at.now)
-        (λ serving s. called_out serving (seat_at at.now) at.now.cell.now.place (at.now.pc + 1)
+        (λ serving s. called_out serving (seat_at at.now) at.now.cell.place (at.now.pc + 1)
         (call_out.Tag call.now) s (open_of opened.old)) world.old world.new (open_of opened.new) result }
     ensures left { opened.new.left ≡ opened.old.left }
 {
@@ -99,7 +99,7 @@ pub(crate) fn tag_call<'a, W: World>(
             let start = TagStart { call, tag, entries };
             enter_call(alloc, at, records, start, opened, world)
         }
-        Err(failed) => fail(alloc, failed, &at.cell.place, opened, world),
+        Err(failed) => fail(alloc, failed, at.cell.place(), opened, world),
     }
 }
 
@@ -133,7 +133,7 @@ fn enter_call<W: World>(
     ensures covered { W.covered world.new }
     ensures records { IsRecordsAt at.now records.new }
     ensures stepped { Stepped W.reached W.replies (ServesSo W.stores at.now.served.now) (seat_at at.now)
-        (λ serving s. call_entered at.now.cell.now.place
+        (λ serving s. call_entered at.now.cell.place
         (made_call (tag_of start.entry.tag.now) start.entry.call.now (at.now.pc + 1) start.entry.entries s)
         start.entry.entries (seat_at at.now) (at.now.pc + 1 + call_size start.entry.call.now) s (open_of opened.old))
         world.old world.new (open_of opened.new) result }
@@ -141,7 +141,7 @@ fn enter_call<W: World>(
 {
     let TagStart { call, tag, entries } = start;
     let Some(left) = opened.left.checked_sub(1) else {
-        return throw(alloc, RunFault::TooDeep, &at.cell.place, opened, world);
+        return throw(alloc, RunFault::TooDeep, at.cell.place(), opened, world);
     };
     let frame = world.frame();
     let frames = world.scopes().frames();
@@ -175,7 +175,7 @@ fn enter_call<W: World>(
                 world.go_back(frames, frame);
                 Flow::Go(at.pc + 1 + size_of(call))
             }
-            Err(failed) => fail(alloc, failed, &at.cell.place, opened, world),
+            Err(failed) => fail(alloc, failed, at.cell.place(), opened, world),
         },
         End::Raised { fault, place } => {
             world.go_back(frames, frame);
@@ -218,7 +218,7 @@ pub(crate) fn given_call<W: World>(
     ensures covered { W.covered world.new }
     ensures records { IsRecordsAt at.now records.new }
     ensures stepped { Stepped W.reached W.replies (ServesSo W.stores at.now.served.now) (seat_at at.now)
-        (λ serving s. given_called at.now.cell.now.place (given_by (option_map (λ name. name.now) name.entry)
+        (λ serving s. given_called at.now.cell.place (given_by (option_map (λ name. name.now) name.entry)
         (seat_at at.now)) (seat_at at.now) (at.now.pc + 1) s (open_of opened.old)) world.old world.new
         (open_of opened.new) result }
     ensures left { opened.new.left ≡ opened.old.left }
@@ -230,10 +230,10 @@ pub(crate) fn given_call<W: World>(
             Given::Source(text) => write_source(alloc, at, call, text, opened, world),
             Given::Code(pc) => {
                 let Some(left) = opened.left.checked_sub(1) else {
-                    return throw(alloc, RunFault::TooDeep, &at.cell.place, opened, world);
+                    return throw(alloc, RunFault::TooDeep, at.cell.place(), opened, world);
                 };
                 if let Err(failed) = copy_out(alloc, call.exports, call.frame, world) {
-                    return fail(alloc, failed, &at.cell.place, opened, world);
+                    return fail(alloc, failed, at.cell.place(), opened, world);
                 }
                 let frame = world.frame();
                 let frames = world.scopes().frames();
@@ -274,18 +274,18 @@ fn write_source<W: World>(
     ensures covered { W.covered world.new }
     ensures acted { (name : Option (List ℕ)) (seat caller : Seat') →
         seat ≡ in_tag (call_of call.now) caller → given_by name seat ≡ source_text text.now
-        → Acted W.reached W.replies (λ s. given_called at.now.cell.now.place (given_by name seat) seat
+        → Acted W.reached W.replies (λ s. given_called at.now.cell.place (given_by name seat) seat
         (at.now.pc + 1) s (open_of opened.old)) world.old world.new (open_of opened.new) result }
     ensures left { opened.new.left ≡ opened.old.left }
 {
     let Some(_left) = opened.left.checked_sub(1) else {
-        return throw(alloc, RunFault::TooDeep, &at.cell.place, opened, world);
+        return throw(alloc, RunFault::TooDeep, at.cell.place(), opened, world);
     };
     if let Err(failed) = copy_out(alloc, call.exports, call.frame, world) {
-        return fail(alloc, failed, &at.cell.place, opened, world);
+        return fail(alloc, failed, at.cell.place(), opened, world);
     }
     match world.put(text.as_str()) {
         Ok(()) => Flow::Go(at.pc + 1),
-        Err(failed) => fail(alloc, failed, &at.cell.place, opened, world),
+        Err(failed) => fail(alloc, failed, at.cell.place(), opened, world),
     }
 }

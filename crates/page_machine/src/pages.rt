@@ -105,7 +105,7 @@ pub(crate) fn include_call<W: World>(
     requires filled { address_with params ≤ length opened.old.stack }
     ensures covered { W.covered world.new }
     ensures stepped { Stepped W.reached W.replies (ServesSo W.stores at.now.served.now) (seat_at at.now)
-        (λ serving s. called_out serving (seat_at at.now) at.now.cell.now.place (at.now.pc + 1)
+        (λ serving s. called_out serving (seat_at at.now) at.now.cell.place (at.now.pc + 1)
         (call.Include flush params) s (open_of opened.old)) world.old world.new (open_of opened.new) result }
     ensures left { opened.new.left ≡ opened.old.left }
 {
@@ -133,7 +133,7 @@ pub(crate) fn import_call<W: World>(
     requires filled { 1 ≤ length opened.old.stack }
     ensures covered { W.covered world.new }
     ensures stepped { Stepped W.reached W.replies (ServesSo W.stores at.now.served.now) (seat_at at.now)
-        (λ serving s. called_out serving (seat_at at.now) at.now.cell.now.place (at.now.pc + 1) call.Import s
+        (λ serving s. called_out serving (seat_at at.now) at.now.cell.place (at.now.pc + 1) call.Import s
         (open_of opened.old)) world.old world.new (open_of opened.new) result }
     ensures left { opened.new.left ≡ opened.old.left }
 {
@@ -156,7 +156,7 @@ fn include<W: World>(
     requires within { at.now.pc + 1 < 2 ^ 64 }
     ensures covered { W.covered world.new }
     ensures stepped { Stepped W.reached W.replies (ServesSo W.stores at.now.served.now) (seat_at at.now)
-        (λ serving s. include_found serving at.now.cell.now.place found (at.now.pc + 1) s (open_of opened.old))
+        (λ serving s. include_found serving at.now.cell.place found (at.now.pc + 1) s (open_of opened.old))
         world.old world.new (open_of opened.new) result }
     ensures short { found ≡ Err failure.NoMemory → (result ≡ flow.Over end.NoMemory) × (world.new
         ≡ world.old) }
@@ -164,14 +164,14 @@ fn include<W: World>(
 {
     let target = match found {
         Ok(target) => target,
-        Err(failed) => return fail(alloc, failed, &at.cell.place, opened, world),
+        Err(failed) => return fail(alloc, failed, at.cell.place(), opened, world),
     };
     let Some(left) = opened.left.checked_sub(1) else {
-        return throw(alloc, RunFault::TooDeep, &at.cell.place, opened, world);
+        return throw(alloc, RunFault::TooDeep, at.cell.place(), opened, world);
     };
     let paged = match world.page(&target.path) {
         Ok(paged) => paged,
-        Err(failed) => return fail(alloc, failed, &at.cell.place, opened, world),
+        Err(failed) => return fail(alloc, failed, at.cell.place(), opened, world),
     };
     match paged {
         Paged::Page(program) => {
@@ -201,12 +201,12 @@ fn include_text<W: World>(
     ensures covered { W.covered world.new }
     ensures acted { Acted W.reached W.replies
         (λ s. On (land (at.now.pc + 1) (λ u. (open_of opened.old).stack) (open_of opened.old)
-        (put_text at.now.cell.now.place text.now s))) world.old world.new (open_of opened.new) result }
+        (put_text at.now.cell.place text.now s))) world.old world.new (open_of opened.new) result }
     ensures left { opened.new.left ≡ opened.old.left }
 {
     match world.put(text.as_str()) {
         Ok(()) => Flow::Go(at.pc + 1),
-        Err(failed) => fail(alloc, failed, &at.cell.place, opened, world),
+        Err(failed) => fail(alloc, failed, at.cell.place(), opened, world),
     }
 }
 
@@ -225,7 +225,7 @@ fn included_page<W: World>(
     requires within { at.now.pc + 1 < 2 ^ 64 }
     ensures covered { W.covered world.new }
     ensures stepped { Stepped W.reached W.replies (ServesSo W.stores at.now.served.now) (seat_at at.now)
-        (λ serving s. included_run at.now.cell.now.place (program_of start.entry.program.now)
+        (λ serving s. included_run at.now.cell.place (program_of start.entry.program.now)
         start.entry.params.now start.entry.left (at.now.pc + 1) s (open_of opened.old)) world.old world.new
         (open_of opened.new) result }
     ensures left { opened.new.left ≡ opened.old.left }
@@ -243,7 +243,7 @@ fn included_page<W: World>(
         }
         End::Raised { fault, .. } => {
             world.go_back(frames, frame);
-            throw(alloc, fault, &at.cell.place, opened, world)
+            throw(alloc, fault, at.cell.place(), opened, world)
         }
         End::Redirect(_) => {
             world.drop_bodies(bodies);

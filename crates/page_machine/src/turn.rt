@@ -17,7 +17,7 @@ ghost use Rattle.run_world.specs.Seats.{seat_of};
 
 use crate::calls::{given_call, tag_call};
 use crate::pages::{import_call, include_call};
-use page_code::{CallOut, Cell, Code, Instr, Op};
+use page_code::{CallOut, CellRef, Instr, Op, PackedCode};
 use run_moves::{At, End, Flow, Open, fail, is_quick, quick, step};
 use run_parts::RequestRecords;
 use run_world::{Seat, Served, World};
@@ -58,7 +58,7 @@ pub(crate) fn run_code<'a, W: World>(
     let mut pc = start.pc;
     loop {
         let cell = cell_of(code, pc);
-        let Some(op) = frequent_of(cell) else {
+        let Some(op) = frequent_of(&cell) else {
             let at = At {
                 served,
                 seat,
@@ -75,7 +75,7 @@ pub(crate) fn run_code<'a, W: World>(
         };
         match quick(alloc, seat, op, &mut opened, world) {
             Ok(()) => pc += 1,
-            Err(failed) => match fail(alloc, failed, &cell.place, &mut opened, world) {
+            Err(failed) => match fail(alloc, failed, cell.place(), &mut opened, world) {
                 Flow::Go(to) => pc = to,
                 Flow::Over(end) => return end,
             },
@@ -85,9 +85,9 @@ pub(crate) fn run_code<'a, W: World>(
 
 // The cell of a place in a code.
 #[inline(always)]
-fn cell_of(code: &Code, pc: usize) -> &Cell
+fn cell_of(code: &PackedCode, pc: usize) -> CellRef<'_>
     requires within { pc < length code.now }
-    ensures cell { slice_get code.now pc ≡ Some result.now }
+    ensures cell { slice_get code.now pc ≡ Some result }
     ensures counted { length code.now < 2 ^ 64 }
     ensures next { pc + 1 < 2 ^ 64 }
 {
@@ -102,10 +102,10 @@ fn cell_of(code: &Code, pc: usize) -> &Cell
 
 // The frequent operation that a cell is, if it is one.
 #[inline(always)]
-fn frequent_of(cell: &Cell) -> Option<&Op>
+fn frequent_of<'a>(cell: &CellRef<'a>) -> Option<&'a Op>
     ensures { IfSome result (λ op. (cell.now.instr ≡ instr.Op op.now) × IsTrue (is_quick op.now)) }
 {
-    match &cell.instr {
+    match cell.instr() {
         Instr::Op(op) if is_quick(op) => Some(op),
         _ => None,
     }
@@ -126,7 +126,7 @@ fn turn<W: World>(
     requires known { Known W.reached W.stores at.now.served.now world.old }
     requires seat { SeatFits (seat_at at.now) }
     requires holds { SeatHolds (seat_at at.now) (length (W.variables world.old).frames) }
-    requires cell { slice_get (code_of (seat_at at.now)) at.now.pc ≡ Some at.now.cell.now }
+    requires cell { slice_get (code_of (seat_at at.now)) at.now.pc ≡ Some at.now.cell }
     requires within { length (code_of (seat_at at.now)) < 2 ^ 64 }
     requires standing { Standing (seat_at at.now) at.now.pc (W.kept world.old) (open_of opened.old) }
     ensures covered { W.covered world.new }
@@ -136,7 +136,7 @@ fn turn<W: World>(
         (open_of opened.new) result }
     ensures left { opened.new.left ≡ opened.old.left }
 {
-    match &at.cell.instr {
+    match at.cell.instr() {
         Instr::CallOut(what) => call_out(alloc, at, records, what, opened, world),
         _ => step(alloc, at, records, opened, world),
     }
@@ -164,7 +164,7 @@ fn call_out<W: World>(
     ensures covered { W.covered world.new }
     ensures records { IsRecordsAt at.now records.new }
     ensures stepped { Stepped W.reached W.replies (ServesSo W.stores at.now.served.now) (seat_at at.now)
-        (λ serving s. called_out serving (seat_at at.now) at.now.cell.now.place (at.now.pc + 1) what.now s
+        (λ serving s. called_out serving (seat_at at.now) at.now.cell.place (at.now.pc + 1) what.now s
         (open_of opened.old)) world.old world.new (open_of opened.new) result }
     ensures left { opened.new.left ≡ opened.old.left }
 {

@@ -69,7 +69,7 @@ pub(crate) fn take_body<W: World>(alloc: Global, at: &At, opened: &mut Open, wor
     ensures covered { W.covered world.new }
     ensures acted { Acted W.reached W.replies
         (λ s. On (land (at.now.pc + 1) (λ t. text t ∷ (open_of opened.old).stack) (open_of opened.old)
-        (taken at.now.cell.now.place s))) world.old world.new (open_of opened.new) result }
+        (taken at.now.cell.place s))) world.old world.new (open_of opened.new) result }
     ensures left { opened.new.left ≡ opened.old.left }
 {
     match world.take_body() {
@@ -77,7 +77,7 @@ pub(crate) fn take_body<W: World>(alloc: Global, at: &At, opened: &mut Open, wor
             Ok(()) => Flow::Go(at.pc + 1),
             Err(_) => Flow::Over(End::NoMemory),
         },
-        Err(failed) => fail(alloc, failed, &at.cell.place, opened, world),
+        Err(failed) => fail(alloc, failed, at.cell.place(), opened, world),
     }
 }
 
@@ -259,7 +259,7 @@ pub(crate) fn ensure<W: World>(
     requires within { at.now.pc + 1 + ensured.now.size < 2 ^ 64 }
     ensures covered { W.covered world.new }
     ensures acted { Acted W.reached W.replies
-        (λ s. On (then_at (open_of opened.old) (bean_made at.now.cell.now.place
+        (λ s. On (then_at (open_of opened.old) (bean_made at.now.cell.place
         (held_scope ensured.now.variable.now.scope) ensured.now.variable.now.name
         (datum_of ensured.now.bean.now) s) (λ made s1.
         one_of made (Running (at.now.pc + 1) s1 (open_of opened.old))
@@ -270,6 +270,6 @@ pub(crate) fn ensure<W: World>(
     match make_bean(ensured.variable, ensured.bean, world) {
         Ok(true) => Flow::Go(at.pc + 1),
         Ok(false) => Flow::Go(at.pc + 1 + ensured.size),
-        Err(failed) => fail(alloc, failed, &at.cell.place, opened, world),
+        Err(failed) => fail(alloc, failed, at.cell.place(), opened, world),
     }
 }

@@ -1,4 +1,4 @@
-use page_code::Cell;
+use page_code::CellRef;
 use run_world::{Seat, Served};
 
 /// Where a run is: what it serves, the seat of its code, and the number and the cell of the
@@ -8,5 +8,5 @@ pub struct At<'a> {
     pub served: &'a Served<'a>,
     pub seat: &'a Seat<'a>,
     pub pc: usize,
-    pub cell: &'a Cell,
+    pub cell: CellRef<'a>,
 }

@@ -12,7 +12,6 @@ use crate::at::At;
 use crate::flow::{End, Flow};
 use crate::open::Open;
 use crate::raising::throw_at;
-use page_code::Shared;
 use pg_text::{Failure, Place};
 use pg_value::{RunFault, Value};
 use run_world::World;
@@ -23,7 +22,7 @@ use std::alloc::Global;
 pub fn fail<W: World>(
     alloc: Global,
     failed: Failure<RunFault>,
-    place: &Shared<Place>,
+    place: &Place,
     opened: &mut Open,
     world: &mut W,
 ) -> Flow
@@ -34,7 +33,7 @@ pub fn fail<W: World>(
     ensures short { failed ≡ failure.NoMemory → (result ≡ flow.Over end.NoMemory) × (world.new ≡ world.old) }
     ensures left { opened.new.left ≡ opened.old.left }
 {
-    fail_at(alloc, failed, place.get(), opened, world)
+    fail_at(alloc, failed, place, opened, world)
 }
 
 // The same of a fault that stands at a place of its own.
@@ -70,14 +69,14 @@ pub(crate) fn land<W: World>(
     requires covered { W.covered world.old }
     requires within { at.now.pc + 1 < 2 ^ 64 }
     ensures covered { W.covered world.new }
-    ensures acted { Acted W.reached W.replies (landing at.now.pc at.now.cell.now.place (open_of opened.old) made)
+    ensures acted { Acted W.reached W.replies (landing at.now.pc at.now.cell.place (open_of opened.old) made)
         world.old world.new (open_of opened.new) result }
     ensures short { made ≡ Err failure.NoMemory → (result ≡ flow.Over end.NoMemory) × (world.new ≡ world.old) }
     ensures left { opened.new.left ≡ opened.old.left }
 {
     let made = match made {
         Ok(made) => made,
-        Err(failed) => return fail(alloc, failed, &at.cell.place, opened, world),
+        Err(failed) => return fail(alloc, failed, at.cell.place(), opened, world),
     };
     let Some(value) = made else {
         return Flow::Go(at.pc + 1);
@@ -100,13 +99,13 @@ pub(crate) fn land_done<W: World>(
     requires covered { W.covered world.old }
     requires within { at.now.pc + 1 < 2 ^ 64 }
     ensures covered { W.covered world.new }
-    ensures acted { Acted W.reached W.replies (landing at.now.pc at.now.cell.now.place (open_of opened.old)
+    ensures acted { Acted W.reached W.replies (landing at.now.pc at.now.cell.place (open_of opened.old)
         (none_of done)) world.old world.new (open_of opened.new) result }
     ensures short { done ≡ Err failure.NoMemory → (result ≡ flow.Over end.NoMemory) × (world.new ≡ world.old) }
     ensures left { opened.new.left ≡ opened.old.left }
 {
     match done {
         Ok(()) => Flow::Go(at.pc + 1),
-        Err(failed) => fail(alloc, failed, &at.cell.place, opened, world),
+        Err(failed) => fail(alloc, failed, at.cell.place(), opened, world),
     }
 }

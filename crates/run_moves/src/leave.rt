@@ -25,7 +25,7 @@ use crate::flow::{End, Flow};
 use crate::landing::fail;
 use crate::open::Open;
 use http_in::Param;
-use page_code::{Leave, Shared};
+use page_code::Leave;
 use pg_text::{Failure, Listed, Path, Place, Text};
 use pg_value::{RunFault, Value};
 use run_parts::{target_params, target_path};
@@ -54,24 +54,19 @@ pub(crate) fn leave<W: World>(
     requires finds { LeaveFinds (open_of opened.old) how.now }
     ensures covered { W.covered world.new }
     ensures acted { ActedFor W.reached W.replies (ServesSo W.stores at.now.served.now) (λ serving s.
-        leaving serving (seat_at at.now) at.now.cell.now.place how.now s (open_of opened.old)) world.old world.new
+        leaving serving (seat_at at.now) at.now.cell.place how.now s (open_of opened.old)) world.old world.new
         (open_of opened.new) result }
     ensures left { opened.new.left ≡ opened.old.left }
 {
     match how {
         Leave::End => Flow::Over(End::Normal),
-        Leave::Redirect => redirect_away(alloc, &at.cell.place, opened, world),
+        Leave::Redirect => redirect_away(alloc, at.cell.place(), opened, world),
         Leave::Forward(params) => forward_away(alloc, at, *params, opened, world),
     }
 }
 
 // Sends the client to the address on top.
-fn redirect_away<W: World>(
-    alloc: Global,
-    place: &Shared<Place>,
-    opened: &mut Open,
-    world: &mut W,
-) -> Flow
+fn redirect_away<W: World>(alloc: Global, place: &Place, opened: &mut Open, world: &mut W) -> Flow
     requires covered { W.covered world.old }
     requires filled { 1 ≤ length opened.old.stack }
     ensures covered { W.covered world.new }
@@ -100,7 +95,7 @@ fn forward_away<W: World>(
     requires filled { address_with params ≤ length opened.old.stack }
     ensures covered { W.covered world.new }
     ensures acted { (serving : Serving) → ServesSo W.stores at.now.served.now world.old serving →
-        Acted W.reached W.replies (λ s. leaving serving (seat_at at.now) at.now.cell.now.place (leave.Forward params) s
+        Acted W.reached W.replies (λ s. leaving serving (seat_at at.now) at.now.cell.place (leave.Forward params) s
         (open_of opened.old)) world.old world.new (open_of opened.new) result }
     ensures left { opened.new.left ≡ opened.old.left }
 {
@@ -115,7 +110,7 @@ fn forward_away<W: World>(
             let Forward { path, params, left } = goal;
             Flow::Over(End::Forward { path, params, left })
         }
-        Err(failed) => fail(alloc, failed, &at.cell.place, opened, world),
+        Err(failed) => fail(alloc, failed, at.cell.place(), opened, world),
     }
 }
 

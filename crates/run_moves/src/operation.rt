@@ -41,7 +41,7 @@ pub(crate) fn operation<W: World>(
     ensures covered { W.covered world.new }
     ensures records { IsRecordsAt at.now records.new }
     ensures acted { ActedFor W.reached W.replies (ServesSo W.stores at.now.served.now) (λ serving s.
-        act serving (seat_at at.now) at.now.cell.now.place at.now.pc s (open_of opened.old) (instr.Op op.now))
+        act serving (seat_at at.now) at.now.cell.place at.now.pc s (open_of opened.old) (instr.Op op.now))
         world.old world.new (open_of opened.new) result }
     ensures left { opened.new.left ≡ opened.old.left }
 {
@@ -83,7 +83,7 @@ fn at_one_place<W: World>(
     ensures covered { W.covered world.new }
     ensures records { IsRecordsAt at.now records.new }
     ensures acted { ActedFor W.reached W.replies (ServesSo W.stores at.now.served.now) (λ serving s.
-        act serving (seat_at at.now) at.now.cell.now.place at.now.pc s (open_of opened.old) (instr.Op op.now))
+        act serving (seat_at at.now) at.now.cell.place at.now.pc s (open_of opened.old) (instr.Op op.now))
         world.old world.new (open_of opened.new) result }
     ensures left { opened.new.left ≡ opened.old.left }
 {
@@ -127,7 +127,7 @@ fn set_value<W: World>(
     requires filled { 1 ≤ length opened.old.stack }
     ensures covered { W.covered world.new }
     ensures acted { (serving : Serving) → Acted W.reached W.replies (λ s.
-        act serving (seat_at at.now) at.now.cell.now.place at.now.pc s (open_of opened.old)
+        act serving (seat_at at.now) at.now.cell.place at.now.pc s (open_of opened.old)
         (instr.Op (op.SetProperty setting.now.name.now
         (mode.Value setting.now.property.now setting.now.place.now)))) world.old world.new
         (open_of opened.new) result }
@@ -138,7 +138,7 @@ fn set_value<W: World>(
     };
     let found = match find_property(setting.name, setting.property, world) {
         Ok(found) => found,
-        Err(failed) => return fail(alloc, failed, &at.cell.place, opened, world),
+        Err(failed) => return fail(alloc, failed, at.cell.place(), opened, world),
     };
     let made = match replaced(alloc, &found.old, &value) {
         Ok(made) => made,
@@ -146,6 +146,6 @@ fn set_value<W: World>(
     };
     match write_back(found, setting.property, made, setting.name, world) {
         Ok(()) => Flow::Go(at.pc + 1),
-        Err(failed) => fail(alloc, failed, &at.cell.place, opened, world),
+        Err(failed) => fail(alloc, failed, at.cell.place(), opened, world),
     }
 }

@@ -45,7 +45,7 @@ pub(crate) fn loop_start<W: World>(
     requires filled { length kind.now.names ≤ length opened.old.stack }
     ensures covered { W.covered world.new }
     ensures acted { Acted W.reached W.replies (λ s. popped_all (length kind.now.names) (open_of opened.old)
-        (λ ds p. On (loop_opened at.now.cell.now.place kind.now (table_of kind.now.names ds) (at.now.pc + 1) s p)))
+        (λ ds p. On (loop_opened at.now.cell.place kind.now (table_of kind.now.names ds) (at.now.pc + 1) s p)))
         world.old world.new (open_of opened.new) result }
     ensures left { opened.new.left ≡ opened.old.left }
 {
@@ -54,7 +54,7 @@ pub(crate) fn loop_start<W: World>(
     opened.stack.drop_top(count);
     let looping = match made {
         Ok(looping) => looping,
-        Err(failed) => return fail(alloc, failed, &at.cell.place, opened, world),
+        Err(failed) => return fail(alloc, failed, at.cell.place(), opened, world),
     };
     match opened.loops.push(looping) {
         Ok(()) => Flow::Go(at.pc + 1),
@@ -106,7 +106,7 @@ pub(crate) fn loop_next<W: World>(
     requires back { size ≤ at.now.pc }
     requires opened { 1 ≤ length opened.old.loops }
     ensures covered { W.covered world.new }
-    ensures acted { Acted W.reached W.replies (λ s. loop_next at.now.cell.now.place (open_of opened.old).loops
+    ensures acted { Acted W.reached W.replies (λ s. loop_next at.now.cell.place (open_of opened.old).loops
         (at.now.pc - size) (at.now.pc + 1) s (open_of opened.old)) world.old world.new (open_of opened.new) result }
     ensures left { opened.new.left ≡ opened.old.left }
 {
@@ -126,7 +126,7 @@ pub(crate) fn loop_next<W: World>(
             opened.loops.advance();
             Flow::Go(at.pc - size)
         }
-        Err(failed) => fail(alloc, failed, &at.cell.place, opened, world),
+        Err(failed) => fail(alloc, failed, at.cell.place(), opened, world),
     }
 }
 

@@ -7,7 +7,7 @@ ghost use Rattle.run_world.specs.Seats.{seat_of};
 
 use crate::program::{Program, TagProgram};
 use http_in::Param;
-use page_code::{CallBody, Code, Fragment};
+use page_code::{CallBody, Fragment, PackedCode};
 use pg_text::Text;
 use tag_decl::VarScope;
 
@@ -41,7 +41,7 @@ pub enum Seat<'a> {
 
 impl<'a> Seat<'a> {
     /// The code that runs.
-    pub fn code(&self) -> &'a Code
+    pub fn code(&self) -> &'a PackedCode
         ensures { result.now ≡ code_of (seat_of self.now) }
     {
         match self {

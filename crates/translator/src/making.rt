@@ -82,9 +82,9 @@ fn checked(code: Code) -> Result<CheckedCode, AllocError>
     requires { CodeFits code }
     ensures { IfOk result (λ made. made ≡ code) }
 {
-    match CheckedCode::new(code.compact()?) {
-        Ok(made) => Ok(made),
-        Err(_) => unreachable!(),
+    match CheckedCode::new(code)? {
+        Some(made) => Ok(made),
+        None => unreachable!(),
     }
 }
 

@@ -83,7 +83,7 @@ turn::run_code-turn-requires g t c κs within =
     let seat = seat_of c.args.start.seat.now in
     let inv = c.loop-op.invariant in
     let left : c.loop-op.opened.left ≡ c.args.start.left = inv.left in
-    let here = cell_at (code_of seat) c.code-code.result.now c.loop-op.pc c.cell_of-cell.result.now c.code-code.ensures c.cell_of-cell.ensures.cell in
+    let here = cell_at (code_of seat) c.code-code.result.now c.loop-op.pc c.cell_of-cell.result c.code-code.ensures c.cell_of-cell.ensures.cell in
     let counted : length (code_of seat) < 2 ^ 64 = subst (λ (cells : List Cell). length cells < 2 ^ 64) c.code-code.ensures c.cell_of-cell.ensures.counted in
     search rules
 
@@ -124,7 +124,7 @@ pub turn::run_code-quick-requires : goal.turn::run_code-quick-requires
 turn::run_code-quick-requires g t c =
     let seat = seat_of c.args.start.seat.now in
     let o = open_of c.loop-op.opened in
-    let cell = c.cell_of-cell.result.now in
+    let cell = c.cell_of-cell.result in
     let here = cell_at (code_of seat) c.code-code.result.now c.loop-op.pc cell c.code-code.ensures c.cell_of-cell.ensures.cell in
     let inv = c.loop-op.invariant in
     let finds = subst (Finds (length (code_of seat)) c.loop-op.pc (g.W.World.kept c.loop-op.world) o) c.in-Some.ensures.0
@@ -136,7 +136,7 @@ turn::run_code-loop-op-preserved-in-Ok g t c =
     let seat = seat_of c.args.start.seat.now in
     let o = open_of c.loop-op.opened in
     let o2 = open_of c.quick.new.opened in
-    let cell = c.cell_of-cell.result.now in
+    let cell = c.cell_of-cell.result in
     let here = cell_at (code_of seat) c.code-code.result.now c.loop-op.pc cell c.code-code.ensures c.cell_of-cell.ensures.cell in
     let inv = c.loop-op.invariant in
     let laws = g.met.W.World in
@@ -158,7 +158,7 @@ turn::run_code-loop-op-smaller-in-Ok g t c =
     let seat = seat_of c.args.start.seat.now in
     let o = open_of c.loop-op.opened in
     let o2 = open_of c.quick.new.opened in
-    let cell = c.cell_of-cell.result.now in
+    let cell = c.cell_of-cell.result in
     let here = cell_at (code_of seat) c.code-code.result.now c.loop-op.pc cell c.code-code.ensures c.cell_of-cell.ensures.cell in
     let inv = c.loop-op.invariant in
     let laws = g.met.W.World in
@@ -172,7 +172,7 @@ turn::run_code-loop-op-preserved g t c =
     let mid = open_of c.quick.new.opened in
     let o2 = open_of c.fail.new.opened in
     let to = c.in-Go-fail.to in
-    let cell = c.cell_of-cell.result.now in
+    let cell = c.cell_of-cell.result in
     let here = cell_at (code_of seat) c.code-code.result.now c.loop-op.pc cell c.code-code.ensures c.cell_of-cell.ensures.cell in
     let inv = c.loop-op.invariant in
     let laws = g.met.W.World in
@@ -197,7 +197,7 @@ turn::run_code-loop-op-smaller g t c =
     let mid = open_of c.quick.new.opened in
     let o2 = open_of c.fail.new.opened in
     let to = c.in-Go-fail.to in
-    let cell = c.cell_of-cell.result.now in
+    let cell = c.cell_of-cell.result in
     let here = cell_at (code_of seat) c.code-code.result.now c.loop-op.pc cell c.code-code.ensures c.cell_of-cell.ensures.cell in
     let inv = c.loop-op.invariant in
     let laws = g.met.W.World in
@@ -212,7 +212,7 @@ turn::run_code-returns-in-Over-fail-clause-ran g t c =
     let mid = open_of c.quick.new.opened in
     let o2 = open_of c.fail.new.opened in
     let end = c.in-Over-fail.end in
-    let cell = c.cell_of-cell.result.now in
+    let cell = c.cell_of-cell.result in
     let here = cell_at (code_of seat) c.code-code.result.now c.loop-op.pc cell c.code-code.ensures c.cell_of-cell.ensures.cell in
     let laws = g.met.W.World in
     over_with laws.stores_on laws.again c.args.served.now seat c.args.start.pc c.args.start.left c.args.world.now c.loop-op.world c.loop-op.pc o c.requires.known c.loop-op.invariant.so_far c.fail.new.world o2 end
@@ -225,7 +225,7 @@ pub turn::turn-call_out-requires : goal.turn::turn-call_out-requires
 turn::turn-call_out-requires g t c κs within =
     let seat = seat_at c.args.at.now in
     let o = open_of c.args.opened.now in
-    let cell = c.args.at.now.cell.now in
+    let cell = c.args.at.now.cell in
     let begins = begins_at seat c.requires.seat c.args.at.now.pc cell c.in-CallOut.what c.requires.cell c.in-CallOut.is in
     let finds = subst (Finds (length (code_of seat)) c.args.at.now.pc (g.W.World.kept c.args.world.now) o) c.in-CallOut.is
     (finds_at g.met.W.World.tells c.args.at.now.served.now seat c.requires.seat c.args.at.now.pc o c.args.world.now c.requires.known c.requires.standing cell c.requires.cell) in
@@ -235,7 +235,7 @@ pub turn::turn-returns-in-CallOut-clause-stepped : goal.turn::turn-returns-in-Ca
 turn::turn-returns-in-CallOut-clause-stepped g t c =
     let seat = seat_at c.args.at.now in
     let o = open_of c.args.opened.now in
-    let cell = c.args.at.now.cell.now in
+    let cell = c.args.at.now.cell in
     stepped_as seat (λ serving s. move_of serving seat c.args.at.now.pc s o) (λ serving s. called_out serving seat cell.place (c.args.at.now.pc + 1) c.in-CallOut.what s o) c.args.world.now c.call_out.new.world
     (open_of c.call_out.new.opened) c.call_out.result (λ serving h s. move_is serving seat c.args.at.now.pc s o cell (instr.CallOut c.in-CallOut.what) c.requires.cell c.in-CallOut.is) c.call_out.ensures.stepped
 
@@ -243,7 +243,7 @@ pub turn::turn-step-requires : goal.turn::turn-step-requires
 turn::turn-step-requires g t c =
     let seat = seat_at c.args.at.now in
     let o = open_of c.args.opened.now in
-    let cell = c.args.at.now.cell.now in
+    let cell = c.args.at.now.cell in
     let finds = finds_at g.met.W.World.tells c.args.at.now.served.now seat c.requires.seat c.args.at.now.pc o c.args.world.now c.requires.known c.requires.standing cell c.requires.cell in
     let simple = simple_of cell.instr c.in_default.not-CallOut in
     search rules
@@ -252,7 +252,7 @@ pub turn::turn-returns-in_default-clause-stepped : goal.turn::turn-returns-in_de
 turn::turn-returns-in_default-clause-stepped g t c =
     let seat = seat_at c.args.at.now in
     let o = open_of c.args.opened.now in
-    let cell = c.args.at.now.cell.now in
+    let cell = c.args.at.now.cell in
     acted_stepped seat (λ serving s. move_of serving seat c.args.at.now.pc s o) c.args.world.now c.step.new.world (open_of c.step.new.opened) c.step.result
     (λ serving h.
     acted_as (λ s. move_of serving seat c.args.at.now.pc s o) (λ s. act serving seat cell.place c.args.at.now.pc s o cell.instr) c.args.world.now c.step.new.world (open_of c.step.new.opened) c.step.result
@@ -269,27 +269,27 @@ turn::call_out-tag_call-requires g t c κs within =
 
 pub turn::call_out-returns-in-Tag-clause-stepped : goal.turn::call_out-returns-in-Tag-clause-stepped
 turn::call_out-returns-in-Tag-clause-stepped g t c =
-    call_as (seat_at c.args.at.now) c.args.at.now.cell.now.place (c.args.at.now.pc + 1) (open_of c.args.opened.now) c.args.what.now (call.Tag c.get.result.now) c.args.world.now c.tag_call.new.world (open_of c.tag_call.new.opened) c.tag_call.result
+    call_as (seat_at c.args.at.now) c.args.at.now.cell.place (c.args.at.now.pc + 1) (open_of c.args.opened.now) c.args.what.now (call.Tag c.get.result.now) c.args.world.now c.tag_call.new.world (open_of c.tag_call.new.opened) c.tag_call.result
     (c.in-Tag.is ∙ ap call.Tag (sym c.get.ensures)) c.tag_call.ensures.stepped
 
 pub turn::call_out-returns-in-Body-clause-stepped : goal.turn::call_out-returns-in-Body-clause-stepped
 turn::call_out-returns-in-Body-clause-stepped g t c =
-    call_as (seat_at c.args.at.now) c.args.at.now.cell.now.place (c.args.at.now.pc + 1) (open_of c.args.opened.now) c.args.what.now call.Body c.args.world.now c.given_call.new.world (open_of c.given_call.new.opened) c.given_call.result c.in-Body.is
+    call_as (seat_at c.args.at.now) c.args.at.now.cell.place (c.args.at.now.pc + 1) (open_of c.args.opened.now) c.args.what.now call.Body c.args.world.now c.given_call.new.world (open_of c.given_call.new.opened) c.given_call.result c.in-Body.is
     c.given_call.ensures.stepped
 
 pub turn::call_out-returns-in-Fragment-clause-stepped : goal.turn::call_out-returns-in-Fragment-clause-stepped
 turn::call_out-returns-in-Fragment-clause-stepped g t c =
-    call_as (seat_at c.args.at.now) c.args.at.now.cell.now.place (c.args.at.now.pc + 1) (open_of c.args.opened.now) c.args.what.now (call.Fragment c.in-Fragment.name) c.args.world.now c.given_call-in-Fragment.new.world
+    call_as (seat_at c.args.at.now) c.args.at.now.cell.place (c.args.at.now.pc + 1) (open_of c.args.opened.now) c.args.what.now (call.Fragment c.in-Fragment.name) c.args.world.now c.given_call-in-Fragment.new.world
     (open_of c.given_call-in-Fragment.new.opened) c.given_call-in-Fragment.result c.in-Fragment.is c.given_call-in-Fragment.ensures.stepped
 
 pub turn::call_out-returns-in-Include-clause-stepped : goal.turn::call_out-returns-in-Include-clause-stepped
 turn::call_out-returns-in-Include-clause-stepped g t c =
-    call_as (seat_at c.args.at.now) c.args.at.now.cell.now.place (c.args.at.now.pc + 1) (open_of c.args.opened.now) c.args.what.now (call.Include c.in-Include.flush c.in-Include.params) c.args.world.now c.include_call.new.world
+    call_as (seat_at c.args.at.now) c.args.at.now.cell.place (c.args.at.now.pc + 1) (open_of c.args.opened.now) c.args.what.now (call.Include c.in-Include.flush c.in-Include.params) c.args.world.now c.include_call.new.world
     (open_of c.include_call.new.opened) c.include_call.result c.in-Include.is c.include_call.ensures.stepped
 
 pub turn::call_out-returns-in-Import-clause-stepped : goal.turn::call_out-returns-in-Import-clause-stepped
 turn::call_out-returns-in-Import-clause-stepped g t c =
-    call_as (seat_at c.args.at.now) c.args.at.now.cell.now.place (c.args.at.now.pc + 1) (open_of c.args.opened.now) c.args.what.now call.Import c.args.world.now c.import_call.new.world (open_of c.import_call.new.opened) c.import_call.result
+    call_as (seat_at c.args.at.now) c.args.at.now.cell.place (c.args.at.now.pc + 1) (open_of c.args.opened.now) c.args.what.now call.Import c.args.world.now c.import_call.new.world (open_of c.import_call.new.opened) c.import_call.result
     c.in-Import.is c.import_call.ensures.stepped
 
 -- the run of a page
@@ -319,10 +319,10 @@ pages::included_page-returns-in_default-clause-stepped g t c =
     let seat = seat_at c.args.at.now in
     let o = open_of c.args.opened.now in
     let program = program_of c.args.start.program.now in
-    acted_stepped seat (λ serving s. included_run c.args.at.now.cell.now.place program c.args.start.params.now c.args.start.left (c.args.at.now.pc + 1) s o) c.args.world.now c.push_frame.new.self o (flows.Over ends.NoMemory)
+    acted_stepped seat (λ serving s. included_run c.args.at.now.cell.place program c.args.start.params.now c.args.start.left (c.args.at.now.pc + 1) s o) c.args.world.now c.push_frame.new.self o (flows.Over ends.NoMemory)
     (λ serving h.
-    acted_spent (λ s. included_run c.args.at.now.cell.now.place program c.args.start.params.now c.args.start.left (c.args.at.now.pc + 1) s o) c.args.world.now c.push_frame.new.self o
-    (λ s. included_run_grows c.args.at.now.cell.now.place program c.args.start.params.now c.args.start.left (c.args.at.now.pc + 1) s o) c.in_default.ensures.err c.push_frame.ensures.replies)
+    acted_spent (λ s. included_run c.args.at.now.cell.place program c.args.start.params.now c.args.start.left (c.args.at.now.pc + 1) s o) c.args.world.now c.push_frame.new.self o
+    (λ s. included_run_grows c.args.at.now.cell.place program c.args.start.params.now c.args.start.left (c.args.at.now.pc + 1) s o) c.in_default.ensures.err c.push_frame.ensures.replies)
 
 pub pages::included_page-page_run-requires : goal.pages::included_page-page_run-requires
 pages::included_page-page_run-requires g t c κs within =
@@ -365,7 +365,7 @@ pages::included_page-returns-in-Normal-clause-stepped g t c =
     let counted = c.frames-frames.ensures ∙ ap (λ v. length v.frames) c.scopes.ensures in
     let seat = seat_at c.args.at.now in
     included_on g.W.World.replies laws.stores_on laws.again laws.tells c.args.at.now.served.now (program_of c.args.start.program.now) c.args.start.params.now c.args.start.left c.frame-frame.result c.frames-frames.result c.args.world.now c.push_frame.new.self c.page_run.new.world
-    c.requires.known c.in-Ok.ensures.ok c.push_frame.ensures.replies c.frame-frame.ensures.current counted c.args.at.now.cell.now.place (c.args.at.now.pc + 1) (open_of c.args.opened.now) seat
+    c.requires.known c.in-Ok.ensures.ok c.push_frame.ensures.replies c.frame-frame.ensures.current counted c.args.at.now.cell.place (c.args.at.now.pc + 1) (open_of c.args.opened.now) seat
     c.go_back.new.self c.in-Normal.ensures.ran c.go_back.ensures.back c.go_back.ensures.replies
 
 pub pages::included_page-returns-in-Raised-clause-stepped : goal.pages::included_page-returns-in-Raised-clause-stepped
@@ -374,7 +374,7 @@ pages::included_page-returns-in-Raised-clause-stepped g t c =
     let counted = c.frames-frames.ensures ∙ ap (λ v. length v.frames) c.scopes.ensures in
     let seat = seat_at c.args.at.now in
     included_thrown g.W.World.replies laws.stores_on laws.again laws.tells c.args.at.now.served.now (program_of c.args.start.program.now) c.args.start.params.now c.args.start.left c.frame-frame.result c.frames-frames.result c.args.world.now c.push_frame.new.self c.page_run.new.world
-    c.requires.known c.in-Ok.ensures.ok c.push_frame.ensures.replies c.frame-frame.ensures.current counted c.args.at.now.cell.now.place (c.args.at.now.pc + 1) (open_of c.args.opened.now) seat
+    c.requires.known c.in-Ok.ensures.ok c.push_frame.ensures.replies c.frame-frame.ensures.current counted c.args.at.now.cell.place (c.args.at.now.pc + 1) (open_of c.args.opened.now) seat
     c.in-Raised.fault c.in-Raised.place c.go_back-in-Raised.new.self c.throw.new.world (open_of c.throw.new.opened) c.throw.result c.in-Raised.ensures.ran c.go_back-in-Raised.ensures.back c.go_back-in-Raised.ensures.replies
     c.throw.ensures.acted
 
@@ -384,7 +384,7 @@ pages::included_page-returns-in-Redirect-clause-stepped g t c =
     let counted = c.frames-frames.ensures ∙ ap (λ v. length v.frames) c.scopes.ensures in
     let seat = seat_at c.args.at.now in
     included_redirected g.W.World.replies laws.stores_on laws.again laws.tells c.args.at.now.served.now (program_of c.args.start.program.now) c.args.start.params.now c.args.start.left c.frame-frame.result c.frames-frames.result c.args.world.now c.push_frame.new.self c.page_run.new.world
-    c.requires.known c.in-Ok.ensures.ok c.push_frame.ensures.replies c.frame-frame.ensures.current counted c.args.at.now.cell.now.place (c.args.at.now.pc + 1) (open_of c.args.opened.now) seat
+    c.requires.known c.in-Ok.ensures.ok c.push_frame.ensures.replies c.frame-frame.ensures.current counted c.args.at.now.cell.place (c.args.at.now.pc + 1) (open_of c.args.opened.now) seat
     c.in-Redirect.field-0 c.bodies-bodies.result c.drop_bodies.new.self c.go_back-in-Redirect.new.self c.bodies-bodies.ensures c.in-Redirect.ensures.ran c.drop_bodies.ensures.left c.drop_bodies.ensures.replies
     c.go_back-in-Redirect.ensures.back c.go_back-in-Redirect.ensures.replies
 
@@ -394,7 +394,7 @@ pages::included_page-returns-in_default-page_run-clause-stepped g t c =
     let counted = c.frames-frames.ensures ∙ ap (λ v. length v.frames) c.scopes.ensures in
     let seat = seat_at c.args.at.now in
     included_over g.W.World.replies laws.stores_on laws.again laws.tells c.args.at.now.served.now (program_of c.args.start.program.now) c.args.start.params.now c.args.start.left c.frame-frame.result c.frames-frames.result c.args.world.now c.push_frame.new.self c.page_run.new.world
-    c.requires.known c.in-Ok.ensures.ok c.push_frame.ensures.replies c.frame-frame.ensures.current counted c.args.at.now.cell.now.place (c.args.at.now.pc + 1) (open_of c.args.opened.now) seat
+    c.requires.known c.in-Ok.ensures.ok c.push_frame.ensures.replies c.frame-frame.ensures.current counted c.args.at.now.cell.place (c.args.at.now.pc + 1) (open_of c.args.opened.now) seat
     c.page_run.result (λ l e. c.in_default-page_run.not-Redirect l e) (λ e. c.in_default-page_run.not-Normal e) (λ f p e. c.in_default-page_run.not-Raised f p e) c.page_run.ensures.ran
 
 -- an include of a target
@@ -403,30 +403,30 @@ pub pages::include-returns-in-Err-clause-stepped : goal.pages::include-returns-i
 pages::include-returns-in-Err-clause-stepped g t c =
     let seat = seat_at c.args.at.now in
     let o = open_of c.args.opened.now in
-    acted_stepped seat (λ serving s. include_found serving c.args.at.now.cell.now.place c.args.found (c.args.at.now.pc + 1) s o) c.args.world.now c.fail.new.world (open_of c.fail.new.opened) c.fail.result
+    acted_stepped seat (λ serving s. include_found serving c.args.at.now.cell.place c.args.found (c.args.at.now.pc + 1) s o) c.args.world.now c.fail.new.world (open_of c.fail.new.opened) c.fail.result
     (λ serving h.
-    acted_as (λ s. include_found serving c.args.at.now.cell.now.place c.args.found (c.args.at.now.pc + 1) s o) (failing c.args.at.now.cell.now.place o c.in-Err.failed) c.args.world.now c.fail.new.world (open_of c.fail.new.opened) c.fail.result
-    (λ s. ap (λ f. include_found serving c.args.at.now.cell.now.place f (c.args.at.now.pc + 1) s o) c.in-Err.is ∙ include_failed_is serving c.args.at.now.cell.now.place c.in-Err.failed (c.args.at.now.pc + 1) s o) c.fail.ensures.acted)
+    acted_as (λ s. include_found serving c.args.at.now.cell.place c.args.found (c.args.at.now.pc + 1) s o) (failing c.args.at.now.cell.place o c.in-Err.failed) c.args.world.now c.fail.new.world (open_of c.fail.new.opened) c.fail.result
+    (λ s. ap (λ f. include_found serving c.args.at.now.cell.place f (c.args.at.now.pc + 1) s o) c.in-Err.is ∙ include_failed_is serving c.args.at.now.cell.place c.in-Err.failed (c.args.at.now.pc + 1) s o) c.fail.ensures.acted)
 
 pub pages::include-returns-in_default-clause-stepped : goal.pages::include-returns-in_default-clause-stepped
 pages::include-returns-in_default-clause-stepped g t c =
     let seat = seat_at c.args.at.now in
     let o = open_of c.args.opened.now in
     let none : c.args.opened.now.left ≡ 0 = omega (arith, c.in_default.ensures) in
-    acted_stepped seat (λ serving s. include_found serving c.args.at.now.cell.now.place c.args.found (c.args.at.now.pc + 1) s o) c.args.world.now c.throw.new.world (open_of c.throw.new.opened) c.throw.result
+    acted_stepped seat (λ serving s. include_found serving c.args.at.now.cell.place c.args.found (c.args.at.now.pc + 1) s o) c.args.world.now c.throw.new.world (open_of c.throw.new.opened) c.throw.result
     (λ serving h.
-    acted_as (λ s. include_found serving c.args.at.now.cell.now.place c.args.found (c.args.at.now.pc + 1) s o) (λ s. On (thrown fault.TooDeep c.args.at.now.cell.now.place s o)) c.args.world.now c.throw.new.world (open_of c.throw.new.opened) c.throw.result
-    (λ s. ap (λ f. include_found serving c.args.at.now.cell.now.place f (c.args.at.now.pc + 1) s o) c.in-Ok.is ∙ deeper_none c.args.at.now.cell.now.place s o c.args.opened.now.left _ none) c.throw.ensures.acted)
+    acted_as (λ s. include_found serving c.args.at.now.cell.place c.args.found (c.args.at.now.pc + 1) s o) (λ s. On (thrown fault.TooDeep c.args.at.now.cell.place s o)) c.args.world.now c.throw.new.world (open_of c.throw.new.opened) c.throw.result
+    (λ s. ap (λ f. include_found serving c.args.at.now.cell.place f (c.args.at.now.pc + 1) s o) c.in-Ok.is ∙ deeper_none c.args.at.now.cell.place s o c.args.opened.now.left _ none) c.throw.ensures.acted)
 
 pub pages::include-returns-in-Err-page-clause-stepped : goal.pages::include-returns-in-Err-page-clause-stepped
 pages::include-returns-in-Err-page-clause-stepped g t c =
     let seat = seat_at c.args.at.now in
     let o = open_of c.args.opened.now in
     let level : c.args.opened.now.left ≡ suc c.in-Some.left = omega (arith, c.in-Some.ensures) in
-    stepped_as seat (λ serving s. include_found serving c.args.at.now.cell.now.place c.args.found (c.args.at.now.pc + 1) s o)
-    (λ serving s. include_path serving c.args.at.now.cell.now.place c.in-Ok.target.params c.in-Ok.target.path (c.args.at.now.pc + 1) s o) c.args.world.now c.fail-in-Err-page.new.world (open_of c.fail-in-Err-page.new.opened)
-    c.fail-in-Err-page.result (λ serving h s. ap (λ f. include_found serving c.args.at.now.cell.now.place f (c.args.at.now.pc + 1) s o) c.in-Ok.is)
-    (path_failed c.args.at.now.cell.now.place (c.args.at.now.pc + 1) c.in-Some.left c.in-Ok.target.params c.in-Ok.target.path o level seat c.args.world.now c.page.new.self c.fail-in-Err-page.new.world c.in-Err-page.failed
+    stepped_as seat (λ serving s. include_found serving c.args.at.now.cell.place c.args.found (c.args.at.now.pc + 1) s o)
+    (λ serving s. include_path serving c.args.at.now.cell.place c.in-Ok.target.params c.in-Ok.target.path (c.args.at.now.pc + 1) s o) c.args.world.now c.fail-in-Err-page.new.world (open_of c.fail-in-Err-page.new.opened)
+    c.fail-in-Err-page.result (λ serving h s. ap (λ f. include_found serving c.args.at.now.cell.place f (c.args.at.now.pc + 1) s o) c.in-Ok.is)
+    (path_failed c.args.at.now.cell.place (c.args.at.now.pc + 1) c.in-Some.left c.in-Ok.target.params c.in-Ok.target.path o level seat c.args.world.now c.page.new.self c.fail-in-Err-page.new.world c.in-Err-page.failed
     (open_of c.fail-in-Err-page.new.opened) c.fail-in-Err-page.result (λ serving h. c.in-Err-page.ensures.does serving h.stored) c.fail-in-Err-page.ensures.acted c.fail-in-Err-page.ensures.short)
 
 pub pages::include-included_page-requires : goal.pages::include-included_page-requires
@@ -442,16 +442,16 @@ pages::include-returns-in-Page-clause-stepped g t c =
     let o = open_of c.args.opened.now in
     let k = c.requires.known in
     let level : c.args.opened.now.left ≡ suc c.in-Some.left = omega (arith, c.in-Some.ensures) in
-    stepped_as seat (λ serving s. include_found serving c.args.at.now.cell.now.place c.args.found (c.args.at.now.pc + 1) s o)
-    (λ serving s. include_path serving c.args.at.now.cell.now.place c.in-Ok.target.params c.in-Ok.target.path (c.args.at.now.pc + 1) s o) c.args.world.now c.included_page.new.world (open_of c.included_page.new.opened) c.included_page.result
-    (λ serving h s. ap (λ f. include_found serving c.args.at.now.cell.now.place f (c.args.at.now.pc + 1) s o) c.in-Ok.is)
-    (path_page c.args.at.now.cell.now.place (c.args.at.now.pc + 1) c.in-Some.left c.in-Ok.target.params c.in-Ok.target.path o level seat c.in-Ok-page.paged c.args.world.now c.page.new.self
+    stepped_as seat (λ serving s. include_found serving c.args.at.now.cell.place c.args.found (c.args.at.now.pc + 1) s o)
+    (λ serving s. include_path serving c.args.at.now.cell.place c.in-Ok.target.params c.in-Ok.target.path (c.args.at.now.pc + 1) s o) c.args.world.now c.included_page.new.world (open_of c.included_page.new.opened) c.included_page.result
+    (λ serving h s. ap (λ f. include_found serving c.args.at.now.cell.place f (c.args.at.now.pc + 1) s o) c.in-Ok.is)
+    (path_page c.args.at.now.cell.place (c.args.at.now.pc + 1) c.in-Some.left c.in-Ok.target.params c.in-Ok.target.path o level seat c.in-Ok-page.paged c.args.world.now c.page.new.self
     (λ serving h. c.in-Ok-page.ensures.does serving h.stored) (program_of c.deref.result.now) c.included_page.new.world (open_of c.included_page.new.opened) c.included_page.result
     (λ serving h. sym (c.in-Ok-page.ensures.found serving h.stored) ∙ ap stored_of c.in-Page.is ∙ ap (λ p. good (program_of p)) (sym c.deref.ensures))
     (λ serving h. serves_done g.met.W.World.stores_on g.met.W.World.again c.args.at.now.served.now c.args.world.now c.page.new.self (Ok c.in-Ok-page.paged) serving k (c.in-Ok-page.ensures.does k.serving k.serves.stored) h)
-    (stepped_as seat (λ serving s. included_run c.args.at.now.cell.now.place (program_of c.deref.result.now) c.in-Ok.target.params c.in-Some.left (c.args.at.now.pc + 1) s o)
-    (λ serving s. included_run c.args.at.now.cell.now.place (program_of c.deref.result.now) c.as_slice.result.now c.in-Some.left (c.args.at.now.pc + 1) s o) c.page.new.self c.included_page.new.world (open_of c.included_page.new.opened)
-    c.included_page.result (λ serving h s. ap (λ ps. included_run c.args.at.now.cell.now.place (program_of c.deref.result.now) ps c.in-Some.left (c.args.at.now.pc + 1) s o) (sym c.as_slice.ensures))
+    (stepped_as seat (λ serving s. included_run c.args.at.now.cell.place (program_of c.deref.result.now) c.in-Ok.target.params c.in-Some.left (c.args.at.now.pc + 1) s o)
+    (λ serving s. included_run c.args.at.now.cell.place (program_of c.deref.result.now) c.as_slice.result.now c.in-Some.left (c.args.at.now.pc + 1) s o) c.page.new.self c.included_page.new.world (open_of c.included_page.new.opened)
+    c.included_page.result (λ serving h s. ap (λ ps. included_run c.args.at.now.cell.place (program_of c.deref.result.now) ps c.in-Some.left (c.args.at.now.pc + 1) s o) (sym c.as_slice.ensures))
     c.included_page.ensures.stepped))
 
 pub pages::include-returns-in-Plain-clause-stepped : goal.pages::include-returns-in-Plain-clause-stepped
@@ -459,10 +459,10 @@ pages::include-returns-in-Plain-clause-stepped g t c =
     let seat = seat_at c.args.at.now in
     let o = open_of c.args.opened.now in
     let level : c.args.opened.now.left ≡ suc c.in-Some.left = omega (arith, c.in-Some.ensures) in
-    stepped_as seat (λ serving s. include_found serving c.args.at.now.cell.now.place c.args.found (c.args.at.now.pc + 1) s o)
-    (λ serving s. include_path serving c.args.at.now.cell.now.place c.in-Ok.target.params c.in-Ok.target.path (c.args.at.now.pc + 1) s o) c.args.world.now c.include_text.new.world (open_of c.include_text.new.opened) c.include_text.result
-    (λ serving h s. ap (λ f. include_found serving c.args.at.now.cell.now.place f (c.args.at.now.pc + 1) s o) c.in-Ok.is)
-    (path_on c.args.at.now.cell.now.place (c.args.at.now.pc + 1) c.in-Some.left c.in-Ok.target.params c.in-Ok.target.path o level seat c.in-Ok-page.paged c.args.world.now c.page.new.self
+    stepped_as seat (λ serving s. include_found serving c.args.at.now.cell.place c.args.found (c.args.at.now.pc + 1) s o)
+    (λ serving s. include_path serving c.args.at.now.cell.place c.in-Ok.target.params c.in-Ok.target.path (c.args.at.now.pc + 1) s o) c.args.world.now c.include_text.new.world (open_of c.include_text.new.opened) c.include_text.result
+    (λ serving h s. ap (λ f. include_found serving c.args.at.now.cell.place f (c.args.at.now.pc + 1) s o) c.in-Ok.is)
+    (path_on c.args.at.now.cell.place (c.args.at.now.pc + 1) c.in-Some.left c.in-Ok.target.params c.in-Ok.target.path o level seat c.in-Ok-page.paged c.args.world.now c.page.new.self
     (λ serving h. c.in-Ok-page.ensures.does serving h.stored) (plain c.in-Plain.text) c.include_text.new.world (open_of c.include_text.new.opened) c.include_text.result
     (λ serving h. sym (c.in-Ok-page.ensures.found serving h.stored) ∙ ap stored_of c.in-Plain.is) c.include_text.ensures.acted)
 
@@ -471,33 +471,33 @@ pages::include-returns-in-Absent-clause-stepped g t c =
     let seat = seat_at c.args.at.now in
     let o = open_of c.args.opened.now in
     let level : c.args.opened.now.left ≡ suc c.in-Some.left = omega (arith, c.in-Some.ensures) in
-    stepped_as seat (λ serving s. include_found serving c.args.at.now.cell.now.place c.args.found (c.args.at.now.pc + 1) s o)
-    (λ serving s. include_path serving c.args.at.now.cell.now.place c.in-Ok.target.params c.in-Ok.target.path (c.args.at.now.pc + 1) s o) c.args.world.now c.page.new.self o (flows.Go (c.args.at.now.pc + 1))
-    (λ serving h s. ap (λ f. include_found serving c.args.at.now.cell.now.place f (c.args.at.now.pc + 1) s o) c.in-Ok.is)
-    (path_on c.args.at.now.cell.now.place (c.args.at.now.pc + 1) c.in-Some.left c.in-Ok.target.params c.in-Ok.target.path o level seat c.in-Ok-page.paged c.args.world.now c.page.new.self
+    stepped_as seat (λ serving s. include_found serving c.args.at.now.cell.place c.args.found (c.args.at.now.pc + 1) s o)
+    (λ serving s. include_path serving c.args.at.now.cell.place c.in-Ok.target.params c.in-Ok.target.path (c.args.at.now.pc + 1) s o) c.args.world.now c.page.new.self o (flows.Go (c.args.at.now.pc + 1))
+    (λ serving h s. ap (λ f. include_found serving c.args.at.now.cell.place f (c.args.at.now.pc + 1) s o) c.in-Ok.is)
+    (path_on c.args.at.now.cell.place (c.args.at.now.pc + 1) c.in-Some.left c.in-Ok.target.params c.in-Ok.target.path o level seat c.in-Ok-page.paged c.args.world.now c.page.new.self
     (λ serving h. c.in-Ok-page.ensures.does serving h.stored) (absent) c.page.new.self o (flows.Go (c.args.at.now.pc + 1))
     (λ serving h. sym (c.in-Ok-page.ensures.found serving h.stored) ∙ ap stored_of c.in-Absent.is)
-    (acted_on (λ s. included c.args.at.now.cell.now.place c.in-Ok.target.params c.in-Some.left (absent) (c.args.at.now.pc + 1) s o) c.page.new.self o (c.args.at.now.pc + 1) (λ s. refl)))
+    (acted_on (λ s. included c.args.at.now.cell.place c.in-Ok.target.params c.in-Some.left (absent) (c.args.at.now.pc + 1) s o) c.page.new.self o (c.args.at.now.pc + 1) (λ s. refl)))
 
 pub pages::include-returns-clause-stepped : goal.pages::include-returns-clause-stepped
 pages::include-returns-clause-stepped g t c =
     let seat = seat_at c.args.at.now in
     let o = open_of c.args.opened.now in
     let level : c.args.opened.now.left ≡ suc c.in-Some.left = omega (arith, c.in-Some.ensures) in
-    stepped_as seat (λ serving s. include_found serving c.args.at.now.cell.now.place c.args.found (c.args.at.now.pc + 1) s o)
-    (λ serving s. include_path serving c.args.at.now.cell.now.place c.in-Ok.target.params c.in-Ok.target.path (c.args.at.now.pc + 1) s o) c.args.world.now c.page.new.self o (flows.Go (c.args.at.now.pc + 1))
-    (λ serving h s. ap (λ f. include_found serving c.args.at.now.cell.now.place f (c.args.at.now.pc + 1) s o) c.in-Ok.is)
-    (path_on c.args.at.now.cell.now.place (c.args.at.now.pc + 1) c.in-Some.left c.in-Ok.target.params c.in-Ok.target.path o level seat c.in-Ok-page.paged c.args.world.now c.page.new.self
+    stepped_as seat (λ serving s. include_found serving c.args.at.now.cell.place c.args.found (c.args.at.now.pc + 1) s o)
+    (λ serving s. include_path serving c.args.at.now.cell.place c.in-Ok.target.params c.in-Ok.target.path (c.args.at.now.pc + 1) s o) c.args.world.now c.page.new.self o (flows.Go (c.args.at.now.pc + 1))
+    (λ serving h s. ap (λ f. include_found serving c.args.at.now.cell.place f (c.args.at.now.pc + 1) s o) c.in-Ok.is)
+    (path_on c.args.at.now.cell.place (c.args.at.now.pc + 1) c.in-Some.left c.in-Ok.target.params c.in-Ok.target.path o level seat c.in-Ok-page.paged c.args.world.now c.page.new.self
     (λ serving h. c.in-Ok-page.ensures.does serving h.stored) (bad c.in-Bad.field-0) c.page.new.self o (flows.Go (c.args.at.now.pc + 1))
     (λ serving h. sym (c.in-Ok-page.ensures.found serving h.stored) ∙ ap stored_of c.in-Bad.is)
-    (acted_on (λ s. included c.args.at.now.cell.now.place c.in-Ok.target.params c.in-Some.left (bad c.in-Bad.field-0) (c.args.at.now.pc + 1) s o) c.page.new.self o (c.args.at.now.pc + 1) (λ s. refl)))
+    (acted_on (λ s. included c.args.at.now.cell.place c.in-Ok.target.params c.in-Some.left (bad c.in-Bad.field-0) (c.args.at.now.pc + 1) s o) c.page.new.self o (c.args.at.now.pc + 1) (λ s. refl)))
 
 -- an include by an address
 
 pub pages::include_call-returns-in_default-clause-stepped : goal.pages::include_call-returns-in_default-clause-stepped
 pages::include_call-returns-in_default-clause-stepped g t c =
     let o = open_of c.args.opened.now in
-    include_unflushed c.args.at.now.cell.now.place (c.args.at.now.pc + 1) (seat_at c.args.at.now) o (with_stack (drop (address_with c.args.params) o.stack) o) (reverse (take (address_with c.args.params) o.stack)) c.args.flush c.args.params
+    include_unflushed c.args.at.now.cell.place (c.args.at.now.pc + 1) (seat_at c.args.at.now) o (with_stack (drop (address_with c.args.params) o.stack) o) (reverse (take (address_with c.args.params) o.stack)) c.args.flush c.args.params
     c.requires.filled refl refl c.args.world.now c.flush_if.new.world o c.in_default.ensures.err c.flush_if.ensures.replies
 
 pub pages::include_call-include-requires : goal.pages::include_call-include-requires
@@ -508,7 +508,7 @@ pages::include_call-include-requires g t c κs within =
 pub pages::include_call-returns-clause-stepped : goal.pages::include_call-returns-clause-stepped
 pages::include_call-returns-clause-stepped g t c =
     let o = open_of c.args.opened.now in
-    include_stepped c.args.at.now.cell.now.place (c.args.at.now.pc + 1) (seat_at c.args.at.now) o (with_stack c.drop_top.new.self o) (map datum_of c.top.result.now) c.args.flush c.args.params c.requires.filled
+    include_stepped c.args.at.now.cell.place (c.args.at.now.pc + 1) (seat_at c.args.at.now) o (with_stack c.drop_top.new.self o) (map datum_of c.top.result.now) c.args.flush c.args.params c.requires.filled
     (ap (λ xs. with_stack xs o) c.drop_top.ensures) c.top.ensures c.args.world.now c.flush_if.new.world c.include.new.world c.find_target-found.result (open_of c.include.new.opened) c.include.result c.find_target-found.ensures
     c.in-Ok.ensures.ok c.flush_if.ensures.replies
     (λ serving h. serves_changed g.met.W.World.stores_on g.met.W.World.again c.args.at.now.served.now c.args.world.now c.flush_if.new.world (flush_if c.args.flush) serving c.requires.known c.in-Ok.ensures.ok h)
@@ -519,7 +519,7 @@ pages::include_call-returns-clause-stepped g t c =
 pub pages::import_call-returns-clause-stepped : goal.pages::import_call-returns-clause-stepped
 pages::import_call-returns-clause-stepped g t c =
     let o = open_of c.args.opened.now in
-    import_stepped c.args.at.now.cell.now.place (c.args.at.now.pc + 1) (seat_at c.args.at.now) o (with_stack c.drop_top.new.self o) (map datum_of c.top.result.now) c.requires.filled (ap (λ xs. with_stack xs o) c.drop_top.ensures) c.top.ensures
+    import_stepped c.args.at.now.cell.place (c.args.at.now.pc + 1) (seat_at c.args.at.now) o (with_stack c.drop_top.new.self o) (map datum_of c.top.result.now) c.requires.filled (ap (λ xs. with_stack xs o) c.drop_top.ensures) c.top.ensures
     c.args.world.now c.include.new.world c.import_target-found.result (open_of c.include.new.opened) c.include.result c.import_target-found.ensures c.include.ensures.stepped c.include.ensures.short
 
 -- a body or a fragment that a call gives
@@ -596,23 +596,23 @@ calls::given_call-returns-in-InPage-clause-stepped g t c =
     let seat = seat_at c.args.at.now in
     let o = open_of c.args.opened.now in
     let name = option_map (λ n. n.now) c.args.name in
-    acted_stepped seat (λ serving s. given_called c.args.at.now.cell.now.place (given_by name seat) seat (c.args.at.now.pc + 1) s o) c.args.world.now c.args.world.now o (flows.Go (c.args.at.now.pc + 1))
-    (λ serving h. given_page c.args.at.now.cell.now.place (c.args.at.now.pc + 1) o name seat c.args.world.now (program_of c.in-InPage.field-0.now) c.in-InPage.field-1.now (ap seat_of c.in-InPage.is))
+    acted_stepped seat (λ serving s. given_called c.args.at.now.cell.place (given_by name seat) seat (c.args.at.now.pc + 1) s o) c.args.world.now c.args.world.now o (flows.Go (c.args.at.now.pc + 1))
+    (λ serving h. given_page c.args.at.now.cell.place (c.args.at.now.pc + 1) o name seat c.args.world.now (program_of c.in-InPage.field-0.now) c.in-InPage.field-1.now (ap seat_of c.in-InPage.is))
 
 pub calls::given_call-returns-in-Nothing-clause-stepped : goal.calls::given_call-returns-in-Nothing-clause-stepped
 calls::given_call-returns-in-Nothing-clause-stepped g t c =
     let seat = seat_at c.args.at.now in
     let o = open_of c.args.opened.now in
     let name = option_map (λ n. n.now) c.args.name in
-    acted_stepped seat (λ serving s. given_called c.args.at.now.cell.now.place (given_by name seat) seat (c.args.at.now.pc + 1) s o) c.args.world.now c.args.world.now o (flows.Go (c.args.at.now.pc + 1))
-    (λ serving h. given_none c.args.at.now.cell.now.place (c.args.at.now.pc + 1) o name seat c.args.world.now (ap (given_by name) (ap seat_of c.in-InTag.is) ∙ sym (c.in-Nothing.ensures (seat_of c.in-InTag.caller.now))))
+    acted_stepped seat (λ serving s. given_called c.args.at.now.cell.place (given_by name seat) seat (c.args.at.now.pc + 1) s o) c.args.world.now c.args.world.now o (flows.Go (c.args.at.now.pc + 1))
+    (λ serving h. given_none c.args.at.now.cell.place (c.args.at.now.pc + 1) o name seat c.args.world.now (ap (given_by name) (ap seat_of c.in-InTag.is) ∙ sym (c.in-Nothing.ensures (seat_of c.in-InTag.caller.now))))
 
 pub calls::given_call-returns-in-Source-clause-stepped : goal.calls::given_call-returns-in-Source-clause-stepped
 calls::given_call-returns-in-Source-clause-stepped g t c =
     let seat = seat_at c.args.at.now in
     let o = open_of c.args.opened.now in
     let name = option_map (λ n. n.now) c.args.name in
-    acted_stepped seat (λ serving s. given_called c.args.at.now.cell.now.place (given_by name seat) seat (c.args.at.now.pc + 1) s o) c.args.world.now c.write_source.new.world (open_of c.write_source.new.opened) c.write_source.result
+    acted_stepped seat (λ serving s. given_called c.args.at.now.cell.place (given_by name seat) seat (c.args.at.now.pc + 1) s o) c.args.world.now c.write_source.new.world (open_of c.write_source.new.opened) c.write_source.result
     (λ serving h.
     c.write_source.ensures.acted name seat (seat_of c.in-InTag.caller.now) (ap seat_of c.in-InTag.is)
     (ap (given_by name) (ap seat_of c.in-InTag.is) ∙ sym (c.in-Source.ensures (seat_of c.in-InTag.caller.now))))
@@ -624,9 +624,9 @@ calls::given_call-returns-in_default-clause-stepped g t c =
     let name = option_map (λ n. n.now) c.args.name in
     let caller = seat_of c.in-InTag.caller.now in
     let none : c.args.opened.now.left ≡ 0 = omega (arith, c.in_default.ensures) in
-    acted_stepped seat (λ serving s. given_called c.args.at.now.cell.now.place (given_by name seat) seat (c.args.at.now.pc + 1) s o) c.args.world.now c.throw.new.world (open_of c.throw.new.opened) c.throw.result
+    acted_stepped seat (λ serving s. given_called c.args.at.now.cell.place (given_by name seat) seat (c.args.at.now.pc + 1) s o) c.args.world.now c.throw.new.world (open_of c.throw.new.opened) c.throw.result
     (λ serving h.
-    code_deep c.args.at.now.cell.now.place (c.args.at.now.pc + 1) o name seat (call_of c.in-InTag.call.now) caller (ap seat_of c.in-InTag.is) c.in-Code.pc c.args.world.now c.throw.new.world (open_of c.throw.new.opened) c.throw.result
+    code_deep c.args.at.now.cell.place (c.args.at.now.pc + 1) o name seat (call_of c.in-InTag.call.now) caller (ap seat_of c.in-InTag.is) c.in-Code.pc c.args.world.now c.throw.new.world (open_of c.throw.new.opened) c.throw.result
     (ap (given_by name) (ap seat_of c.in-InTag.is) ∙ sym (c.in-Code.ensures caller)) none c.throw.ensures.acted)
 
 pub calls::given_call-returns-in-Err-clause-stepped : goal.calls::given_call-returns-in-Err-clause-stepped
@@ -635,9 +635,9 @@ calls::given_call-returns-in-Err-clause-stepped g t c =
     let o = open_of c.args.opened.now in
     let name = option_map (λ n. n.now) c.args.name in
     let caller = seat_of c.in-InTag.caller.now in
-    acted_stepped seat (λ serving s. given_called c.args.at.now.cell.now.place (given_by name seat) seat (c.args.at.now.pc + 1) s o) c.args.world.now c.fail.new.world (open_of c.fail.new.opened) c.fail.result
+    acted_stepped seat (λ serving s. given_called c.args.at.now.cell.place (given_by name seat) seat (c.args.at.now.pc + 1) s o) c.args.world.now c.fail.new.world (open_of c.fail.new.opened) c.fail.result
     (λ serving h.
-    copy_failed c.args.at.now.cell.now.place (c.args.at.now.pc + 1) o name seat (call_of c.in-InTag.call.now) caller (ap seat_of c.in-InTag.is) c.args.world.now c.copy_out.new.world c.fail.new.world c.in-Err.failed
+    copy_failed c.args.at.now.cell.place (c.args.at.now.pc + 1) o name seat (call_of c.in-InTag.call.now) caller (ap seat_of c.in-InTag.is) c.args.world.now c.copy_out.new.world c.fail.new.world c.in-Err.failed
     (open_of c.fail.new.opened) c.fail.result c.in-Err.ensures.does c.fail.ensures.acted c.fail.ensures.short)
 
 pub calls::given_call-returns-in-Normal-clause-stepped : goal.calls::given_call-returns-in-Normal-clause-stepped
@@ -652,7 +652,7 @@ calls::given_call-returns-in-Normal-clause-stepped g t c =
     let gives = ap (given_by name) is ∙ sym (c.in-Code.ensures caller) in
     let level : c.args.opened.now.left ≡ suc c.in-Some.left = omega (arith, c.in-Some.ensures) in
     given_on laws.stores_on laws.again laws.tells c.args.at.now.served.now call caller c.in-Code.pc c.in-Some.left c.frame-frame.result c.frames-frames.result c.args.world.now c.copy_out.new.world c.turn_to.new.self c.run_code.new.world c.requires.known
-    c.in_default-copy_out.ensures.does c.turn_to.ensures.turned c.turn_to.ensures.replies c.frame-frame.ensures.current counted more c.args.at.now.cell.now.place (c.args.at.now.pc + 1) (open_of c.args.opened.now) name (seat_at c.args.at.now) is gives level
+    c.in_default-copy_out.ensures.does c.turn_to.ensures.turned c.turn_to.ensures.replies c.frame-frame.ensures.current counted more c.args.at.now.cell.place (c.args.at.now.pc + 1) (open_of c.args.opened.now) name (seat_at c.args.at.now) is gives level
     c.go_back.new.self c.in-Normal.ensures.ran c.go_back.ensures.back c.go_back.ensures.replies
 
 pub calls::given_call-returns-in-Raised-clause-stepped : goal.calls::given_call-returns-in-Raised-clause-stepped
@@ -667,7 +667,7 @@ calls::given_call-returns-in-Raised-clause-stepped g t c =
     let gives = ap (given_by name) is ∙ sym (c.in-Code.ensures caller) in
     let level : c.args.opened.now.left ≡ suc c.in-Some.left = omega (arith, c.in-Some.ensures) in
     given_thrown laws.stores_on laws.again laws.tells c.args.at.now.served.now call caller c.in-Code.pc c.in-Some.left c.frame-frame.result c.frames-frames.result c.args.world.now c.copy_out.new.world c.turn_to.new.self c.run_code.new.world c.requires.known
-    c.in_default-copy_out.ensures.does c.turn_to.ensures.turned c.turn_to.ensures.replies c.frame-frame.ensures.current counted more c.args.at.now.cell.now.place (c.args.at.now.pc + 1) (open_of c.args.opened.now) name (seat_at c.args.at.now) is gives level
+    c.in_default-copy_out.ensures.does c.turn_to.ensures.turned c.turn_to.ensures.replies c.frame-frame.ensures.current counted more c.args.at.now.cell.place (c.args.at.now.pc + 1) (open_of c.args.opened.now) name (seat_at c.args.at.now) is gives level
     c.in-Raised.fault c.in-Raised.place c.go_back-in-Raised.new.self c.throw_at.new.world (open_of c.throw_at.new.opened) c.throw_at.result c.in-Raised.ensures.ran c.go_back-in-Raised.ensures.back
     c.go_back-in-Raised.ensures.replies c.throw_at.ensures.acted
 
@@ -683,7 +683,7 @@ calls::given_call-returns-in_default-run_code-clause-stepped g t c =
     let gives = ap (given_by name) is ∙ sym (c.in-Code.ensures caller) in
     let level : c.args.opened.now.left ≡ suc c.in-Some.left = omega (arith, c.in-Some.ensures) in
     given_over laws.stores_on laws.again laws.tells c.args.at.now.served.now call caller c.in-Code.pc c.in-Some.left c.frame-frame.result c.frames-frames.result c.args.world.now c.copy_out.new.world c.turn_to.new.self c.run_code.new.world c.requires.known
-    c.in_default-copy_out.ensures.does c.turn_to.ensures.turned c.turn_to.ensures.replies c.frame-frame.ensures.current counted more c.args.at.now.cell.now.place (c.args.at.now.pc + 1) (open_of c.args.opened.now) name (seat_at c.args.at.now) is gives level
+    c.in_default-copy_out.ensures.does c.turn_to.ensures.turned c.turn_to.ensures.replies c.frame-frame.ensures.current counted more c.args.at.now.cell.place (c.args.at.now.pc + 1) (open_of c.args.opened.now) name (seat_at c.args.at.now) is gives level
     c.run_code.result (λ e. c.in_default-run_code.not-Normal e) (λ f p e. c.in_default-run_code.not-Raised f p e) c.run_code.ensures.ran
 
 pub calls::given_call-returns-in-Normal-clause-records : goal.calls::given_call-returns-in-Normal-clause-records
@@ -713,8 +713,8 @@ calls::tag_call-returns-in_default-clause-stepped g t c =
     let finds = ap (λ q. tag_at this.path q.tags) (sym c.program.ensures) ∙ sym c.tag_at.ensures in
     let size : c.args.at.now.pc + 1 + c.size_of.result ≡ next + call_size this = ap (λ k. c.args.at.now.pc + 1 + k) c.size_of.ensures in
     let none : found ≡ None = ap (option_map (λ tag. tag_of tag.now)) c.in_default.is in
-    acted_stepped seat (λ serving s. called_out serving seat c.args.at.now.cell.now.place next (call.Tag this) s o) c.args.world.now c.args.world.now p (flows.Go (c.args.at.now.pc + 1 + c.size_of.result))
-    (λ serving h. tag_gone c.args.at.now.cell.now.place this next seat o p (reverse (take n o.stack)) c.requires.filled rest refl found finds serving c.args.world.now (c.args.at.now.pc + 1 + c.size_of.result) none size)
+    acted_stepped seat (λ serving s. called_out serving seat c.args.at.now.cell.place next (call.Tag this) s o) c.args.world.now c.args.world.now p (flows.Go (c.args.at.now.pc + 1 + c.size_of.result))
+    (λ serving h. tag_gone c.args.at.now.cell.place this next seat o p (reverse (take n o.stack)) c.requires.filled rest refl found finds serving c.args.world.now (c.args.at.now.pc + 1 + c.size_of.result) none size)
 
 pub calls::tag_call-enter_call-requires : goal.calls::tag_call-enter_call-requires
 calls::tag_call-enter_call-requires g t c κs within =
@@ -751,8 +751,8 @@ calls::tag_call-returns-in-Ok-clause-stepped g t c =
     let is : found ≡ Some tag = ap (option_map (λ tag. tag_of tag.now)) c.in-Some.is in
     let entries = c.in-Ok.entries in
     let made = ap (λ ns. first_frame tag.decl (table_of ns values)) (sym c.as_slice.ensures) ∙ c.in-Ok.ensures in
-    stepped_as seat (λ serving s. called_out serving seat c.args.at.now.cell.now.place next (call.Tag this) s o) (λ serving s. entered_move c.args.at.now.cell.now.place this next seat p tag entries s) c.args.world.now c.enter_call.new.world (open_of c.enter_call.new.opened) c.enter_call.result
-    (λ serving h s. tag_made c.args.at.now.cell.now.place this next seat o p values c.requires.filled rest taken found finds serving tag is entries made s) c.enter_call.ensures.stepped
+    stepped_as seat (λ serving s. called_out serving seat c.args.at.now.cell.place next (call.Tag this) s o) (λ serving s. entered_move c.args.at.now.cell.place this next seat p tag entries s) c.args.world.now c.enter_call.new.world (open_of c.enter_call.new.opened) c.enter_call.result
+    (λ serving h s. tag_made c.args.at.now.cell.place this next seat o p values c.requires.filled rest taken found finds serving tag is entries made s) c.enter_call.ensures.stepped
 
 pub calls::tag_call-returns-in-Err-clause-stepped : goal.calls::tag_call-returns-in-Err-clause-stepped
 calls::tag_call-returns-in-Err-clause-stepped g t c =
@@ -769,9 +769,9 @@ calls::tag_call-returns-in-Err-clause-stepped g t c =
     let taken = c.top.ensures ∙ ap (λ k. reverse (take k o.stack)) c.len-count.ensures in
     let tag = tag_of c.in-Some.tag.now in
     let is : found ≡ Some tag = ap (option_map (λ tag. tag_of tag.now)) c.in-Some.is in
-    acted_stepped seat (λ serving s. called_out serving seat c.args.at.now.cell.now.place next (call.Tag this) s o) c.args.world.now c.fail.new.world (open_of c.fail.new.opened) c.fail.result
+    acted_stepped seat (λ serving s. called_out serving seat c.args.at.now.cell.place next (call.Tag this) s o) c.args.world.now c.fail.new.world (open_of c.fail.new.opened) c.fail.result
     (λ serving h.
-    tag_failed c.args.at.now.cell.now.place this next seat o p values c.requires.filled rest taken found finds serving tag is c.args.world.now c.fail.new.world c.in-Err.failed (open_of c.fail.new.opened) c.fail.result
+    tag_failed c.args.at.now.cell.place this next seat o p values c.requires.filled rest taken found finds serving tag is c.args.world.now c.fail.new.world c.in-Err.failed (open_of c.fail.new.opened) c.fail.result
     (subst (λ ns. Answers (first_frame tag.decl (table_of ns values)) (Err c.in-Err.failed)) c.as_slice.ensures c.in-Err.ensures) c.fail.ensures.acted c.fail.ensures.short)
 
 pub calls::enter_call-returns-in_default-clause-stepped : goal.calls::enter_call-returns-in_default-clause-stepped
@@ -783,8 +783,8 @@ calls::enter_call-returns-in_default-clause-stepped g t c =
     let tag = tag_of c.args.start.tag.now in
     let entries = c.args.start.entries in
     let none : c.args.opened.now.left ≡ 0 = omega (arith, c.in_default.ensures) in
-    acted_stepped seat (λ serving s. entered_move c.args.at.now.cell.now.place this next seat o tag entries s) c.args.world.now c.throw.new.world (open_of c.throw.new.opened) c.throw.result
-    (λ serving h. tag_deep c.args.at.now.cell.now.place this next seat o tag entries c.args.world.now c.throw.new.world (open_of c.throw.new.opened) c.throw.result none c.throw.ensures.acted)
+    acted_stepped seat (λ serving s. entered_move c.args.at.now.cell.place this next seat o tag entries s) c.args.world.now c.throw.new.world (open_of c.throw.new.opened) c.throw.result
+    (λ serving h. tag_deep c.args.at.now.cell.place this next seat o tag entries c.args.world.now c.throw.new.world (open_of c.throw.new.opened) c.throw.result none c.throw.ensures.acted)
 
 pub calls::enter_call-returns-in_default-exports_of-clause-stepped : goal.calls::enter_call-returns-in_default-exports_of-clause-stepped
 calls::enter_call-returns-in_default-exports_of-clause-stepped g t c =
@@ -794,8 +794,8 @@ calls::enter_call-returns-in_default-exports_of-clause-stepped g t c =
     let next = c.args.at.now.pc + 1 in
     let tag = tag_of c.args.start.tag.now in
     let entries = c.args.start.entries in
-    acted_stepped seat (λ serving s. entered_move c.args.at.now.cell.now.place this next seat o tag entries s) c.args.world.now c.args.world.now o (flows.Over ends.NoMemory)
-    (λ serving h. acted_short (λ s. entered_move c.args.at.now.cell.now.place this next seat o tag entries s) c.args.world.now o (λ s. entered_grows c.args.at.now.cell.now.place this next seat o tag entries s))
+    acted_stepped seat (λ serving s. entered_move c.args.at.now.cell.place this next seat o tag entries s) c.args.world.now c.args.world.now o (flows.Over ends.NoMemory)
+    (λ serving h. acted_short (λ s. entered_move c.args.at.now.cell.place this next seat o tag entries s) c.args.world.now o (λ s. entered_grows c.args.at.now.cell.place this next seat o tag entries s))
 
 pub calls::enter_call-returns-in_default-nested_changes-clause-stepped : goal.calls::enter_call-returns-in_default-nested_changes-clause-stepped
 calls::enter_call-returns-in_default-nested_changes-clause-stepped g t c =
@@ -805,8 +805,8 @@ calls::enter_call-returns-in_default-nested_changes-clause-stepped g t c =
     let next = c.args.at.now.pc + 1 in
     let tag = tag_of c.args.start.tag.now in
     let entries = c.args.start.entries in
-    acted_stepped seat (λ serving s. entered_move c.args.at.now.cell.now.place this next seat o tag entries s) c.args.world.now c.args.world.now o (flows.Over ends.NoMemory)
-    (λ serving h. acted_short (λ s. entered_move c.args.at.now.cell.now.place this next seat o tag entries s) c.args.world.now o (λ s. entered_grows c.args.at.now.cell.now.place this next seat o tag entries s))
+    acted_stepped seat (λ serving s. entered_move c.args.at.now.cell.place this next seat o tag entries s) c.args.world.now c.args.world.now o (flows.Over ends.NoMemory)
+    (λ serving h. acted_short (λ s. entered_move c.args.at.now.cell.place this next seat o tag entries s) c.args.world.now o (λ s. entered_grows c.args.at.now.cell.place this next seat o tag entries s))
 
 pub calls::enter_call-returns-in_default-push_frame_of-clause-stepped : goal.calls::enter_call-returns-in_default-push_frame_of-clause-stepped
 calls::enter_call-returns-in_default-push_frame_of-clause-stepped g t c =
@@ -816,8 +816,8 @@ calls::enter_call-returns-in_default-push_frame_of-clause-stepped g t c =
     let next = c.args.at.now.pc + 1 in
     let tag = tag_of c.args.start.tag.now in
     let entries = c.args.start.entries in
-    acted_stepped seat (λ serving s. entered_move c.args.at.now.cell.now.place this next seat o tag entries s) c.args.world.now c.push_frame_of.new.self o (flows.Over ends.NoMemory)
-    (λ serving h. tag_short c.args.at.now.cell.now.place this next seat o tag entries c.args.world.now c.push_frame_of.new.self o c.in_default-push_frame_of.ensures.err c.push_frame_of.ensures.replies)
+    acted_stepped seat (λ serving s. entered_move c.args.at.now.cell.place this next seat o tag entries s) c.args.world.now c.push_frame_of.new.self o (flows.Over ends.NoMemory)
+    (λ serving h. tag_short c.args.at.now.cell.place this next seat o tag entries c.args.world.now c.push_frame_of.new.self o c.in_default-push_frame_of.ensures.err c.push_frame_of.ensures.replies)
 
 pub calls::enter_call-run_code-requires : goal.calls::enter_call-run_code-requires
 calls::enter_call-run_code-requires g t c κs within =
@@ -832,9 +832,9 @@ calls::enter_call-run_code-requires g t c κs within =
     let fragments = c.as_slice-2.result.now in
     let counted = c.frames-frames.ensures ∙ ap (λ v. length v.frames) c.scopes.ensures in
     let inner = call_with tag this.body fragments next exports c.frame-frame.result in
-    let known = entered_known g.W.World.replies laws.stores_on laws.again laws.tells c.args.at.now.served.now c.args.at.now.cell.now.place this next seat o tag entries exports fragments c.frame-frame.result c.frames-frames.result c.in-Some.left c.args.world.now c.push_frame_of.new.self c.args.world.now c.requires.known c.in-Ok-push_frame_of.ensures.ok c.push_frame_of.ensures.replies
+    let known = entered_known g.W.World.replies laws.stores_on laws.again laws.tells c.args.at.now.served.now c.args.at.now.cell.place this next seat o tag entries exports fragments c.frame-frame.result c.frames-frames.result c.in-Some.left c.args.world.now c.push_frame_of.new.self c.args.world.now c.requires.known c.in-Ok-push_frame_of.ensures.ok c.push_frame_of.ensures.replies
     c.frame-frame.ensures.current c.frame-frame.ensures.there counted in
-    let more = entered_more g.W.World.replies laws.stores_on laws.again laws.tells c.args.at.now.served.now c.args.at.now.cell.now.place this next seat o tag entries exports fragments c.frame-frame.result c.frames-frames.result c.in-Some.left c.args.world.now c.push_frame_of.new.self c.args.world.now c.requires.known c.in-Ok-push_frame_of.ensures.ok c.push_frame_of.ensures.replies
+    let more = entered_more g.W.World.replies laws.stores_on laws.again laws.tells c.args.at.now.served.now c.args.at.now.cell.place this next seat o tag entries exports fragments c.frame-frame.result c.frames-frames.result c.in-Some.left c.args.world.now c.push_frame_of.new.self c.args.world.now c.requires.known c.in-Ok-push_frame_of.ensures.ok c.push_frame_of.ensures.replies
     c.frame-frame.ensures.current c.frame-frame.ensures.there counted in
     let n = length (g.W.World.variables c.push_frame_of.new.self).frames in
     let seated : SeatFits (in_tag inner seat) =
@@ -857,7 +857,7 @@ calls::enter_call-give_back-requires g t c =
     let exports = map export_of c.as_slice-exports.result.now in
     let fragments = c.as_slice-2.result.now in
     let counted = c.frames-frames.ensures ∙ ap (λ v. length v.frames) c.scopes.ensures in
-    let room = entered_room g.W.World.replies laws.stores_on laws.again laws.tells c.args.at.now.served.now c.args.at.now.cell.now.place this next seat o tag entries exports fragments c.frame-frame.result c.frames-frames.result c.in-Some.left c.args.world.now c.push_frame_of.new.self c.run_code.new.world c.requires.known c.in-Ok-push_frame_of.ensures.ok c.push_frame_of.ensures.replies
+    let room = entered_room g.W.World.replies laws.stores_on laws.again laws.tells c.args.at.now.served.now c.args.at.now.cell.place this next seat o tag entries exports fragments c.frame-frame.result c.frames-frames.result c.in-Some.left c.args.world.now c.push_frame_of.new.self c.run_code.new.world c.requires.known c.in-Ok-push_frame_of.ensures.ok c.push_frame_of.ensures.replies
     c.frame-frame.ensures.current c.frame-frame.ensures.there counted ends.Normal (λ x. Well tt x) normal_is (λ n t h. h) c.in-Normal.ensures.ran in
     let there : c.frame-frame.result < c.frames-frames.result = omega (arith, c.frame-frame.ensures.there, counted) in
     let stands : c.frame-frame.result < length (g.W.World.variables c.run_code.new.world).frames = omega (arith, there, room) in
@@ -875,7 +875,7 @@ calls::enter_call-go_back-requires g t c =
     let exports = map export_of c.as_slice-exports.result.now in
     let fragments = c.as_slice-2.result.now in
     let counted = c.frames-frames.ensures ∙ ap (λ v. length v.frames) c.scopes.ensures in
-    let room = entered_room g.W.World.replies laws.stores_on laws.again laws.tells c.args.at.now.served.now c.args.at.now.cell.now.place this next seat o tag entries exports fragments c.frame-frame.result c.frames-frames.result c.in-Some.left c.args.world.now c.push_frame_of.new.self c.run_code.new.world c.requires.known c.in-Ok-push_frame_of.ensures.ok c.push_frame_of.ensures.replies
+    let room = entered_room g.W.World.replies laws.stores_on laws.again laws.tells c.args.at.now.served.now c.args.at.now.cell.place this next seat o tag entries exports fragments c.frame-frame.result c.frames-frames.result c.in-Some.left c.args.world.now c.push_frame_of.new.self c.run_code.new.world c.requires.known c.in-Ok-push_frame_of.ensures.ok c.push_frame_of.ensures.replies
     c.frame-frame.ensures.current c.frame-frame.ensures.there counted ends.Normal (λ x. Well tt x) normal_is (λ n t h. h) c.in-Normal.ensures.ran in
     let there : c.frame-frame.result < c.frames-frames.result = omega (arith, c.frame-frame.ensures.there, counted) in
     let all : c.frames-frames.result ≤ length (g.W.World.variables c.give_back.new.world).frames = omega (arith, room, c.give_back.ensures.frames) in
@@ -893,7 +893,7 @@ calls::enter_call-go_back-requires-in-Raised g t c =
     let exports = map export_of c.as_slice-exports.result.now in
     let fragments = c.as_slice-2.result.now in
     let counted = c.frames-frames.ensures ∙ ap (λ v. length v.frames) c.scopes.ensures in
-    let room = entered_room g.W.World.replies laws.stores_on laws.again laws.tells c.args.at.now.served.now c.args.at.now.cell.now.place this next seat o tag entries exports fragments c.frame-frame.result c.frames-frames.result c.in-Some.left c.args.world.now c.push_frame_of.new.self c.run_code.new.world c.requires.known c.in-Ok-push_frame_of.ensures.ok c.push_frame_of.ensures.replies
+    let room = entered_room g.W.World.replies laws.stores_on laws.again laws.tells c.args.at.now.served.now c.args.at.now.cell.place this next seat o tag entries exports fragments c.frame-frame.result c.frames-frames.result c.in-Some.left c.args.world.now c.push_frame_of.new.self c.run_code.new.world c.requires.known c.in-Ok-push_frame_of.ensures.ok c.push_frame_of.ensures.replies
     c.frame-frame.ensures.current c.frame-frame.ensures.there counted (ends.Raised c.in-Raised.fault c.in-Raised.place) (λ x. Raised c.in-Raised.fault c.in-Raised.place x) (raised_is c.in-Raised.fault c.in-Raised.place) (λ n t h. h) c.in-Raised.ensures.ran in
     let there : c.frame-frame.result < c.frames-frames.result = omega (arith, c.frame-frame.ensures.there, counted) in
     search rules
@@ -912,7 +912,7 @@ calls::enter_call-returns-in-Ok-give_back-clause-stepped g t c =
     let counted = c.frames-frames.ensures ∙ ap (λ v. length v.frames) c.scopes.ensures in
     let level : c.args.opened.now.left ≡ suc c.in-Some.left = omega (arith, c.in-Some.ensures) in
     let made = ap (map export_of) c.as_slice-exports.ensures.value ∙ c.in-Ok.ensures ∙ ap (exports_of entries) c.as_slice.ensures in
-    entered_on g.W.World.replies laws.stores_on laws.again laws.tells c.args.at.now.served.now c.args.at.now.cell.now.place this next seat o tag entries exports fragments c.frame-frame.result c.frames-frames.result c.in-Some.left c.args.world.now c.push_frame_of.new.self c.run_code.new.world c.requires.known c.in-Ok-push_frame_of.ensures.ok c.push_frame_of.ensures.replies
+    entered_on g.W.World.replies laws.stores_on laws.again laws.tells c.args.at.now.served.now c.args.at.now.cell.place this next seat o tag entries exports fragments c.frame-frame.result c.frames-frames.result c.in-Some.left c.args.world.now c.push_frame_of.new.self c.run_code.new.world c.requires.known c.in-Ok-push_frame_of.ensures.ok c.push_frame_of.ensures.replies
     c.frame-frame.ensures.current c.frame-frame.ensures.there counted
     (c.args.at.now.pc + 1 + c.size_of.result) (ap (λ k. c.args.at.now.pc + 1 + k) c.size_of.ensures) level made c.as_slice-2.ensures c.give_back.new.world c.go_back.new.self c.in-Normal.ensures.ran
     (λ s e. c.in-Ok-give_back.ensures.does s.scopes (ap (map change_of) c.as_slice-in-Normal.ensures.value ∙ c.in-Ok-nested_changes.ensures ∙ ap (λ v. nested_changes exports (entries_of_frame v v.current)) (c.scopes-2.ensures ∙ e)
@@ -933,7 +933,7 @@ calls::enter_call-returns-in-Normal-clause-stepped g t c =
     let counted = c.frames-frames.ensures ∙ ap (λ v. length v.frames) c.scopes.ensures in
     let level : c.args.opened.now.left ≡ suc c.in-Some.left = omega (arith, c.in-Some.ensures) in
     let made = ap (map export_of) c.as_slice-exports.ensures.value ∙ c.in-Ok.ensures ∙ ap (exports_of entries) c.as_slice.ensures in
-    entered_failed g.W.World.replies laws.stores_on laws.again laws.tells c.args.at.now.served.now c.args.at.now.cell.now.place this next seat o tag entries exports fragments c.frame-frame.result c.frames-frames.result c.in-Some.left c.args.world.now c.push_frame_of.new.self c.run_code.new.world c.requires.known c.in-Ok-push_frame_of.ensures.ok c.push_frame_of.ensures.replies
+    entered_failed g.W.World.replies laws.stores_on laws.again laws.tells c.args.at.now.served.now c.args.at.now.cell.place this next seat o tag entries exports fragments c.frame-frame.result c.frames-frames.result c.in-Some.left c.args.world.now c.push_frame_of.new.self c.run_code.new.world c.requires.known c.in-Ok-push_frame_of.ensures.ok c.push_frame_of.ensures.replies
     c.frame-frame.ensures.current c.frame-frame.ensures.there counted
     (next + call_size this) refl level made c.as_slice-2.ensures c.give_back.new.world c.fail.new.world c.in-Err.failed (open_of c.fail.new.opened) c.fail.result c.in-Normal.ensures.ran
     (λ s e. c.in-Err.ensures.does s.scopes (ap (map change_of) c.as_slice-in-Normal.ensures.value ∙ c.in-Ok-nested_changes.ensures ∙ ap (λ v. nested_changes exports (entries_of_frame v v.current)) (c.scopes-2.ensures ∙ e)
@@ -954,7 +954,7 @@ calls::enter_call-returns-in-Raised-clause-stepped g t c =
     let counted = c.frames-frames.ensures ∙ ap (λ v. length v.frames) c.scopes.ensures in
     let level : c.args.opened.now.left ≡ suc c.in-Some.left = omega (arith, c.in-Some.ensures) in
     let made = ap (map export_of) c.as_slice-exports.ensures.value ∙ c.in-Ok.ensures ∙ ap (exports_of entries) c.as_slice.ensures in
-    entered_thrown g.W.World.replies laws.stores_on laws.again laws.tells c.args.at.now.served.now c.args.at.now.cell.now.place this next seat o tag entries exports fragments c.frame-frame.result c.frames-frames.result c.in-Some.left c.args.world.now c.push_frame_of.new.self c.run_code.new.world c.requires.known c.in-Ok-push_frame_of.ensures.ok c.push_frame_of.ensures.replies
+    entered_thrown g.W.World.replies laws.stores_on laws.again laws.tells c.args.at.now.served.now c.args.at.now.cell.place this next seat o tag entries exports fragments c.frame-frame.result c.frames-frames.result c.in-Some.left c.args.world.now c.push_frame_of.new.self c.run_code.new.world c.requires.known c.in-Ok-push_frame_of.ensures.ok c.push_frame_of.ensures.replies
     c.frame-frame.ensures.current c.frame-frame.ensures.there counted
     (next + call_size this) refl level made c.as_slice-2.ensures c.in-Raised.fault c.in-Raised.place c.go_back-in-Raised.new.self c.throw_at.new.world (open_of c.throw_at.new.opened) c.throw_at.result c.in-Raised.ensures.ran
     c.go_back-in-Raised.ensures.back c.go_back-in-Raised.ensures.replies c.throw_at.ensures.acted
@@ -973,6 +973,6 @@ calls::enter_call-returns-clause-stepped g t c =
     let counted = c.frames-frames.ensures ∙ ap (λ v. length v.frames) c.scopes.ensures in
     let level : c.args.opened.now.left ≡ suc c.in-Some.left = omega (arith, c.in-Some.ensures) in
     let made = ap (map export_of) c.as_slice-exports.ensures.value ∙ c.in-Ok.ensures ∙ ap (exports_of entries) c.as_slice.ensures in
-    entered_over g.W.World.replies laws.stores_on laws.again laws.tells c.args.at.now.served.now c.args.at.now.cell.now.place this next seat o tag entries exports fragments c.frame-frame.result c.frames-frames.result c.in-Some.left c.args.world.now c.push_frame_of.new.self c.run_code.new.world c.requires.known c.in-Ok-push_frame_of.ensures.ok c.push_frame_of.ensures.replies
+    entered_over g.W.World.replies laws.stores_on laws.again laws.tells c.args.at.now.served.now c.args.at.now.cell.place this next seat o tag entries exports fragments c.frame-frame.result c.frames-frames.result c.in-Some.left c.args.world.now c.push_frame_of.new.self c.run_code.new.world c.requires.known c.in-Ok-push_frame_of.ensures.ok c.push_frame_of.ensures.replies
     c.frame-frame.ensures.current c.frame-frame.ensures.there counted
     (next + call_size this) refl level made c.as_slice-2.ensures c.run_code.result (λ e. c.in_default-run_code.not-Normal e) (λ f q e. c.in_default-run_code.not-Raised f q e) c.run_code.ensures.ran

@@ -1,26 +1,15 @@
-// Cells in no more memory than they need.
-ghost use Rattle.std.specs.Prelude.{◌≡◌, IfOk, IsTrue};
+// Cells that share what is equal with near ones.
+ghost use Rattle.std.specs.Prelude.{◌≡◌, IfOk};
 
 use crate::code::Cell;
-use crate::shape::{Level, Shape};
+use crate::equal::{is_same_place, is_same_shape};
+use crate::shape::Shape;
 use crate::shared::Shared;
 use pg_text::Place;
 use std::alloc::AllocError;
 
 // How many cells before a cell are searched for what it can share.
 const NEAR: usize = 16;
-
-// The same cells, with no room for others. What is equal is shared by cells that stand near.
-pub(crate) fn compact(cells: Vec<Cell>) -> Result<Vec<Cell>, AllocError>
-    ensures { IfOk result (λ made. made.items ≡ cells.items) }
-{
-    let mut made = Vec::with_capacity(*cells.allocator(), cells.len())?;
-    for cell in cells {
-        let cell = sharing(&made, cell)?;
-        made.push(cell)?;
-    }
-    Ok(made)
-}
 
 // The same cells, each of which shares what it can with near cells before the first of them, where
 // there are few.
@@ -69,31 +58,4 @@ fn near_shape(before: &[Cell], shape: &Shared<Shape>) -> Result<Shared<Shape>, A
         }
     }
     shape.copy()
-}
-
-// Whether the places are equal.
-fn is_same_place(a: &Place, b: &Place) -> bool
-    ensures { IsTrue result → a.now ≡ b.now }
-{
-    a.byte == b.byte
-        && a.line == b.line
-        && a.column == b.column
-        && a.file.as_bytes() == b.file.as_bytes()
-}
-
-// Whether the shapes are equal.
-fn is_same_shape(a: &Shape, b: &Shape) -> bool
-    ensures { IsTrue result → a.now ≡ b.now }
-{
-    a.values == b.values
-        && a.bodies == b.bodies
-        && a.loops == b.loops
-        && are_same(a.catches.as_slice(), b.catches.as_slice())
-}
-
-// Whether the levels are equal, one by one.
-fn are_same(a: &[Level], b: &[Level]) -> bool
-    ensures { IsTrue result → a.now ≡ b.now }
-{
-    a == b
 }
