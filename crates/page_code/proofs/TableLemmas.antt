@@ -1,7 +1,7 @@
 -- Steps mean the same by tables that grew.
 use Rattle.std.proofs.Common.{◌≡◌, ◌≤◌, ◌<◌, ◌+◌, ℕ, List, [], ◌∷◌, ◌++◌, length, map, get_or, refl, sym, ap, ◌∙◌, subst, arith}
 use Rattle.std.specs.Prelude.{All}
-use Rattle.std.proofs.lemmas.List.{get_or_append_left, length-append, map-append}
+use Rattle.std.proofs.lemmas.List.{append_assoc, get_or_append_left, length-append, map-append}
 use Rattle.std.proofs.lemmas.List.Elements.{All-append, All-cons, All-head, All-nil, All-tail, All-weaker}
 use Rattle.std.proofs.lemmas.Option.{get_or_from_slice_get, slice_get_within}
 use Rattle.page_code.specs.Shapes.{cell, empty_shape}
@@ -42,7 +42,7 @@ module _ (is is2 : List Instr) (ps ps2 : List Place) (shs shs2 : List Shape) (c 
       ∙ ap (λ x. cell x c.place c.instr) (get_or_from_slice_get shs2 s.shape c.shape empty_shape h.shape.there)
 
   -- one step more is one cell more
-  pub more_cells : (steps : List Step) → All (IsListed is ps shs) steps → step_cells is2 ps2 shs2 (steps ++ s ∷ []) ≡ step_cells is ps shs steps ++ c ∷ []
+  more_cells : (steps : List Step) → All (IsListed is ps shs) steps → step_cells is2 ps2 shs2 (steps ++ s ∷ []) ≡ step_cells is ps shs steps ++ c ∷ []
   more_cells steps all =
       map-append (step_cell is2 ps2 shs2) steps (s ∷ []) ∙ ap (λ l. l ++ step_cell is2 ps2 shs2 s ∷ []) (same_cells steps all) ∙ ap (λ x. step_cells is ps shs steps ++ x ∷ []) new_cell
 
@@ -64,3 +64,10 @@ module _ (is is2 : List Instr) (ps ps2 : List Place) (shs shs2 : List Shape) (c 
   more_listed steps all =
       All-append (IsListed is2 ps2 shs2) steps (s ∷ []) (All-weaker (IsListed is ps shs) (IsListed is2 ps2 shs2) still_listed steps all)
       (All-cons (IsListed is2 ps2 shs2) s [] new_listed (All-nil (IsListed is2 ps2 shs2)))
+
+  -- the steps before what is left are the whole still
+  pub more_packed : (steps pushed : List Step) (rest left whole : List Cell) → All (IsListed is ps shs) steps → pushed ≡ steps ++ s ∷ [] → left ≡ c ∷ rest
+      → step_cells is ps shs steps ++ left ≡ whole → step_cells is2 ps2 shs2 pushed ++ rest ≡ whole
+  more_packed steps pushed rest left whole all push first packs =
+      ap (λ l. step_cells is2 ps2 shs2 l ++ rest) push ∙ ap (λ l. l ++ rest) (more_cells steps all) ∙ append_assoc (step_cells is ps shs steps) (c ∷ []) rest
+      ∙ ap (λ l. step_cells is ps shs steps ++ l) (sym first) ∙ packs
