@@ -14,7 +14,7 @@ use crate::named::{some_variable, static_text, target_in, variable_in};
 use crate::parts::Parts;
 use crate::roles::nothing;
 use jstl_tags::CoreName;
-use page_acts::Act;
+use page_acts::{Act, Addressing, Enclosing};
 use std::alloc::{AllocError, Global};
 use unit_nodes::Action;
 
@@ -29,7 +29,7 @@ pub(crate) fn core_act<'u>(
         (parts_view parts.entry).attributes (parts_view parts.entry).content action.now.place) }
 {
     match name {
-        CoreName::Out => Ok(out(action, parts)),
+        CoreName::Out => Ok(parts.enclosed(Enclosing::Out, &action.place)),
         CoreName::Set => set(alloc, action, parts),
         CoreName::Remove => remove(alloc, action),
         CoreName::Catch => catch(alloc, action, parts),
@@ -41,20 +41,8 @@ pub(crate) fn core_act<'u>(
         CoreName::ForTokens => for_tokens(alloc, action, parts),
         CoreName::Import => import(alloc, action, parts),
         CoreName::Url => url(alloc, action, parts),
-        CoreName::Redirect => Ok(redirect(action, parts)),
+        CoreName::Redirect => Ok(parts.addressed(Addressing::Redirect, &action.place)),
         CoreName::Param => Ok(nothing(alloc, &action.place)),
-    }
-}
-
-// `c:out`.
-fn out<'u>(action: &'u Action, parts: Parts<'u>) -> Act<'u>
-    ensures { act_of result ≡ page.out (parts_view parts.entry).attributes
-        (parts_view parts.entry).content.nodes action.now.place }
-{
-    Act::Out {
-        attributes: parts.attributes,
-        body: parts.body,
-        place: &action.place,
     }
 }
 
@@ -65,18 +53,11 @@ fn set<'u>(alloc: Global, action: &'u Action, parts: Parts<'u>) -> Result<Act<'u
 {
     let attributes = action.attributes.as_slice();
     match target_in(alloc, attributes)? {
-        Some(target) => Ok(Act::SetEntry {
-            target,
-            attributes: parts.attributes,
-            body: parts.body,
-            place: &action.place,
-        }),
-        None => Ok(Act::Set {
-            variable: variable_in(alloc, attributes)?,
-            attributes: parts.attributes,
-            body: parts.body,
-            place: &action.place,
-        }),
+        Some(target) => Ok(parts.enclosed(Enclosing::SetEntry(target), &action.place)),
+        None => {
+            let variable = variable_in(alloc, attributes)?;
+            Ok(parts.enclosed(Enclosing::Set(variable), &action.place))
+        }
     }
 }
 
@@ -110,12 +91,8 @@ fn when_true<'u>(alloc: Global, action: &'u Action, parts: Parts<'u>) -> Result<
         ≡ page.when_true (some_variable (map given_of action.now.attributes))
         (parts_view parts.entry).attributes (parts_view parts.entry).content.nodes action.now.place) }
 {
-    Ok(Act::If {
-        variable: some_variable(alloc, action.attributes.as_slice())?,
-        attributes: parts.attributes,
-        body: parts.body,
-        place: &action.place,
-    })
+    let variable = some_variable(alloc, action.attributes.as_slice())?;
+    Ok(parts.enclosed(Enclosing::If(variable), &action.place))
 }
 
 // `c:choose`: its branches, which were read from its `c:when` and `c:otherwise` before.
@@ -136,13 +113,11 @@ fn for_each<'u>(alloc: Global, action: &'u Action, parts: Parts<'u>) -> Result<A
         (parts_view parts.entry).attributes (parts_view parts.entry).content.nodes action.now.place) }
 {
     let attributes = action.attributes.as_slice();
-    Ok(Act::ForEach {
+    let kind = Enclosing::ForEach {
         variable: static_text(alloc, attributes, "var")?,
         status: static_text(alloc, attributes, "varStatus")?,
-        attributes: parts.attributes,
-        body: parts.body,
-        place: &action.place,
-    })
+    };
+    Ok(parts.enclosed(kind, &action.place))
 }
 
 // `c:forTokens`.
@@ -157,13 +132,11 @@ fn for_tokens<'u>(
         (parts_view parts.entry).attributes (parts_view parts.entry).content.nodes action.now.place) }
 {
     let attributes = action.attributes.as_slice();
-    Ok(Act::ForTokens {
+    let kind = Enclosing::ForTokens {
         variable: static_text(alloc, attributes, "var")?,
         status: static_text(alloc, attributes, "varStatus")?,
-        attributes: parts.attributes,
-        body: parts.body,
-        place: &action.place,
-    })
+    };
+    Ok(parts.enclosed(kind, &action.place))
 }
 
 // `c:import`.
@@ -172,12 +145,8 @@ fn import<'u>(alloc: Global, action: &'u Action, parts: Parts<'u>) -> Result<Act
         ≡ page.import (some_variable (map given_of action.now.attributes)) (parts_view parts.entry).attributes
         (parts_view parts.entry).content.params action.now.place) }
 {
-    Ok(Act::Import {
-        variable: some_variable(alloc, action.attributes.as_slice())?,
-        attributes: parts.attributes,
-        params: parts.params,
-        place: &action.place,
-    })
+    let variable = some_variable(alloc, action.attributes.as_slice())?;
+    Ok(parts.addressed(Addressing::Import(variable), &action.place))
 }
 
 // `c:url`.
@@ -185,22 +154,6 @@ fn url<'u>(alloc: Global, action: &'u Action, parts: Parts<'u>) -> Result<Act<'u
     ensures { IfOk result (λ act. act_of act ≡ page.url (some_variable (map given_of action.now.attributes))
         (parts_view parts.entry).attributes (parts_view parts.entry).content.params action.now.place) }
 {
-    Ok(Act::Url {
-        variable: some_variable(alloc, action.attributes.as_slice())?,
-        attributes: parts.attributes,
-        params: parts.params,
-        place: &action.place,
-    })
-}
-
-// `c:redirect`.
-fn redirect<'u>(action: &'u Action, parts: Parts<'u>) -> Act<'u>
-    ensures { act_of result ≡ page.redirect (parts_view parts.entry).attributes
-        (parts_view parts.entry).content.params action.now.place }
-{
-    Act::Redirect {
-        attributes: parts.attributes,
-        params: parts.params,
-        place: &action.place,
-    }
+    let variable = some_variable(alloc, action.attributes.as_slice())?;
+    Ok(parts.addressed(Addressing::Url(variable), &action.place))
 }

@@ -14,7 +14,7 @@ ghost use Rattle.unit_nodes.specs.Views.{given_of};
 use crate::named::{attribute_is, property_in, scope_of_bean, some_variable, text_of_attribute};
 use crate::parts::Parts;
 use crate::roles::nothing;
-use page_acts::Act;
+use page_acts::{Act, Addressing};
 use std::alloc::{AllocError, Global};
 use unit_nodes::{Action, JspName};
 
@@ -31,7 +31,7 @@ pub(crate) fn jsp_act<'u>(
 {
     match name {
         JspName::Include => include(alloc, action, parts),
-        JspName::Forward => Ok(forward(action, parts)),
+        JspName::Forward => Ok(parts.addressed(Addressing::Forward, &action.place)),
         JspName::Param => Ok(nothing(alloc, &action.place)),
         JspName::UseBean => use_bean(alloc, action, parts),
         JspName::GetProperty => get_property(alloc, action),
@@ -51,24 +51,8 @@ fn include<'u>(alloc: Global, action: &'u Action, parts: Parts<'u>) -> Result<Ac
         (codes "true")) (parts_view parts.entry).attributes (parts_view parts.entry).content.params
         action.now.place) }
 {
-    Ok(Act::Include {
-        flush: attribute_is(alloc, action.attributes.as_slice(), "flush", "true")?,
-        attributes: parts.attributes,
-        params: parts.params,
-        place: &action.place,
-    })
-}
-
-// `jsp:forward`.
-fn forward<'u>(action: &'u Action, parts: Parts<'u>) -> Act<'u>
-    ensures { act_of result ≡ page.forward (parts_view parts.entry).attributes
-        (parts_view parts.entry).content.params action.now.place }
-{
-    Act::Forward {
-        attributes: parts.attributes,
-        params: parts.params,
-        place: &action.place,
-    }
+    let flush = attribute_is(alloc, action.attributes.as_slice(), "flush", "true")?;
+    Ok(parts.addressed(Addressing::Include(flush), &action.place))
 }
 
 // `jsp:useBean`.

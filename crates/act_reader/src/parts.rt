@@ -2,12 +2,14 @@
 ghost use Rattle.std.specs.Prelude.{◌≡◌, map, option_map, if◌then◌else◌, IfOk};
 ghost use Rattle.act_reader.specs.Contents.{children_view, content_view, held_view};
 ghost use Rattle.act_reader.specs.Parts.{parts_in, parts_view};
+ghost use Rattle.page_acts.specs.Views.{act_of, addressing_node, enclosing_node};
 ghost use Rattle.unit_meaning.specs.Shape.{held_or, no_content};
 ghost use Rattle.unit_nodes.specs.Views.{given_of, kind_of};
 
 use crate::attributes::attributes_of;
 use crate::contents::{Children, Content, Held};
-use page_acts::{Act, ActAttribute, ActBranch, ActParam};
+use page_acts::{Act, ActAttribute, ActBranch, ActParam, Addressing, Enclosing};
+use pg_text::Place;
 use std::alloc::{AllocError, Global};
 use unit_nodes::Action;
 
@@ -39,6 +41,34 @@ impl<'u> Parts<'u> {
             params,
             branches,
         })
+    }
+
+    /// The act of an action around a body that has these parts.
+    #[tactic(auto, using(page_acts::proofs::Rows::rows))]
+    pub fn enclosed(self, action: Enclosing, place: &'u Place) -> Act<'u>
+        ensures { act_of result ≡ enclosing_node action (parts_view self.entry).attributes
+            (parts_view self.entry).content.nodes place.now }
+    {
+        Act::Enclosed {
+            action,
+            attributes: self.attributes,
+            body: self.body,
+            place,
+        }
+    }
+
+    /// The act of an action on an address that has these parts.
+    #[tactic(auto, using(page_acts::proofs::Rows::rows))]
+    pub fn addressed(self, action: Addressing, place: &'u Place) -> Act<'u>
+        ensures { act_of result ≡ addressing_node action (parts_view self.entry).attributes
+            (parts_view self.entry).content.params place.now }
+    {
+        Act::Addressed {
+            action,
+            attributes: self.attributes,
+            params: self.params,
+            place,
+        }
     }
 }
 

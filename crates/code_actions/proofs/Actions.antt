@@ -1,15 +1,15 @@
 -- The code of each form of an action, from the codes of its parts.
 use Rattle.std.proofs.Common.{◌≡◌, ℕ, ◌+◌, Bool, true, false, List, [], ◌∷◌, ◌++◌, codes, length, refl, sym, ap, ◌∙◌, append_assoc, length-append}
-use Rattle.code_actions.specs.Addressing.{addressing_code, addressing_evaluations, addressing_node}
+use Rattle.code_actions.specs.Addressing.{addressing_code, addressing_evaluations}
 use Rattle.code_actions.specs.Bodies.{value_or_body_code, with_value_or_body_code}
-use Rattle.code_actions.specs.Enclosing.{enclosing_code, enclosing_evaluations, enclosing_ground, enclosing_node}
+use Rattle.code_actions.specs.Enclosing.{enclosing_code, enclosing_evaluations, enclosing_ground}
 use Rattle.code_actions.specs.Evaluations.{coercions}
 use Rattle.code_actions.specs.Outputs.{out_code, out_ground}
-use Rattle.code_actions.specs.declared.addressing.Addressing.{Addressing}
-use Rattle.code_actions.specs.declared.addressing.Addressing.TheVariants as addressing
-use Rattle.code_actions.specs.declared.enclosing.Enclosing.{Enclosing}
-use Rattle.code_actions.specs.declared.enclosing.Enclosing.TheVariants as enclosing
-use Rattle.page_acts.specs.Views.{variable_of}
+use Rattle.page_acts.specs.Views.{addressing_node, enclosing_node, variable_of}
+use Rattle.page_acts.specs.declared.addressing.Addressing.{Addressing}
+use Rattle.page_acts.specs.declared.addressing.Addressing.TheVariants as addressing
+use Rattle.page_acts.specs.declared.enclosing.Enclosing.{Enclosing}
+use Rattle.page_acts.specs.declared.enclosing.Enclosing.TheVariants as enclosing
 use Rattle.page_code.specs.Shapes.{cell, keeping, up}
 use Rattle.page_code.specs.declared.code.Cell.{Cell}
 use Rattle.page_code.specs.declared.instr.Instr.TheVariants as instr
@@ -64,12 +64,12 @@ module _ (sh : Shape) (place : Place) (page : Page) (list : Attributes) where
   enclosing_is (enclosing.Set x) body =
       let names = names_around (enclosing.Set x) in
       ap (λ cells. form_code sh (attributes_form page list (coercions (enclosing_evaluations (enclosing.Set x))))
-      ++ (cells ++ form_code sh (sets_or_removes place (variable_of x.now).scope (variable_of x.now).name)))
+      ++ (cells ++ form_code sh (sets_or_removes place (variable_of x).scope (variable_of x).name)))
       (sym (value_or_body_is sh place (has (codes "value") names) names (nodes_form page body)))
   enclosing_is (enclosing.SetEntry target) body =
       let names = names_around (enclosing.SetEntry target) in
       ap (λ cells. form_code sh (attributes_form page list (coercions (enclosing_evaluations (enclosing.SetEntry target))))
-      ++ (cells ++ form_code sh (does (op.SetProperty target.now mode.Entry) place)))
+      ++ (cells ++ form_code sh (does (op.SetProperty target mode.Entry) place)))
       (sym (with_value_or_body_is sh place (codes "property") (has (codes "value") names) names (nodes_form page body)))
   enclosing_is (enclosing.If x) body = refl
   enclosing_is (enclosing.ForEach x status) body = refl

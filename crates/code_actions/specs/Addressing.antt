@@ -1,27 +1,18 @@
--- Actions on an address with params: each as a node, what becomes of its attributes, and its code behind the values of its attributes, from
--- the code of its params.
+-- Actions on an address with params: what becomes of the attributes of each, and its code behind the values of its attributes, from the code
+-- of its params.
 use Rattle.std.specs.Prelude.{ℕ, List, [], ◌∷◌, ◌++◌, codes, option_map}
-use Rattle.code_actions.specs.declared.addressing.Addressing.{Addressing}
-use Rattle.code_actions.specs.declared.addressing.Addressing.TheVariants as action
 use Rattle.code_actions.specs.declared.evaluations.Evaluations.{Evaluations}
 use Rattle.code_actions.specs.declared.evaluations.Evaluations.TheVariants as evaluations
 use Rattle.page_acts.specs.Views.{variable_of}
+use Rattle.page_acts.specs.declared.addressing.Addressing.{Addressing}
+use Rattle.page_acts.specs.declared.addressing.Addressing.TheVariants as action
 use Rattle.page_code.specs.declared.code.Cell.{Cell}
 use Rattle.page_code.specs.declared.op.Op.TheVariants as op
 use Rattle.page_code.specs.declared.shape.Shape.{Shape}
 use Rattle.code_forms.specs.Codes.{arranged_code, form_code}
 use Rattle.code_forms.specs.Forms.{calls, does, forwards_to, imported_page, included_page, redirects_to}
 use Rattle.code_lowering.specs.Lowering.{kept_in, url_put}
-use Rattle.page_meaning.specs.Page.{Attributes, Params, Node, import, url, redirect, include, forward}
 use Rattle.pg_text.specs.declared.place.Place.{Place}
-
--- the node that it is
-abbrev pub addressing_node : Addressing → Attributes → Params → Place → Node
-addressing_node (action.Import x) list params place = import (option_map variable_of x.now) list params place
-addressing_node (action.Url x) list params place = url (option_map variable_of x.now) list params place
-addressing_node action.Redirect list params place = redirect list params place
-addressing_node (action.Include flush) list params place = include flush list params place
-addressing_node action.Forward list params place = forward list params place
 
 -- what becomes of its attributes
 abbrev pub addressing_evaluations : Addressing → Evaluations
@@ -49,8 +40,8 @@ address_code action.Forward sh place names count params = page_address_code sh p
 
 -- what is done with it
 abbrev pub address_done : Addressing → Shape → Place → (count : ℕ) → List Cell
-address_done (action.Import x) sh place count = form_code sh (kept_in place (option_map variable_of x.now) (calls imported_page place))
-address_done (action.Url x) sh place count = form_code sh (url_put place (option_map variable_of x.now))
+address_done (action.Import x) sh place count = form_code sh (kept_in place (option_map variable_of x) (calls imported_page place))
+address_done (action.Url x) sh place count = form_code sh (url_put place (option_map variable_of x))
 address_done action.Redirect sh place count = form_code sh (redirects_to place)
 address_done (action.Include flush) sh place count = form_code sh (calls (included_page flush count) place)
 address_done action.Forward sh place count = form_code sh (forwards_to count place)

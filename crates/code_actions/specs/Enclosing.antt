@@ -1,13 +1,13 @@
--- Actions around a body: each as a node, what becomes of its attributes, what stands open in its body, and its code behind the values of its
+-- Actions around a body: what becomes of the attributes of each, what stands open in its body, and its code behind the values of its
 -- attributes, from the code of its body.
 use Rattle.std.specs.Prelude.{ℕ, true, false, List, [], ◌∷◌, ◌++◌, codes, length, Option, option_map}
 use Rattle.code_actions.specs.Bodies.{value_or_body_code, with_value_or_body_code}
 use Rattle.code_actions.specs.Outputs.{out_code, out_ground}
-use Rattle.code_actions.specs.declared.enclosing.Enclosing.{Enclosing}
-use Rattle.code_actions.specs.declared.enclosing.Enclosing.TheVariants as action
 use Rattle.code_actions.specs.declared.evaluations.Evaluations.{Evaluations}
 use Rattle.code_actions.specs.declared.evaluations.Evaluations.TheVariants as evaluations
 use Rattle.page_acts.specs.Views.{variable_of}
+use Rattle.page_acts.specs.declared.enclosing.Enclosing.{Enclosing}
+use Rattle.page_acts.specs.declared.enclosing.Enclosing.TheVariants as action
 use Rattle.page_code.specs.Shapes.{cell, keeping, looping, up}
 use Rattle.page_code.specs.declared.code.Cell.{Cell}
 use Rattle.page_code.specs.declared.instr.Instr.TheVariants as instr
@@ -19,18 +19,9 @@ use Rattle.page_code.specs.declared.shape.Shape.{Shape}
 use Rattle.code_forms.specs.Codes.{arranged_code, either_code, form_code, rounds_code}
 use Rattle.code_forms.specs.Forms.{does}
 use Rattle.code_lowering.specs.Lowering.{has, loop_kind, out_wanted, sets_given, sets_or_removes}
-use Rattle.page_meaning.specs.Page.{Variable, Attributes, Nodes, Node, out, set, set_entry, when_true, each, each_token}
+use Rattle.page_meaning.specs.Page.{Variable}
 use Rattle.pg_text.specs.declared.place.Place.{Place}
 use Rattle.pg_value.specs.Datum.{truth}
-
--- the node that it is
-abbrev pub enclosing_node : Enclosing → Attributes → Nodes → Place → Node
-enclosing_node action.Out list body place = out list body place
-enclosing_node (action.Set x) list body place = set (variable_of x.now) list body place
-enclosing_node (action.SetEntry target) list body place = set_entry target.now list body place
-enclosing_node (action.If x) list body place = when_true (option_map variable_of x.now) list body place
-enclosing_node (action.ForEach x status) list body place = each x.now status.now list body place
-enclosing_node (action.ForTokens x status) list body place = each_token x.now status.now list body place
 
 -- what becomes of its attributes
 abbrev pub enclosing_evaluations : Enclosing → Evaluations
@@ -80,8 +71,8 @@ each_by sh place kind body = cell (up (length kind.names) sh) place (instr.LoopS
 -- the code of the action
 abbrev pub enclosing_code : Enclosing → Shape → Place → (names : List (List ℕ)) → (body : List Cell) → List Cell
 enclosing_code action.Out sh place names body = out_by sh place names body
-enclosing_code (action.Set x) sh place names body = set_by sh place (variable_of x.now) names body
-enclosing_code (action.SetEntry target) sh place names body = entry_by sh place target.now names body
-enclosing_code (action.If x) sh place names body = if_by sh place (option_map variable_of x.now) names body
-enclosing_code (action.ForEach x status) sh place names body = each_by sh place (loop_kind over.Items names x.now status.now) body
-enclosing_code (action.ForTokens x status) sh place names body = each_by sh place (loop_kind over.Tokens names x.now status.now) body
+enclosing_code (action.Set x) sh place names body = set_by sh place (variable_of x) names body
+enclosing_code (action.SetEntry target) sh place names body = entry_by sh place target names body
+enclosing_code (action.If x) sh place names body = if_by sh place (option_map variable_of x) names body
+enclosing_code (action.ForEach x status) sh place names body = each_by sh place (loop_kind over.Items names x status) body
+enclosing_code (action.ForTokens x status) sh place names body = each_by sh place (loop_kind over.Tokens names x status) body

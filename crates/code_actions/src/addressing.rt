@@ -15,25 +15,10 @@ use crate::calls::import;
 use crate::evaluations::Evaluations;
 use crate::variables::sets;
 use code_forms::{call, joined, leave, operation};
-use page_acts::Variable;
+use page_acts::{Addressing, Variable};
 use page_code::{CallOut, Code, Leave, Op, Shape, values_of_address};
 use pg_text::{Listed, Place, Text};
 use std::alloc::{AllocError, Global};
-
-/// An action with attributes and params, apart from these.
-#[derive(Clone, Copy)]
-pub enum Addressing<'a> {
-    /// `c:import`, with the variable for the text, where one is given.
-    Import(&'a Option<Variable>),
-    /// `c:url`, with the variable for the address, where one is given.
-    Url(&'a Option<Variable>),
-    /// `c:redirect`.
-    Redirect,
-    /// `jsp:include`, with whether it flushes before.
-    Include(bool),
-    /// `jsp:forward`.
-    Forward,
-}
 
 /// The params of an address: how many they are, and their code, which has one value more below it
 /// than the action.
@@ -43,75 +28,74 @@ pub struct Params {
     pub code: Code,
 }
 
-impl<'a> Addressing<'a> {
-    /// What becomes of the attributes.
-    pub fn evaluations(&self) -> Evaluations<'static>
-        ensures { result ≡ addressing_evaluations self.now }
-    {
-        match self {
-            Addressing::Import(_) => Evaluations::Url,
-            Addressing::Url(_) => Evaluations::Url,
-            Addressing::Redirect => Evaluations::Url,
-            Addressing::Include(_) => Evaluations::Page,
-            Addressing::Forward => Evaluations::Page,
-        }
+/// What becomes of the attributes of an action on an address.
+pub fn addressing_evaluations(action: &Addressing) -> Evaluations<'static>
+    ensures { result ≡ addressing_evaluations action.now }
+{
+    match action {
+        Addressing::Import(_) => Evaluations::Url,
+        Addressing::Url(_) => Evaluations::Url,
+        Addressing::Redirect => Evaluations::Url,
+        Addressing::Include(_) => Evaluations::Page,
+        Addressing::Forward => Evaluations::Page,
     }
+}
 
-    /// The code of the action behind the values of its attributes, which have these names.
-    pub fn code(
-        &self,
-        alloc: Global,
-        ground: &Shape,
-        place: &Place,
-        names: &Listed<Text>,
-        params: Params,
-    ) -> Result<Code, AllocError>
-        ensures { IfOk result (λ code. code
-            ≡ addressing_code self.now ground.now place.now names.now params.count params.code) }
-    {
-        let count = params.count;
-        let address = self.address(alloc, ground, place, names, params)?;
-        joined(address, self.behind(alloc, ground, place, count)?)
+/// The code of an action on an address, behind the values of its attributes, which have these
+/// names.
+pub fn addressing_code(
+    alloc: Global,
+    ground: &Shape,
+    place: &Place,
+    action: &Addressing,
+    names: &Listed<Text>,
+    params: Params,
+) -> Result<Code, AllocError>
+    ensures { IfOk result (λ code. code
+        ≡ addressing_code action.now ground.now place.now names.now params.count params.code) }
+{
+    let count = params.count;
+    let address = address(alloc, ground, place, action, names, params)?;
+    joined(address, behind(alloc, ground, place, action, count)?)
+}
+
+// The code of the address of an action.
+fn address(
+    alloc: Global,
+    ground: &Shape,
+    place: &Place,
+    action: &Addressing,
+    names: &Listed<Text>,
+    params: Params,
+) -> Result<Code, AllocError>
+    ensures { IfOk result (λ code. code
+        ≡ address_code action.now ground.now place.now names.now params.count params.code) }
+{
+    match action {
+        Addressing::Import(_) => url(alloc, ground, place, "url", names, params),
+        Addressing::Url(_) => url(alloc, ground, place, "value", names, params),
+        Addressing::Redirect => url(alloc, ground, place, "url", names, params),
+        Addressing::Include(_) => page(alloc, ground, place, names, params.code),
+        Addressing::Forward => page(alloc, ground, place, names, params.code),
     }
+}
 
-    // The code of the address.
-    fn address(
-        &self,
-        alloc: Global,
-        ground: &Shape,
-        place: &Place,
-        names: &Listed<Text>,
-        params: Params,
-    ) -> Result<Code, AllocError>
-        ensures { IfOk result (λ code. code
-            ≡ address_code self.now ground.now place.now names.now params.count params.code) }
-    {
-        match self {
-            Addressing::Import(_) => url(alloc, ground, place, "url", names, params),
-            Addressing::Url(_) => url(alloc, ground, place, "value", names, params),
-            Addressing::Redirect => url(alloc, ground, place, "url", names, params),
-            Addressing::Include(_) => page(alloc, ground, place, names, params.code),
-            Addressing::Forward => page(alloc, ground, place, names, params.code),
-        }
-    }
-
-    // The code of what is done with the address.
-    fn behind(
-        &self,
-        alloc: Global,
-        ground: &Shape,
-        place: &Place,
-        count: usize,
-    ) -> Result<Code, AllocError>
-        ensures { IfOk result (λ code. code ≡ address_done self.now ground.now place.now count) }
-    {
-        match self {
-            Addressing::Import(variable) => import(alloc, ground, place, variable),
-            Addressing::Url(variable) => url_put(alloc, ground, place, variable),
-            Addressing::Redirect => leave(alloc, &ground.up(1)?, place, Leave::Redirect),
-            Addressing::Include(flush) => include(alloc, ground, place, *flush, count),
-            Addressing::Forward => forward(alloc, ground, place, count),
-        }
+// The code of what an action does with its address, which has so many params.
+fn behind(
+    alloc: Global,
+    ground: &Shape,
+    place: &Place,
+    action: &Addressing,
+    count: usize,
+) -> Result<Code, AllocError>
+    ensures { IfOk result (λ code. code ≡ address_done action.now ground.now place.now count) }
+{
+    match action {
+        Addressing::Import(variable) => import(alloc, ground, place, variable),
+        Addressing::Url(variable) => url_put(alloc, ground, place, variable),
+        Addressing::Redirect => leave(alloc, &ground.up(1)?, place, Leave::Redirect),
+        Addressing::Include(flush) => include(alloc, ground, place, *flush, count),
+        Addressing::Forward => forward(alloc, ground, place, count),
     }
 }
 

@@ -19,13 +19,13 @@ mod parting;
 mod tags;
 mod variables;
 
-pub use addressing::{Addressing, Params};
+pub use addressing::{Params, addressing_code, addressing_evaluations};
 pub use beans::{SetProperty, UseBean, get_property, set_property, use_bean};
 pub use bodies::{param, param_ground};
 pub use calls::{do_body, invoke};
 pub use choices::catch;
 pub use choosing::{TestedBranch, choice, when};
-pub use enclosing::Enclosing;
+pub use enclosing::{enclosing_code, enclosing_evaluations, enclosing_ground};
 pub use evaluations::Evaluations;
 pub use outputs::{shown, template};
 pub use tags::call_tag;

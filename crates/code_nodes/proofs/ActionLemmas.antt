@@ -1,21 +1,43 @@
 -- Actions around a body and on an address, from the codes of their parts.
-use Rattle.std.proofs.Common.{◌≡◌, ℕ, List, ◌++◌, ap, ◌∙◌}
+use Rattle.std.proofs.Common.{◌≡◌, ℕ, List, ◌++◌, refl, ap, ◌∙◌}
 use Rattle.code_actions.proofs.Actions.{addressing_is, enclosing_is}
-use Rattle.code_actions.specs.Addressing.{addressing_code, addressing_evaluations, addressing_node}
-use Rattle.code_actions.specs.Enclosing.{enclosing_code, enclosing_evaluations, enclosing_ground, enclosing_node}
+use Rattle.code_actions.specs.Addressing.{addressing_code, addressing_evaluations}
+use Rattle.code_actions.specs.Enclosing.{enclosing_code, enclosing_evaluations, enclosing_ground}
 use Rattle.code_actions.specs.Evaluations.{coercions}
-use Rattle.code_actions.specs.declared.addressing.Addressing.{Addressing}
-use Rattle.code_actions.specs.declared.enclosing.Enclosing.{Enclosing}
 use Rattle.code_actions.specs.declared.evaluations.Evaluations.{Evaluations}
+use Rattle.page_acts.specs.Views.{addressing_node, enclosing_node}
+use Rattle.page_acts.specs.declared.addressing.Addressing.{Addressing}
+use Rattle.page_acts.specs.declared.addressing.Addressing.TheVariants as addressing
+use Rattle.page_acts.specs.declared.enclosing.Enclosing.{Enclosing}
+use Rattle.page_acts.specs.declared.enclosing.Enclosing.TheVariants as enclosing
 use Rattle.page_code.specs.Shapes.{up}
 use Rattle.page_code.specs.declared.code.Cell.{Cell}
 use Rattle.page_code.specs.declared.shape.Shape.{Shape}
 use Rattle.code_forms.specs.Codes.{form_code}
-use Rattle.code_lowering.specs.Lowering.{attributes_form, node_form, nodes_form, param_count, params_form}
+use Rattle.code_lowering.specs.Lowering.{attributes_form, node_form, node_visits, nodes_form, param_count, params_form}
 use Rattle.page_meaning.specs.Attributes.{evaluated_names}
 use Rattle.page_meaning.specs.Page.{Page, Attributes, Nodes, Params}
 use Rattle.pg_text.specs.declared.place.Place.{Place}
 use Rattle.code_nodes.specs.Actions.{around_by, around_code, on_address_by, on_address_code}
+
+-- each is visited once
+pub enclosing_visits : (a : Enclosing) (list : Attributes) (body : Nodes) (place : Place) → node_visits (enclosing_node a list body place) ≡ 1
+enclosing_visits enclosing.Out list body place = refl
+enclosing_visits (enclosing.Set x) list body place = refl
+enclosing_visits (enclosing.SetEntry target) list body place = refl
+enclosing_visits (enclosing.If x) list body place = refl
+enclosing_visits (enclosing.ForEach x status) list body place = refl
+enclosing_visits (enclosing.ForTokens x status) list body place = refl
+
+pub addressing_visits : (a : Addressing) (list : Attributes) (ps : Params) (place : Place) → node_visits (addressing_node a list ps place) ≡ 1
+addressing_visits (addressing.Import x) list ps place = refl
+addressing_visits (addressing.Url x) list ps place = refl
+addressing_visits addressing.Redirect list ps place = refl
+addressing_visits (addressing.Include flush) list ps place = refl
+addressing_visits addressing.Forward list ps place = refl
+
+-- how often they are
+pub ruleset action_visits = (enclosing_visits, addressing_visits)
 
 module _ (sh : Shape) (place : Place) (page : Page) (list : Attributes) where
   -- the code of the values, and their names, under these coercions

@@ -3,9 +3,9 @@ use Rattle.std.specs.Prelude.{ℕ, List, codes}
 use Rattle.code_actions.specs.Addressing.{addressing_code, addressing_evaluations}
 use Rattle.code_actions.specs.Enclosing.{enclosing_code, enclosing_evaluations, enclosing_ground}
 use Rattle.code_actions.specs.Evaluations.{coercions}
-use Rattle.code_actions.specs.declared.addressing.Addressing.{Addressing}
-use Rattle.code_actions.specs.declared.enclosing.Enclosing.{Enclosing}
 use Rattle.code_actions.specs.declared.evaluations.Evaluations.TheVariants as evaluations
+use Rattle.page_acts.specs.declared.addressing.Addressing.{Addressing}
+use Rattle.page_acts.specs.declared.enclosing.Enclosing.{Enclosing}
 use Rattle.page_code.specs.Shapes.{up}
 use Rattle.page_code.specs.declared.code.Cell.{Cell}
 use Rattle.page_code.specs.declared.shape.Shape.{Shape}

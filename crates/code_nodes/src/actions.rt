@@ -1,8 +1,7 @@
 // Actions with attributes, around a body or on an address.
 ghost use Rattle.std.specs.Prelude.{◌≡◌, IfOk};
-ghost use Rattle.code_actions.specs.Addressing.{addressing_node};
-ghost use Rattle.code_actions.specs.Enclosing.{enclosing_node};
-ghost use Rattle.page_acts.specs.Views.{acts_of, attributes_of, params_of, property_of};
+ghost use Rattle.page_acts.specs.Views.{acts_of, addressing_node, attributes_of, enclosing_node};
+ghost use Rattle.page_acts.specs.Views.{params_of, property_of};
 ghost use Rattle.code_forms.specs.Codes.{form_code};
 ghost use Rattle.code_lowering.specs.Lowering.{node_form};
 ghost use Rattle.page_meaning.specs.Page.{set_property};
@@ -15,9 +14,12 @@ use crate::names::{evaluated_names, value_place};
 use crate::params::params;
 use crate::position::Position;
 use crate::tree::nodes;
-use code_actions::{Addressing, Enclosing, Evaluations, Params, SetProperty, set_property};
+use code_actions::{
+    Evaluations, Params, SetProperty, addressing_code, addressing_evaluations, enclosing_code,
+    enclosing_evaluations, enclosing_ground, set_property,
+};
 use code_forms::joined;
-use page_acts::{Act, ActAttribute, ActParam, Property};
+use page_acts::{Act, ActAttribute, ActParam, Addressing, Enclosing, Property};
 use page_code::Code;
 use pg_text::Text;
 use std::alloc::{AllocError, Global};
@@ -37,7 +39,8 @@ pub(crate) fn enclosed(
         ≡ form_code at.entry.ground.now (node_form (page_of (page_view page.now))
         (enclosing_node action.now (attributes_of attributes.now) (acts_of body.now) at.entry.place.now))) }
 {
-    let code = values(alloc, page, at.ground, &action.evaluations(), attributes)?;
+    let evaluations = enclosing_evaluations(action);
+    let code = values(alloc, page, at.ground, &evaluations, attributes)?;
     joined(code, around(alloc, page, at, action, attributes, body)?)
 }
 
@@ -54,10 +57,10 @@ fn around(
     ensures { IfOk result (λ code. code ≡ around_code at.entry.ground.now at.entry.place.now
         (page_of (page_view page.now)) (attributes_of attributes.now) action.now (acts_of body.now)) }
 {
-    let names = evaluated_names(alloc, &action.evaluations(), attributes)?;
-    let within = action.body_ground(at.ground, &names)?;
+    let names = evaluated_names(alloc, &enclosing_evaluations(action), attributes)?;
+    let within = enclosing_ground(action, at.ground, &names)?;
     let body = nodes(alloc, page, &within, body)?;
-    action.code(alloc, at.ground, at.place, names, body)
+    enclosing_code(alloc, at.ground, at.place, action, names, body)
 }
 
 /// The code of an action on an address with params.
@@ -74,7 +77,8 @@ pub(crate) fn addressed(
         ≡ form_code at.entry.ground.now (node_form (page_of (page_view page.now))
         (addressing_node action.now (attributes_of attributes.now) (params_of list.now) at.entry.place.now))) }
 {
-    let code = values(alloc, page, at.ground, &action.evaluations(), attributes)?;
+    let evaluations = addressing_evaluations(action);
+    let code = values(alloc, page, at.ground, &evaluations, attributes)?;
     joined(code, on_address(alloc, page, at, action, attributes, list)?)
 }
 
@@ -92,12 +96,12 @@ fn on_address(
         (page_of (page_view page.now)) (attributes_of attributes.now) action.now (params_of list.now)) }
 {
     let cells = params(alloc, page, &at.ground.up(1)?, list)?;
-    let names = evaluated_names(alloc, &action.evaluations(), attributes)?;
+    let names = evaluated_names(alloc, &addressing_evaluations(action), attributes)?;
     let given = Params {
         count: list.len(),
         code: cells,
     };
-    action.code(alloc, at.ground, at.place, &names, given)
+    addressing_code(alloc, at.ground, at.place, action, &names, given)
 }
 
 /// The code of `jsp:setProperty`.

@@ -13,8 +13,7 @@ use crate::calls::call;
 use crate::choices::branches as branches_code;
 use crate::position::Position;
 use code_actions::{
-    Addressing, Enclosing, UseBean, catch, do_body, get_property, invoke, remove, shown, template,
-    use_bean,
+    UseBean, catch, do_body, get_property, invoke, remove, shown, template, use_bean,
 };
 use code_expressions::{first_visits, visits};
 use code_forms::joined;
@@ -49,7 +48,7 @@ fn visited(alloc: Global, page: &Page, ground: &Shape, act: &Act) -> Result<Code
 
 // How many visits stand before a node, which one instruction counts: its own, and the first ones of
 // the expression that it shows. More than 32 bits hold are answered as if memory ran out.
-#[tactic(auto, using(page_acts::proofs::Rows::rows))]
+#[tactic(auto, using(page_acts::proofs::Rows::rows, crate::proofs::ActionLemmas::action_visits))]
 fn node_visits(act: &Act) -> Result<u32, AllocError>
     ensures { IfOk result (λ count. count ≡ node_visits (act_of act.now)) }
 {
@@ -69,33 +68,23 @@ fn node(alloc: Global, page: &Page, ground: &Shape, act: &Act) -> Result<Code, A
     match act {
         Act::Template { text, place } => template(alloc, ground, place, text),
         Act::Shown { el, place } => shown(alloc, ground, place, el),
-        Act::Out {
+        Act::Enclosed {
+            action,
             attributes,
             body,
             place,
         } => {
             let at = Position { ground, place };
-            enclosed(alloc, page, at, &Enclosing::Out, attributes, body)
+            enclosed(alloc, page, at, action, attributes, body)
         }
-        Act::Set {
-            variable,
+        Act::Addressed {
+            action,
             attributes,
-            body,
+            params,
             place,
         } => {
-            let action = Enclosing::Set(variable);
             let at = Position { ground, place };
-            enclosed(alloc, page, at, &action, attributes, body)
-        }
-        Act::SetEntry {
-            target,
-            attributes,
-            body,
-            place,
-        } => {
-            let action = Enclosing::SetEntry(target);
-            let at = Position { ground, place };
-            enclosed(alloc, page, at, &action, attributes, body)
+            addressed(alloc, page, at, action, attributes, params)
         }
         Act::Remove { variable, place } => remove(alloc, ground, place, variable),
         Act::Catch {
@@ -106,85 +95,7 @@ fn node(alloc: Global, page: &Page, ground: &Shape, act: &Act) -> Result<Code, A
             let body = nodes(alloc, page, &ground.trying()?, body)?;
             catch(alloc, ground, place, variable, body)
         }
-        Act::If {
-            variable,
-            attributes,
-            body,
-            place,
-        } => {
-            let action = Enclosing::If(variable);
-            let at = Position { ground, place };
-            enclosed(alloc, page, at, &action, attributes, body)
-        }
         Act::Choose { branches, place: _ } => branches_code(alloc, page, ground, branches),
-        Act::ForEach {
-            variable,
-            status,
-            attributes,
-            body,
-            place,
-        } => {
-            let action = Enclosing::ForEach { variable, status };
-            let at = Position { ground, place };
-            enclosed(alloc, page, at, &action, attributes, body)
-        }
-        Act::ForTokens {
-            variable,
-            status,
-            attributes,
-            body,
-            place,
-        } => {
-            let action = Enclosing::ForTokens { variable, status };
-            let at = Position { ground, place };
-            enclosed(alloc, page, at, &action, attributes, body)
-        }
-        Act::Import {
-            variable,
-            attributes,
-            params,
-            place,
-        } => {
-            let action = Addressing::Import(variable);
-            let at = Position { ground, place };
-            addressed(alloc, page, at, &action, attributes, params)
-        }
-        Act::Url {
-            variable,
-            attributes,
-            params,
-            place,
-        } => {
-            let action = Addressing::Url(variable);
-            let at = Position { ground, place };
-            addressed(alloc, page, at, &action, attributes, params)
-        }
-        Act::Redirect {
-            attributes,
-            params,
-            place,
-        } => {
-            let at = Position { ground, place };
-            addressed(alloc, page, at, &Addressing::Redirect, attributes, params)
-        }
-        Act::Include {
-            flush,
-            attributes,
-            params,
-            place,
-        } => {
-            let action = Addressing::Include(*flush);
-            let at = Position { ground, place };
-            addressed(alloc, page, at, &action, attributes, params)
-        }
-        Act::Forward {
-            attributes,
-            params,
-            place,
-        } => {
-            let at = Position { ground, place };
-            addressed(alloc, page, at, &Addressing::Forward, attributes, params)
-        }
         Act::UseBean {
             name,
             scope,

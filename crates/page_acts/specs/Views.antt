@@ -1,16 +1,21 @@
 -- What the acts of the program are, as nodes without where they lie in memory.
 use Rattle.std.specs.Prelude.{List, [], ◌∷◌, map, option_map}
 use Rattle.el_reader.specs.El.{tree_of}
-use Rattle.page_acts.specs.declared.acts.Act.{Act, Template, Shown, Out', Set', SetEntry', Remove, Catch', If', Choose', ForEach', ForTokens', Import', Url', Redirect', Include', Forward', UseBean', GetProperty, SetProperty', Group', DoBody, Invoke, Call', Row_of-Act, end_of-Act, more_of-Act, Row_of-ActAttribute, end_of-ActAttribute, more_of-ActAttribute, Row_of-ActParam, end_of-ActParam, more_of-ActParam, Row_of-ActBranch, end_of-ActBranch, more_of-ActBranch}
+use Rattle.page_acts.specs.declared.acts.Act.{Act, Template, Shown, Enclosed', Addressed', Remove, Catch', Choose', UseBean', GetProperty, SetProperty', Group', DoBody, Invoke, Call', Row_of-Act, end_of-Act, more_of-Act, Row_of-ActAttribute, end_of-ActAttribute, more_of-ActAttribute, Row_of-ActParam, end_of-ActParam, more_of-ActParam, Row_of-ActBranch, end_of-ActBranch, more_of-ActBranch}
 use Rattle.page_acts.specs.declared.acts.ActAttribute.{ActAttribute, Written, Given'}
 use Rattle.page_acts.specs.declared.acts.ActBranch.{ActBranch, When', Otherwise'}
 use Rattle.page_acts.specs.declared.acts.ActParam.{ActParam}
 use Rattle.page_acts.specs.declared.acts.CallBody.{CallBody, Absent}
 use Rattle.page_acts.specs.declared.acts.CallBody as call_body
+use Rattle.page_acts.specs.declared.addressing.Addressing.{Addressing}
+use Rattle.page_acts.specs.declared.addressing.Addressing.TheVariants as addressing
+use Rattle.page_acts.specs.declared.enclosing.Enclosing.{Enclosing}
+use Rattle.page_acts.specs.declared.enclosing.Enclosing.TheVariants as enclosing
 use Rattle.page_acts.specs.declared.named.Property.{Property as PropertyMade}
 use Rattle.page_acts.specs.declared.named.Property.TheVariants.{Every, One}
 use Rattle.page_acts.specs.declared.named.Variable.{Variable as VariableMade}
 use Rattle.page_meaning.specs.Page.{Variable, Property, every, one, Node, template, shown, out, set, set_entry, remove, catch, when_true, choose, each, each_token, import, url, redirect, include, forward, use_bean, get_property, set_property, group, do_body, invoke, call, Nodes, no_nodes, more_nodes, Attributes, no_attributes, written, given, Params, no_params, param, Branches, no_branches, when, otherwise, Body, no_body, given_body}
+use Rattle.pg_text.specs.declared.place.Place.{Place}
 use Rattle.unit_meaning.specs.Named.{part_of}
 use Rattle.unit_nodes.specs.Views.{part_of as part_view}
 
@@ -21,25 +26,33 @@ abbrev pub property_of : PropertyMade → Property
 property_of Every = every
 property_of (One property parameter) = one property parameter
 
+-- what an action around a body is
+abbrev pub enclosing_node : Enclosing → Attributes → Nodes → Place → Node
+enclosing_node enclosing.Out list body place = out list body place
+enclosing_node (enclosing.Set variable) list body place = set (variable_of variable) list body place
+enclosing_node (enclosing.SetEntry target) list body place = set_entry target list body place
+enclosing_node (enclosing.If variable) list body place = when_true (option_map variable_of variable) list body place
+enclosing_node (enclosing.ForEach variable status) list body place = each variable status list body place
+enclosing_node (enclosing.ForTokens variable status) list body place = each_token variable status list body place
+
+-- what an action on an address is
+abbrev pub addressing_node : Addressing → Attributes → Params → Place → Node
+addressing_node (addressing.Import variable) list params place = import (option_map variable_of variable) list params place
+addressing_node (addressing.Url variable) list params place = url (option_map variable_of variable) list params place
+addressing_node addressing.Redirect list params place = redirect list params place
+addressing_node (addressing.Include flush) list params place = include flush list params place
+addressing_node addressing.Forward list params place = forward list params place
+
 abbrev mutual
   -- what an act is
   pub act_of : Act → Node
   act_of (Template text place) = template text.now place.now
   act_of (Shown el place) = shown (tree_of el.now) place.now
-  act_of (Out' s attributes t body place) = out (attributes_row attributes) (acts_row body) place.now
-  act_of (Set' variable s attributes t body place) = set (variable_of variable) (attributes_row attributes) (acts_row body) place.now
-  act_of (SetEntry' target s attributes t body place) = set_entry target (attributes_row attributes) (acts_row body) place.now
+  act_of (Enclosed' action s attributes t body place) = enclosing_node action (attributes_row attributes) (acts_row body) place.now
+  act_of (Addressed' action s attributes t params place) = addressing_node action (attributes_row attributes) (params_row params) place.now
   act_of (Remove variable place) = remove (variable_of variable) place.now
   act_of (Catch' variable s body place) = catch variable (acts_row body) place.now
-  act_of (If' variable s attributes t body place) = when_true (option_map variable_of variable) (attributes_row attributes) (acts_row body) place.now
   act_of (Choose' s branches place) = choose (branches_row branches) place.now
-  act_of (ForEach' variable status s attributes t body place) = each variable status (attributes_row attributes) (acts_row body) place.now
-  act_of (ForTokens' variable status s attributes t body place) = each_token variable status (attributes_row attributes) (acts_row body) place.now
-  act_of (Import' variable s attributes t params place) = import (option_map variable_of variable) (attributes_row attributes) (params_row params) place.now
-  act_of (Url' variable s attributes t params place) = url (option_map variable_of variable) (attributes_row attributes) (params_row params) place.now
-  act_of (Redirect' s attributes t params place) = redirect (attributes_row attributes) (params_row params) place.now
-  act_of (Include' flush s attributes t params place) = include flush (attributes_row attributes) (params_row params) place.now
-  act_of (Forward' s attributes t params place) = forward (attributes_row attributes) (params_row params) place.now
   act_of (UseBean' name scope class s body place) = use_bean name scope class (acts_row body) place.now
   act_of (GetProperty name property place) = get_property name property place.now
   act_of (SetProperty' name property s attributes place) = set_property name (property_of property) (attributes_row attributes) place.now

@@ -2,6 +2,8 @@ ghost use Rattle.std.specs.Prelude.{◌≡◌};
 ghost use Rattle.page_acts.specs.Views.{act_of};
 ghost use Rattle.page_meaning.specs.Page.{place_of};
 
+use crate::addressing::Addressing;
+use crate::enclosing::Enclosing;
 use crate::named::{Property, Variable};
 use el_reader::El;
 use pg_text::{Path, Place, Text};
@@ -23,24 +25,18 @@ pub enum Act<'u> {
         el: &'u El,
         place: &'u Place,
     },
-    /// `c:out`.
-    Out {
+    /// An action around a body.
+    Enclosed {
+        action: Enclosing,
         attributes: Vec<ActAttribute<'u>>,
         body: Vec<Act<'u>>,
         place: &'u Place,
     },
-    /// `c:set` of a variable.
-    Set {
-        variable: Variable,
+    /// An action on an address with params.
+    Addressed {
+        action: Addressing,
         attributes: Vec<ActAttribute<'u>>,
-        body: Vec<Act<'u>>,
-        place: &'u Place,
-    },
-    /// `c:set` of an entry of the record that the variable `target` holds.
-    SetEntry {
-        target: Text,
-        attributes: Vec<ActAttribute<'u>>,
-        body: Vec<Act<'u>>,
+        params: Vec<ActParam<'u>>,
         place: &'u Place,
     },
     /// `c:remove`.
@@ -54,65 +50,9 @@ pub enum Act<'u> {
         body: Vec<Act<'u>>,
         place: &'u Place,
     },
-    /// `c:if`.
-    If {
-        variable: Option<Variable>,
-        attributes: Vec<ActAttribute<'u>>,
-        body: Vec<Act<'u>>,
-        place: &'u Place,
-    },
     /// `c:choose`.
     Choose {
         branches: Vec<ActBranch<'u>>,
-        place: &'u Place,
-    },
-    /// `c:forEach`.
-    ForEach {
-        variable: Option<Text>,
-        status: Option<Text>,
-        attributes: Vec<ActAttribute<'u>>,
-        body: Vec<Act<'u>>,
-        place: &'u Place,
-    },
-    /// `c:forTokens`.
-    ForTokens {
-        variable: Option<Text>,
-        status: Option<Text>,
-        attributes: Vec<ActAttribute<'u>>,
-        body: Vec<Act<'u>>,
-        place: &'u Place,
-    },
-    /// `c:import`.
-    Import {
-        variable: Option<Variable>,
-        attributes: Vec<ActAttribute<'u>>,
-        params: Vec<ActParam<'u>>,
-        place: &'u Place,
-    },
-    /// `c:url`.
-    Url {
-        variable: Option<Variable>,
-        attributes: Vec<ActAttribute<'u>>,
-        params: Vec<ActParam<'u>>,
-        place: &'u Place,
-    },
-    /// `c:redirect`.
-    Redirect {
-        attributes: Vec<ActAttribute<'u>>,
-        params: Vec<ActParam<'u>>,
-        place: &'u Place,
-    },
-    /// `jsp:include`.
-    Include {
-        flush: bool,
-        attributes: Vec<ActAttribute<'u>>,
-        params: Vec<ActParam<'u>>,
-        place: &'u Place,
-    },
-    /// `jsp:forward`.
-    Forward {
-        attributes: Vec<ActAttribute<'u>>,
-        params: Vec<ActParam<'u>>,
         place: &'u Place,
     },
     /// `jsp:useBean`.
@@ -164,27 +104,18 @@ pub enum Act<'u> {
 
 impl<'u> Act<'u> {
     /// Where the faults of this act stand that have no place of their own.
-    #[tactic(auto, using(crate::proofs::Rows::rows))]
+    #[tactic(auto, using(crate::proofs::Rows::rows, crate::proofs::Places::places))]
     pub fn place(&self) -> &'u Place
         ensures { result.now ≡ place_of (act_of self.now) }
     {
         match self {
             Act::Template { place, .. } => place,
             Act::Shown { place, .. } => place,
-            Act::Out { place, .. } => place,
-            Act::Set { place, .. } => place,
-            Act::SetEntry { place, .. } => place,
+            Act::Enclosed { place, .. } => place,
+            Act::Addressed { place, .. } => place,
             Act::Remove { place, .. } => place,
             Act::Catch { place, .. } => place,
-            Act::If { place, .. } => place,
             Act::Choose { place, .. } => place,
-            Act::ForEach { place, .. } => place,
-            Act::ForTokens { place, .. } => place,
-            Act::Import { place, .. } => place,
-            Act::Url { place, .. } => place,
-            Act::Redirect { place, .. } => place,
-            Act::Include { place, .. } => place,
-            Act::Forward { place, .. } => place,
             Act::UseBean { place, .. } => place,
             Act::GetProperty { place, .. } => place,
             Act::SetProperty { place, .. } => place,

@@ -3,7 +3,11 @@
 #![tactic(auto)]
 
 mod acts;
+mod addressing;
+mod enclosing;
 mod named;
 
 pub use acts::{Act, ActAttribute, ActBranch, ActParam, CallBody};
+pub use addressing::Addressing;
+pub use enclosing::Enclosing;
 pub use named::{Property, Variable};

@@ -20,30 +20,30 @@ pub actions::enclosed-returns : goal.actions::enclosed-returns
 actions::enclosed-returns t c =
     subst (λ cells. IfOk c.joined.result (λ code. code ≡ cells))
     (enclosed_is c.args.at.ground.now c.args.at.place.now (page_of (page_view c.args.page.now)) (attributes_of c.args.attributes.now) c.args.action.now (acts_of c.args.body.now)
-    c.evaluations.result c.in_ok-code.code c.in_ok-around.field-0 c.evaluations.ensures c.in_ok-code.ensures c.in_ok-around.ensures)
+    c.enclosing_evaluations-evaluations.result c.in_ok-code.code c.in_ok-around.field-0 c.enclosing_evaluations-evaluations.ensures c.in_ok-code.ensures c.in_ok-around.ensures)
     c.joined.ensures
 
 pub actions::around-returns : goal.actions::around-returns
 actions::around-returns t c =
-    subst (λ cells. IfOk c.code.result (λ code. code ≡ cells))
+    subst (λ cells. IfOk c.enclosing_code.result (λ code. code ≡ cells))
     (around_is c.args.at.ground.now c.args.at.place.now (page_of (page_view c.args.page.now)) (attributes_of c.args.attributes.now) c.args.action.now (acts_of c.args.body.now)
-    c.evaluations.result c.in_ok-names.names c.in_ok-within.within c.in_ok-body.body c.evaluations.ensures c.in_ok-names.ensures c.in_ok-within.ensures c.in_ok-body.ensures)
-    c.code.ensures
+    c.enclosing_evaluations.result c.in_ok-names.names c.in_ok-within.within c.in_ok-body.body c.enclosing_evaluations.ensures c.in_ok-names.ensures c.in_ok-within.ensures c.in_ok-body.ensures)
+    c.enclosing_code.ensures
 
 pub actions::addressed-returns : goal.actions::addressed-returns
 actions::addressed-returns t c =
     subst (λ cells. IfOk c.joined.result (λ code. code ≡ cells))
     (addressed_is c.args.at.ground.now c.args.at.place.now (page_of (page_view c.args.page.now)) (attributes_of c.args.attributes.now) c.args.action.now (params_of c.args.list.now)
-    c.evaluations.result c.in_ok-code.code c.in_ok-on_address.field-0 c.evaluations.ensures c.in_ok-code.ensures c.in_ok-on_address.ensures)
+    c.addressing_evaluations-evaluations.result c.in_ok-code.code c.in_ok-on_address.field-0 c.addressing_evaluations-evaluations.ensures c.in_ok-code.ensures c.in_ok-on_address.ensures)
     c.joined.ensures
 
 pub actions::on_address-returns : goal.actions::on_address-returns
 actions::on_address-returns t c =
-    subst (λ cells. IfOk c.code.result (λ code. code ≡ cells))
+    subst (λ cells. IfOk c.addressing_code.result (λ code. code ≡ cells))
     (on_address_is c.args.at.ground.now c.args.at.place.now (page_of (page_view c.args.page.now)) (attributes_of c.args.attributes.now) c.args.action.now (params_of c.args.list.now)
-    c.evaluations.result c.in_ok-names.names _ c.in_ok-cells.cells c.in_ok-up.field-0 c.evaluations.ensures c.in_ok-names.ensures c.in_ok-up.ensures c.in_ok-cells.ensures
+    c.addressing_evaluations.result c.in_ok-names.names _ c.in_ok-cells.cells c.in_ok-up.field-0 c.addressing_evaluations.ensures c.in_ok-names.ensures c.in_ok-up.ensures c.in_ok-cells.ensures
     (sym (param_count_is c.args.list.now)))
-    c.code.ensures
+    c.addressing_code.ensures
 
 pub attributes::values-loop-attribute-preserved : goal.attributes::values-loop-attribute-preserved
 attributes::values-loop-attribute-preserved t c =
