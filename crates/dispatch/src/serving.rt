@@ -82,14 +82,14 @@ pub(crate) fn serve<Q: Port<Made>, K: Sink, L: Ledger>(
     let Ok(mut course) = begin_course(alloc, incoming, session, attrs) else {
         return abandon(port, under_way, sink);
     };
-    match run(alloc, port, under_way, &mut course, sink, steps) {
+    match reply_from_pages(alloc, port, under_way, &mut course, sink, steps) {
         Ok(reply) => finish(alloc, port, under_way, reply, course, sink),
         Err(AllocError) => give_up(port, under_way, course.writer.committed(), sink),
     }
 }
 
 // Runs what stands at a request's path, over the port on which it was begun.
-fn run<'a, Q: Port<Made>, K: Sink, L: Ledger>(
+fn reply_from_pages<'a, Q: Port<Made>, K: Sink, L: Ledger>(
     alloc: Global,
     port: &'a mut Q,
     under_way: UnderWay<'a>,

@@ -236,7 +236,7 @@ fn included_page<W: World>(
     let Ok(()) = world.push_frame() else {
         return Flow::Over(End::NoMemory);
     };
-    match page_run(alloc, at.served, start, world) {
+    match enter_page(alloc, at.served, start, world) {
         End::Normal => {
             world.go_back(frames, frame);
             Flow::Go(at.pc + 1)
@@ -263,8 +263,8 @@ fn starts_session<W: World>(program: &Program, world: &W) -> bool
     program.settings.session && !world.has_session() && !world.has_committed()
 }
 
-// The beginning of a page's run: its session, where it starts one.
-fn begin_page<W: World>(program: &Program, world: &mut W) -> Result<(), Failure<RunFault>>
+// Makes a session, where a page's run starts one.
+fn make_session<W: World>(program: &Program, world: &mut W) -> Result<(), Failure<RunFault>>
     requires covered { W.covered world.old }
     ensures covered { W.covered world.new }
     ensures does { Doing W.reached W.replies (λ u. u) (λ place. page_begun (program_of program.now))
@@ -276,9 +276,9 @@ fn begin_page<W: World>(program: &Program, world: &mut W) -> Result<(), Failure<
     Ok(())
 }
 
-/// Runs a page in the current frame: its session first, where it starts one, then its code.
+/// Enters a page in the current frame: a session first, where its run starts one, then its code.
 #[cycle(machine)]
-pub(crate) fn page_run<W: World>(
+pub(crate) fn enter_page<W: World>(
     alloc: Global,
     served: &Served,
     start: PageStart,
@@ -298,7 +298,7 @@ pub(crate) fn page_run<W: World>(
     } = start;
     know_tags(program.tags.as_slice());
     let _ = program.code.code();
-    let Ok(()) = begin_page(program, world) else {
+    let Ok(()) = make_session(program, world) else {
         return End::NoMemory;
     };
     let mut records = RequestRecords::none();

@@ -12,7 +12,7 @@ ghost use Rattle.run_stage.specs.Standing.{HasCharged, KeepsResponse, KeepsSessi
 ghost use Rattle.run_world.specs.Origin.{Origin};
 ghost use Rattle.run_world.specs.Programs.{program_of};
 
-use crate::pages::{PageStart, page_run};
+use crate::pages::{PageStart, enter_page};
 use edges::Sink;
 use http_in::{Param, Request};
 use out_buffer::Writer;
@@ -85,13 +85,13 @@ pub fn run<P: AppPort<Program>, K: Sink>(
         params,
         left,
     };
-    let end = run_seen(alloc, start, request, &exception, &mut stage);
+    let end = run_with_exception(alloc, start, request, &exception, &mut stage);
     stage.around.exception = exception;
     end_run(end, stage.around)
 }
 
 // Runs a page that sees this fault, where it is an error page.
-fn run_seen<'a, W: World>(
+fn run_with_exception<'a, W: World>(
     alloc: Global,
     start: PageStart,
     request: &'a Request,
@@ -110,7 +110,7 @@ fn run_seen<'a, W: World>(
         request,
         exception: seen,
     };
-    page_run(alloc, &served, start, world)
+    enter_page(alloc, &served, start, world)
 }
 
 // The end of a run as its caller sees it, and the depth of a forward's target.

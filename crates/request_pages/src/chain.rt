@@ -20,8 +20,8 @@ ghost use Rattle.source_tree.specs.declared.file.File.{File};
 use crate::course::{Course, Way};
 use crate::incoming::Incoming;
 use crate::page_run::PageRun;
-use crate::playing::play_page;
 use crate::reply::{Gone, Reply};
+use crate::running::run_page;
 use crate::telling::{file, not_found, page_fault};
 use compiled_pages::Made;
 use edges::{Ledger, Sink};
@@ -112,7 +112,7 @@ pub(crate) fn run_chain<'a, Q: Port<Made>, L: Ledger, K: Sink>(
         close: incoming.close,
         shown: incoming.shown,
     };
-    match play_page(alloc, run, way, course, sink, port) {
+    match run_page(alloc, run, way, course, sink, port) {
         Err(AllocError) => Err(AllocError),
         Ok(Gone::Done(reply)) => Ok(ChainEnd::Done(reply)),
         Ok(Gone::Failed(raise)) => Ok(ChainEnd::Failed(failed(raise, chain))),

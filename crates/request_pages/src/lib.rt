@@ -2,6 +2,7 @@
 #![tactic(auto)]
 
 mod answering;
+mod begun;
 mod body;
 mod chain;
 mod course;
@@ -10,7 +11,6 @@ mod incoming;
 mod instead;
 mod looking;
 mod page_run;
-mod playing;
 mod reply;
 mod running;
 mod telling;

@@ -1,92 +1,65 @@
-// The run of one page.
-ghost use Rattle.std.specs.Prelude.{◌≡◌, ◌+◌, ◌-◌, ◌≤◌, ℕ, List};
-ghost use Rattle.std.specs.declared.option.Option.{Option};
-ghost use Rattle.out_buffer.specs.Held.{Stands};
-ghost use Rattle.out_buffer.specs.Writer.{Writer as Wrote};
+// The run of one page from its beginning.
+ghost use Rattle.std.specs.Prelude.{◌≡◌, ◌-◌, ℕ, List, false};
 ghost use Rattle.page_machine.specs.Run.{IsInOrder, StandsFor, level_limit};
 ghost use Rattle.compiled_pages.specs.Made.{IsPageAt, IsProgramOf, TellsPages};
 ghost use Rattle.page_meaning.specs.Page.{Page};
 ghost use Rattle.page_meaning.specs.State.{State};
 ghost use Rattle.run_pages.specs.Meant.{served_at};
-ghost use Rattle.request_pages.specs.Gone.{GoneBy, PageGone};
-ghost use Rattle.run_stage.specs.Standing.{HasCharged, KeepsResponse, KeepsSession};
+ghost use Rattle.request_pages.specs.Course.{IsHeaded};
+ghost use Rattle.request_pages.specs.Played.{IsFunded, Played};
+ghost use Rattle.run_stage.specs.Standing.{HasCharged, KeepsSession};
 ghost use Rattle.run_world.specs.Origin.{Origin};
 
-use crate::body::Body;
-use crate::course::Course;
+use crate::begun::run_begun;
+use crate::course::{Course, Way, begin_page};
 use crate::page_run::PageRun;
-use crate::reply::{Gone, Reply};
+use crate::reply::Gone;
 use edges::Sink;
-use http_out::Status;
-use page_machine::RunEnd;
 use page_meaning::{depth, parts};
-use run_pages::play;
-use run_stage::RUN_PROMISE;
-use run_world::{Program, Raise};
+use run_world::Program;
 use site_words::AppPort;
 use std::alloc::{AllocError, Global};
 
-/// Runs a page whose run has begun, and whose Fetch was charged before.
+/// Runs a page from its beginning. Its Fetch was charged before, and nothing was committed.
 pub(crate) fn run_page<P: AppPort<Program>, K: Sink>(
     alloc: Global,
     run: PageRun,
+    way: Way,
     course: &mut Course,
     sink: &mut K,
     port: &mut P,
 ) -> Result<Gone, AllocError>
     requires tells { TellsPages P.made P.faulty }
+    requires uncommitted { course.old.writer.committed ≡ false }
+    requires headed { IsHeaded way.close way.shown course.old.around course.old.writer }
     requires in_order { IsInOrder course.old.scopes course.old.around (P.asking port.old) }
-    requires promise { RUN_PROMISE ≤ course.old.around.charge + (P.asking port.old).left }
-    requires writer { (start : Option (List ℕ)) × (before : ℕ) × (written : Wrote) × Stands start before
-        course.old.writer (K.taken sink.old) (K.faults sink.old) written }
-    ensures gone { (path : List ℕ) → IsProgramOf run.entry.program.now (P.tree port.old) path →
+    requires funded { IsFunded course.old.around (P.asking port.old) }
+    requires stands { (page : Page) × (path : List ℕ) × (origin : Origin) × (s : State) × IsProgramOf
+        run.program.now (P.tree port.old) path × IsPageAt page (P.tree port.old) path
+        × StandsFor origin course.old.scopes course.old.writer (K.taken sink.old) (K.faults sink.old)
+        course.old.around (P.asking port.old) s }
+    ensures played { (path : List ℕ) → IsProgramOf run.entry.program.now (P.tree port.old) path →
         (page : Page) → IsPageAt page (P.tree port.old) path
         → (origin : Origin) (s : State) → StandsFor origin course.old.scopes course.old.writer
         (K.taken sink.old) (K.faults sink.old) course.old.around (P.asking port.old) s
-        → PageGone (served_at (P.tree port.old) run.entry.request.now course.old.around) page
+        → Played (served_at (P.tree port.old) run.entry.request.now course.old.around) way.status page
         run.entry.params.now (level_limit - course.old.around.depth) (StandsFor origin
         course.new.scopes course.new.writer (K.taken sink.new) (K.faults sink.new) course.new.around
         (P.asking port.new)) s (P.asking port.old).answers (P.asking port.new).answers
         course.new.around.depth course.new.writer result }
+    ensures headed { IsHeaded way.close way.shown course.new.around course.new.writer }
     ensures in_order { IsInOrder course.new.scopes course.new.around (P.asking port.new) }
+    ensures funded { IsFunded course.new.around (P.asking port.new) }
     ensures charged { HasCharged course.old.around course.new.around (P.asking port.old) (P.asking port.new) }
     ensures session { KeepsSession course.old.around course.new.around }
-    ensures response { KeepsResponse course.old.writer course.new.writer course.old.around course.new.around }
     ensures exception { course.new.around.exception ≡ course.old.around.exception }
     ensures tree { P.tree port.new ≡ P.tree port.old }
     ensures leads { P.leads port.old port.new }
 {
     depth();
     parts();
-    let end = play(
-        alloc,
-        run.program,
-        run.request,
-        run.params,
-        &mut course.scopes,
-        &mut course.writer,
-        sink,
-        &mut course.around,
-        port,
-    );
-    gone(alloc, end, course.writer.committed())
-}
-
-// How a run ended, by whether something was committed.
-fn gone(alloc: Global, end: RunEnd, committed: bool) -> Result<Gone, AllocError>
-    ensures { GoneBy committed end result }
-{
-    match end {
-        RunEnd::Normal => Ok(Gone::Done(Reply::Written { broken: false })),
-        RunEnd::Raised { .. } if committed => Ok(Gone::Done(Reply::Written { broken: true })),
-        RunEnd::Raised { fault, place } => Ok(Gone::Failed(Raise { fault, place })),
-        RunEnd::Redirect(address) => Ok(Gone::Done(Reply::Whole {
-            status: Status::Found,
-            content_type: None,
-            location: Some(address),
-            body: Body::empty(alloc),
-        })),
-        RunEnd::Forward(path, params) => Ok(Gone::Forward(path, params)),
-        RunEnd::NoMemory => Err(AllocError),
-    }
+    let Ok(()) = begin_page(alloc, run.program, way, course) else {
+        return Err(AllocError);
+    };
+    run_begun(alloc, run, course, sink, port)
 }

@@ -3,7 +3,7 @@
 #![tactic(auto)]
 
 mod laws;
-mod playing;
+mod running;
 
 pub use laws::served;
-pub use playing::play;
+pub use running::run_program;

@@ -19,7 +19,7 @@ use http_in::{Param, Request};
 use out_buffer::Writer;
 use page_machine::RunEnd;
 use pg_text::{PageFault, Path};
-use run_pages::play;
+use run_pages::run_program;
 use run_stage::RUN_PROMISE;
 use run_world::{Around, Program};
 use scopes::Scopes;
@@ -89,7 +89,7 @@ pub fn run_at<P: AppPort<Program>, K: Sink, L: Ledger>(
         MadeBody::Program(program) => program,
         MadeBody::Fault(fault) => return PageEnd::Faulty(fault),
     };
-    PageEnd::Ran(play(
+    PageEnd::Ran(run_program(
         alloc, &program, request, params, scopes, writer, sink, around, port,
     ))
 }

@@ -294,23 +294,23 @@ turn::call_out-returns-in-Import-clause-stepped g t c =
 
 -- the run of a page
 
-pub pages::page_run-returns-in_default-clause-ran : goal.pages::page_run-returns-in_default-clause-ran
-pages::page_run-returns-in_default-clause-ran g t c =
-    page_failed no_place (program_of c.args.start.program.now) c.args.start.params.now c.args.start.left c.args.world.now c.begin_page.new.world c.in_default.field-0 c.in_default.ensures.does
+pub pages::enter_page-returns-in_default-clause-ran : goal.pages::enter_page-returns-in_default-clause-ran
+pages::enter_page-returns-in_default-clause-ran g t c =
+    page_failed no_place (program_of c.args.start.program.now) c.args.start.params.now c.args.start.left c.args.world.now c.make_session.new.world c.in_default.field-0 c.in_default.ensures.does
 
-pub pages::page_run-run_code-requires : goal.pages::page_run-run_code-requires
-pages::page_run-run_code-requires g t c κs within =
-    let known = known_done g.met.W.World.stores_on g.met.W.World.again c.args.served.now c.args.world.now c.begin_page.new.world (Ok tt) c.requires.known c.in-Ok.ensures.does in
+pub pages::enter_page-run_code-requires : goal.pages::enter_page-run_code-requires
+pages::enter_page-run_code-requires g t c κs within =
+    let known = known_done g.met.W.World.stores_on g.met.W.World.again c.args.served.now c.args.world.now c.make_session.new.world (Ok tt) c.requires.known c.in-Ok.ensures.does in
     let tags = subst (λ xs. TagsFit (map tag_of xs)) c.as_slice.ensures c.know_tags.ensures in
     let fits = c.code.ensures.fits in
     let first = fits.0 in
     let records = c.none-records.ensures c.args.served.now.request.now c.args.start.params.now in
     search rules
 
-pub pages::page_run-returns-clause-ran : goal.pages::page_run-returns-clause-ran
-pages::page_run-returns-clause-ran g t c =
-    ran_page no_place (program_of c.args.start.program.now) c.args.start.params.now c.args.start.left c.args.world.now c.begin_page.new.world c.run_code.new.world c.run_code.result c.in-Ok.ensures.does
-    (λ serving h. serves_done g.met.W.World.stores_on g.met.W.World.again c.args.served.now c.args.world.now c.begin_page.new.world (Ok tt) serving c.requires.known c.in-Ok.ensures.does h) c.run_code.ensures.ran
+pub pages::enter_page-returns-clause-ran : goal.pages::enter_page-returns-clause-ran
+pages::enter_page-returns-clause-ran g t c =
+    ran_page no_place (program_of c.args.start.program.now) c.args.start.params.now c.args.start.left c.args.world.now c.make_session.new.world c.run_code.new.world c.run_code.result c.in-Ok.ensures.does
+    (λ serving h. serves_done g.met.W.World.stores_on g.met.W.World.again c.args.served.now c.args.world.now c.make_session.new.world (Ok tt) serving c.requires.known c.in-Ok.ensures.does h) c.run_code.ensures.ran
 
 -- an included page
 
@@ -324,8 +324,8 @@ pages::included_page-returns-in_default-clause-stepped g t c =
     acted_spent (λ s. included_run c.args.at.now.cell.place program c.args.start.params.now c.args.start.left (c.args.at.now.pc + 1) s o) c.args.world.now c.push_frame.new.self o
     (λ s. included_run_grows c.args.at.now.cell.place program c.args.start.params.now c.args.start.left (c.args.at.now.pc + 1) s o) c.in_default.ensures.err c.push_frame.ensures.replies)
 
-pub pages::included_page-page_run-requires : goal.pages::included_page-page_run-requires
-pages::included_page-page_run-requires g t c κs within =
+pub pages::included_page-enter_page-requires : goal.pages::included_page-enter_page-requires
+pages::included_page-enter_page-requires g t c κs within =
     let laws = g.met.W.World in
     let counted = c.frames-frames.ensures ∙ ap (λ v. length v.frames) c.scopes.ensures in
     let known = included_known g.W.World.replies laws.stores_on laws.again laws.tells c.args.at.now.served.now (program_of c.args.start.program.now) c.args.start.params.now c.args.start.left c.frame-frame.result c.frames-frames.result c.args.world.now c.push_frame.new.self c.args.world.now
@@ -336,7 +336,7 @@ pub pages::included_page-go_back-requires : goal.pages::included_page-go_back-re
 pages::included_page-go_back-requires g t c =
     let laws = g.met.W.World in
     let counted = c.frames-frames.ensures ∙ ap (λ v. length v.frames) c.scopes.ensures in
-    let room = included_room g.W.World.replies laws.stores_on laws.again laws.tells c.args.at.now.served.now (program_of c.args.start.program.now) c.args.start.params.now c.args.start.left c.frame-frame.result c.frames-frames.result c.args.world.now c.push_frame.new.self c.page_run.new.world
+    let room = included_room g.W.World.replies laws.stores_on laws.again laws.tells c.args.at.now.served.now (program_of c.args.start.program.now) c.args.start.params.now c.args.start.left c.frame-frame.result c.frames-frames.result c.args.world.now c.push_frame.new.self c.enter_page.new.world
     c.requires.known c.in-Ok.ensures.ok c.push_frame.ensures.replies c.frame-frame.ensures.current counted ends.Normal (λ x. Well tt x) normal_is (λ n t h. h) c.in-Normal.ensures.ran in
     let there : c.frame-frame.result < c.frames-frames.result = omega (arith, c.frame-frame.ensures.there, counted) in
     search rules
@@ -345,7 +345,7 @@ pub pages::included_page-go_back-requires-in-Raised : goal.pages::included_page-
 pages::included_page-go_back-requires-in-Raised g t c =
     let laws = g.met.W.World in
     let counted = c.frames-frames.ensures ∙ ap (λ v. length v.frames) c.scopes.ensures in
-    let room = included_room g.W.World.replies laws.stores_on laws.again laws.tells c.args.at.now.served.now (program_of c.args.start.program.now) c.args.start.params.now c.args.start.left c.frame-frame.result c.frames-frames.result c.args.world.now c.push_frame.new.self c.page_run.new.world
+    let room = included_room g.W.World.replies laws.stores_on laws.again laws.tells c.args.at.now.served.now (program_of c.args.start.program.now) c.args.start.params.now c.args.start.left c.frame-frame.result c.frames-frames.result c.args.world.now c.push_frame.new.self c.enter_page.new.world
     c.requires.known c.in-Ok.ensures.ok c.push_frame.ensures.replies c.frame-frame.ensures.current counted (ends.Raised c.in-Raised.fault c.in-Raised.place) (λ x. Raised c.in-Raised.fault c.in-Raised.place x) (raised_is c.in-Raised.fault c.in-Raised.place) (λ n t h. h) c.in-Raised.ensures.ran in
     let there : c.frame-frame.result < c.frames-frames.result = omega (arith, c.frame-frame.ensures.there, counted) in
     search rules
@@ -354,7 +354,7 @@ pub pages::included_page-go_back-requires-in-Redirect : goal.pages::included_pag
 pages::included_page-go_back-requires-in-Redirect g t c =
     let laws = g.met.W.World in
     let counted = c.frames-frames.ensures ∙ ap (λ v. length v.frames) c.scopes.ensures in
-    let room = included_left g.W.World.replies laws.stores_on laws.again laws.tells c.args.at.now.served.now (program_of c.args.start.program.now) c.args.start.params.now c.args.start.left c.frame-frame.result c.frames-frames.result c.args.world.now c.push_frame.new.self c.page_run.new.world
+    let room = included_left g.W.World.replies laws.stores_on laws.again laws.tells c.args.at.now.served.now (program_of c.args.start.program.now) c.args.start.params.now c.args.start.left c.frame-frame.result c.frames-frames.result c.args.world.now c.push_frame.new.self c.enter_page.new.world
     c.requires.known c.in-Ok.ensures.ok c.push_frame.ensures.replies c.frame-frame.ensures.current counted c.in-Redirect.field-0 c.bodies-bodies.result c.drop_bodies.new.self c.in-Redirect.ensures.ran c.drop_bodies.ensures.left in
     let there : c.frame-frame.result < c.frames-frames.result = omega (arith, c.frame-frame.ensures.there, counted) in
     search rules
@@ -364,7 +364,7 @@ pages::included_page-returns-in-Normal-clause-stepped g t c =
     let laws = g.met.W.World in
     let counted = c.frames-frames.ensures ∙ ap (λ v. length v.frames) c.scopes.ensures in
     let seat = seat_at c.args.at.now in
-    included_on g.W.World.replies laws.stores_on laws.again laws.tells c.args.at.now.served.now (program_of c.args.start.program.now) c.args.start.params.now c.args.start.left c.frame-frame.result c.frames-frames.result c.args.world.now c.push_frame.new.self c.page_run.new.world
+    included_on g.W.World.replies laws.stores_on laws.again laws.tells c.args.at.now.served.now (program_of c.args.start.program.now) c.args.start.params.now c.args.start.left c.frame-frame.result c.frames-frames.result c.args.world.now c.push_frame.new.self c.enter_page.new.world
     c.requires.known c.in-Ok.ensures.ok c.push_frame.ensures.replies c.frame-frame.ensures.current counted c.args.at.now.cell.place (c.args.at.now.pc + 1) (open_of c.args.opened.now) seat
     c.go_back.new.self c.in-Normal.ensures.ran c.go_back.ensures.back c.go_back.ensures.replies
 
@@ -373,7 +373,7 @@ pages::included_page-returns-in-Raised-clause-stepped g t c =
     let laws = g.met.W.World in
     let counted = c.frames-frames.ensures ∙ ap (λ v. length v.frames) c.scopes.ensures in
     let seat = seat_at c.args.at.now in
-    included_thrown g.W.World.replies laws.stores_on laws.again laws.tells c.args.at.now.served.now (program_of c.args.start.program.now) c.args.start.params.now c.args.start.left c.frame-frame.result c.frames-frames.result c.args.world.now c.push_frame.new.self c.page_run.new.world
+    included_thrown g.W.World.replies laws.stores_on laws.again laws.tells c.args.at.now.served.now (program_of c.args.start.program.now) c.args.start.params.now c.args.start.left c.frame-frame.result c.frames-frames.result c.args.world.now c.push_frame.new.self c.enter_page.new.world
     c.requires.known c.in-Ok.ensures.ok c.push_frame.ensures.replies c.frame-frame.ensures.current counted c.args.at.now.cell.place (c.args.at.now.pc + 1) (open_of c.args.opened.now) seat
     c.in-Raised.fault c.in-Raised.place c.go_back-in-Raised.new.self c.throw.new.world (open_of c.throw.new.opened) c.throw.result c.in-Raised.ensures.ran c.go_back-in-Raised.ensures.back c.go_back-in-Raised.ensures.replies
     c.throw.ensures.acted
@@ -383,19 +383,19 @@ pages::included_page-returns-in-Redirect-clause-stepped g t c =
     let laws = g.met.W.World in
     let counted = c.frames-frames.ensures ∙ ap (λ v. length v.frames) c.scopes.ensures in
     let seat = seat_at c.args.at.now in
-    included_redirected g.W.World.replies laws.stores_on laws.again laws.tells c.args.at.now.served.now (program_of c.args.start.program.now) c.args.start.params.now c.args.start.left c.frame-frame.result c.frames-frames.result c.args.world.now c.push_frame.new.self c.page_run.new.world
+    included_redirected g.W.World.replies laws.stores_on laws.again laws.tells c.args.at.now.served.now (program_of c.args.start.program.now) c.args.start.params.now c.args.start.left c.frame-frame.result c.frames-frames.result c.args.world.now c.push_frame.new.self c.enter_page.new.world
     c.requires.known c.in-Ok.ensures.ok c.push_frame.ensures.replies c.frame-frame.ensures.current counted c.args.at.now.cell.place (c.args.at.now.pc + 1) (open_of c.args.opened.now) seat
     c.in-Redirect.field-0 c.bodies-bodies.result c.drop_bodies.new.self c.go_back-in-Redirect.new.self c.bodies-bodies.ensures c.in-Redirect.ensures.ran c.drop_bodies.ensures.left c.drop_bodies.ensures.replies
     c.go_back-in-Redirect.ensures.back c.go_back-in-Redirect.ensures.replies
 
-pub pages::included_page-returns-in_default-page_run-clause-stepped : goal.pages::included_page-returns-in_default-page_run-clause-stepped
-pages::included_page-returns-in_default-page_run-clause-stepped g t c =
+pub pages::included_page-returns-in_default-enter_page-clause-stepped : goal.pages::included_page-returns-in_default-enter_page-clause-stepped
+pages::included_page-returns-in_default-enter_page-clause-stepped g t c =
     let laws = g.met.W.World in
     let counted = c.frames-frames.ensures ∙ ap (λ v. length v.frames) c.scopes.ensures in
     let seat = seat_at c.args.at.now in
-    included_over g.W.World.replies laws.stores_on laws.again laws.tells c.args.at.now.served.now (program_of c.args.start.program.now) c.args.start.params.now c.args.start.left c.frame-frame.result c.frames-frames.result c.args.world.now c.push_frame.new.self c.page_run.new.world
+    included_over g.W.World.replies laws.stores_on laws.again laws.tells c.args.at.now.served.now (program_of c.args.start.program.now) c.args.start.params.now c.args.start.left c.frame-frame.result c.frames-frames.result c.args.world.now c.push_frame.new.self c.enter_page.new.world
     c.requires.known c.in-Ok.ensures.ok c.push_frame.ensures.replies c.frame-frame.ensures.current counted c.args.at.now.cell.place (c.args.at.now.pc + 1) (open_of c.args.opened.now) seat
-    c.page_run.result (λ l e. c.in_default-page_run.not-Redirect l e) (λ e. c.in_default-page_run.not-Normal e) (λ f p e. c.in_default-page_run.not-Raised f p e) c.page_run.ensures.ran
+    c.enter_page.result (λ l e. c.in_default-enter_page.not-Redirect l e) (λ e. c.in_default-enter_page.not-Normal e) (λ f p e. c.in_default-enter_page.not-Raised f p e) c.enter_page.ensures.ran
 
 -- an include of a target
 

@@ -40,8 +40,8 @@ decreases-pages::include g l = 8 * l.opened.now.left + 3
 abbrev pub decreases-pages::included_page : goal.decreases-pages::included_page
 decreases-pages::included_page g l = 8 * l.start.left + 9
 
-abbrev pub decreases-pages::page_run : goal.decreases-pages::page_run
-decreases-pages::page_run g l = 8 * l.start.left + 8
+abbrev pub decreases-pages::enter_page : goal.decreases-pages::enter_page
+decreases-pages::enter_page g l = 8 * l.start.left + 8
 
 -- the turns that are left: page_table's number, with the visits that the world has counted
 abbrev pub decreases-turn::run_code-loop-op : goal.decreases-turn::run_code-loop-op

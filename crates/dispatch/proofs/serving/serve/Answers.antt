@@ -14,8 +14,8 @@ use Rattle.site_words.specs.Weights.{attrs_limit, attrs_weight}
 use Rattle.site_words.specs.declared.words.Opening.{Opening}
 use Rattle.source_tree.specs.declared.file.File.{File}
 
-pub run-requires : goal.run-requires
-run-requires g c =
+pub reply_from_pages-requires : goal.reply_from_pages-requires
+reply_from_pages-requires g c =
     let port = c.args.port.now in
     let x = g.Q.Port.opening port in
     let seen = g.Q.Port.seen port in
@@ -45,8 +45,8 @@ returns-in_default-clause-came g c = λ old moments begins.
     let p : Start = started request c.args.incoming.close shown begun.request tree session (g.Q.Port.seen port) c.args.steps.now taken faults in
     c.abandon.ensures.came p old moments c.args.steps.now (empty_head c.args.incoming.close) (beginning session []) (record { number_is = refl; close_is = refl; shown_is = refl }) begins (begun_starves x pass p (empty_head c.args.incoming.close) c.law.ensures.legal) refl (none_taken taken faults)
 
-pub returns-in-Ok-run-clause-came : goal.returns-in-Ok-run-clause-came
-returns-in-Ok-run-clause-came g c = λ old moments begins.
+pub returns-in-Ok-reply_from_pages-clause-came : goal.returns-in-Ok-reply_from_pages-clause-came
+returns-in-Ok-reply_from_pages-clause-came g c = λ old moments begins.
     let port = c.args.port.now in
     let x = g.Q.Port.opening port in
     let pass = g.Q.Port.pass port in
@@ -59,13 +59,13 @@ returns-in-Ok-run-clause-came g c = λ old moments begins.
     let faults = g.K.Sink.faults c.args.sink.now in
     let p : Start = started request c.args.incoming.close shown begun.request tree session (g.Q.Port.seen port) c.args.steps.now taken faults in
     let here = begun_as x pass old moments request c.args.incoming.close shown begun.request (arc_value begun.tree) tree session (g.Q.Port.seen port) c.args.steps.now taken faults c.deref.ensures begins in
-    let replies = c.in-Ok-run.ensures.ran begun.session begun.attrs c.in-Ok.ensures in
-    let mid = c.run.new.port in
-    let same = c.run.ensures.same in
+    let replies = c.in-Ok-reply_from_pages.ensures.ran begun.session begun.attrs c.in-Ok.ensures in
+    let mid = c.reply_from_pages.new.port in
+    let same = c.reply_from_pages.ensures.same in
     at_same
-    (λ (x : Opening) (pass : ℕ). HasBegun x pass old moments p → Replies x pass p (g.Q.Port.seen mid) c.run.new.steps c.run.new.course (g.K.Sink.taken c.run.new.sink) (g.K.Sink.faults c.run.new.sink) c.in-Ok-run.reply
-    → Came x pass old moments p (g.Q.Port.seen c.finish.new.port) c.run.new.steps (g.K.Sink.taken c.finish.new.sink) (g.K.Sink.faults c.finish.new.sink) c.finish.result) x (g.Q.Port.opening mid) pass (g.Q.Port.pass mid) same.1 same.0
-    (c.finish.ensures.came p old moments c.run.new.steps (record { number_is = refl; close_is = refl; shown_is = refl })) here replies
+    (λ (x : Opening) (pass : ℕ). HasBegun x pass old moments p → Replies x pass p (g.Q.Port.seen mid) c.reply_from_pages.new.steps c.reply_from_pages.new.course (g.K.Sink.taken c.reply_from_pages.new.sink) (g.K.Sink.faults c.reply_from_pages.new.sink) c.in-Ok-reply_from_pages.reply
+    → Came x pass old moments p (g.Q.Port.seen c.finish.new.port) c.reply_from_pages.new.steps (g.K.Sink.taken c.finish.new.sink) (g.K.Sink.faults c.finish.new.sink) c.finish.result) x (g.Q.Port.opening mid) pass (g.Q.Port.pass mid) same.1 same.0
+    (c.finish.ensures.came p old moments c.reply_from_pages.new.steps (record { number_is = refl; close_is = refl; shown_is = refl })) here replies
 
 pub returns-clause-came : goal.returns-clause-came
 returns-clause-came g c = λ old moments begins.
@@ -82,12 +82,12 @@ returns-clause-came g c = λ old moments begins.
     let p : Start = started request c.args.incoming.close shown begun.request tree session (g.Q.Port.seen port) c.args.steps.now taken faults in
     let here = begun_as x pass old moments request c.args.incoming.close shown begun.request (arc_value begun.tree) tree session (g.Q.Port.seen port) c.args.steps.now taken faults c.deref.ensures begins in
     let starves = c.in-Err.ensures.ran begun.session begun.attrs c.in-Ok.ensures in
-    let mid = c.run.new.port in
-    let same = c.run.ensures.same in
-    let course = c.run.new.course in
-    let sent = g.K.Sink.taken c.run.new.sink in
-    let counted = g.K.Sink.faults c.run.new.sink in
+    let mid = c.reply_from_pages.new.port in
+    let same = c.reply_from_pages.ensures.same in
+    let course = c.reply_from_pages.new.course in
+    let sent = g.K.Sink.taken c.reply_from_pages.new.sink in
+    let counted = g.K.Sink.faults c.reply_from_pages.new.sink in
     at_same
-    (λ (x : Opening) (pass : ℕ). HasBegun x pass old moments p → (ran : Ran x pass p (g.Q.Port.seen mid) course sent counted) × Starves x pass p (g.Q.Port.seen mid) c.run.new.steps course.writer.head ran.after
-    → Came x pass old moments p (g.Q.Port.seen c.give_up.new.port) c.run.new.steps (g.K.Sink.taken c.give_up.new.sink) (g.K.Sink.faults c.give_up.new.sink) c.give_up.result) x (g.Q.Port.opening mid) pass (g.Q.Port.pass mid) same.1 same.0
-    (λ begins short. c.give_up.ensures.came p old moments c.run.new.steps course short.0 (record { number_is = refl; close_is = refl; shown_is = refl }) begins c.committed.ensures short.1) here starves
+    (λ (x : Opening) (pass : ℕ). HasBegun x pass old moments p → (ran : Ran x pass p (g.Q.Port.seen mid) course sent counted) × Starves x pass p (g.Q.Port.seen mid) c.reply_from_pages.new.steps course.writer.head ran.after
+    → Came x pass old moments p (g.Q.Port.seen c.give_up.new.port) c.reply_from_pages.new.steps (g.K.Sink.taken c.give_up.new.sink) (g.K.Sink.faults c.give_up.new.sink) c.give_up.result) x (g.Q.Port.opening mid) pass (g.Q.Port.pass mid) same.1 same.0
+    (λ begins short. c.give_up.ensures.came p old moments c.reply_from_pages.new.steps course short.0 (record { number_is = refl; close_is = refl; shown_is = refl }) begins c.committed.ensures short.1) here starves

@@ -23,7 +23,7 @@ use std::alloc::Global;
 
 /// Runs the program of a page, whose Fetch was charged before, over a port that tells the pages of
 /// its tree.
-pub fn play<P: AppPort<Program>, K: Sink>(
+pub fn run_program<P: AppPort<Program>, K: Sink>(
     alloc: Global,
     program: &Program,
     request: &Request,

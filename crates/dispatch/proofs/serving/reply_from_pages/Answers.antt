@@ -1,7 +1,7 @@
 use Rattle.std.proofs.Common.{[], List, refl, sym, subst, ap, ◌∙◌}
 use Rattle.dispatch.proofs.CountLemmas.{turns_under}
 use Rattle.dispatch.proofs.RunLemmas.{begun_funded, begun_headed, begun_in_order, begun_stands, closed_at, in_order_back, ok_unless, ran_short, ran_whole, runs_back, runs_unless, under_back}
-use Rattle.dispatch.proofs.serving.run.Goals as goal
+use Rattle.dispatch.proofs.serving.reply_from_pages.Goals as goal
 use Rattle.dispatch.specs.Started.{Start, started}
 use Rattle.page_answers.specs.Standing.{found}
 use Rattle.compiled_pages.specs.Pages.{needs_at}

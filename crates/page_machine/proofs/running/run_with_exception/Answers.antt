@@ -1,9 +1,9 @@
 use Rattle.std.proofs.Common.{◌∙◌, sym}
 use Rattle.page_machine.proofs.Lending.{raise_seen}
-use Rattle.page_machine.proofs.running.run_seen.Goals as goal
+use Rattle.page_machine.proofs.running.run_with_exception.Goals as goal
 
-pub page_run-requires-clause-known : goal.page_run-requires-clause-known
-page_run-requires-clause-known g c =
+pub enter_page-requires-clause-known : goal.enter_page-requires-clause-known
+enter_page-requires-clause-known g c =
     let k = c.requires.known in
     record {
       serving = k.serving;
@@ -17,7 +17,7 @@ page_run-requires-clause-known g c =
 pub returns-clause-ran : goal.returns-clause-ran
 returns-clause-ran g c = record {
   by = λ serving sees first origin s stands.
-      c.page_run.ensures.ran.by serving
+      c.enter_page.ensures.ran.by serving
       (record { request = sees.request; exception = sees.exception ∙ sym (raise_seen c.as_ref-seen.result c.args.exception.now c.as_ref-seen.ensures.value); stored = sees.stored })
       first origin s stands;
 }

@@ -2,7 +2,7 @@ use Rattle.std.proofs.Common.{◌≡◌, ap, ◌∙◌}
 use Rattle.code_lowering.specs.Programs.{program_of}
 use Rattle.run_pages.proofs.Meaning.{page_meant}
 use Rattle.run_pages.proofs.Serving.{pages_served, serves, serving_at}
-use Rattle.run_pages.proofs.playing.play.Goals as goal
+use Rattle.run_pages.proofs.running.run_program.Goals as goal
 use Rattle.run_pages.specs.Meant.{served_at}
 
 pub run-requires-clause-served : goal.run-requires-clause-served
