@@ -24,7 +24,7 @@ use Rattle.page_meaning.specs.State.{State}
 use Rattle.pass_course.proofs.CourseLemmas.{courses_join}
 use Rattle.pass_course.specs.Course.{HasDone}
 use Rattle.request_pages.specs.Closed.{IsReplyOpen}
-use Rattle.request_pages.specs.Gone.{reply_answer}
+use Rattle.request_pages.specs.PageEnd.{reply_answer}
 use Rattle.request_pages.specs.Within.{GoesWithin, sent_head}
 use Rattle.request_pages.specs.declared.course.Course.{Course}
 use Rattle.request_pages.specs.declared.reply.Reply.{Reply}

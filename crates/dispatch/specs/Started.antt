@@ -19,7 +19,7 @@ use Rattle.page_meaning.specs.State.{State}
 use Rattle.pass_course.specs.Course.{HasDone}
 use Rattle.request_pages.specs.Closed.{IsReplyOpen, Reached}
 use Rattle.request_pages.specs.Course.{IsHeaded}
-use Rattle.request_pages.specs.Gone.{reply_answer}
+use Rattle.request_pages.specs.PageEnd.{reply_answer}
 use Rattle.request_pages.specs.Within.{GoesWithin}
 use Rattle.request_pages.specs.declared.course.Course.{Course}
 use Rattle.request_pages.specs.declared.reply.Reply.{Reply}

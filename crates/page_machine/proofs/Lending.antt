@@ -7,7 +7,7 @@ use Rattle.out_buffer.specs.Held.{Held, Stands}
 use Rattle.out_buffer.specs.Writer.{Writer}
 use Rattle.http_in.specs.declared.params.Param.{Param}
 use Rattle.http_in.specs.declared.request.Request.{Request}
-use Rattle.page_machine.specs.Run.{DepthSo, IsInOrder, IsServed, PageEndsSo, PageRan, SeesSo, StandsFor, depth_behind, end_of}
+use Rattle.page_machine.specs.Run.{DepthSo, IsInOrder, IsServed, PageRan, RunEndsSo, SeesSo, StandsFor, depth_behind, end_of}
 use Rattle.page_machine.specs.Turn.{EndsSo, Ran, RunFrom}
 use Rattle.page_machine.specs.declared.running.RunEnd.{RunEnd}
 use Rattle.page_meaning.specs.State.{State}
@@ -134,7 +134,7 @@ module _ {P K : Type 0} {taken : K → Option (List ℕ)} {faults : K → ℕ} {
     fresh = r.fresh;
   }
 
-page_ends : (runs : List Answer → Did → Type 0) (end : End) (old depth : ℕ) (after : State) → depth ≡ depth_behind old end → EndsSo runs end after → PageEndsSo runs depth (end_of end) after
+page_ends : (runs : List Answer → Did → Type 0) (end : End) (old depth : ℕ) (after : State) → depth ≡ depth_behind old end → EndsSo runs end after → RunEndsSo runs depth (end_of end) after
 page_ends runs ends.Normal old depth after target h = h
 page_ends runs (ends.Forward path params left) old depth after target h = (left, target, h)
 page_ends runs (ends.Redirect location) old depth after target h = h
@@ -152,7 +152,7 @@ page_ran serving program params left levels reached stands s replies new told en
       replies = tells ∙ r.replies;
       after = r.after;
       stood = back r.after r.stood;
-      ends = subst (λ e. PageEndsSo (λ future d. PageRuns serving program params left (given (r.got ++ future) s) d) depth e r.after) (sym is)
+      ends = subst (λ e. RunEndsSo (λ future d. PageRuns serving program params left (given (r.got ++ future) s) d) depth e r.after) (sym is)
           (page_ends (λ future d. PageRuns serving program params left (given (r.got ++ future) s) d) end old depth r.after target r.ends);
     })
 

@@ -101,12 +101,12 @@ DepthSo old new other = new ≡ old
 
 -- a page's run ended so, and the target of a forward is as deep as the levels say that are left;
 -- where memory ran out, the run went no further than any does from there
-abbrev pub PageEndsSo : ((a : List Answer) → Did → Type 0) → (depth : ℕ) → RunEnd → State → Type 0
-PageEndsSo runs depth ends.Normal s = (future : List Answer) → runs future (Well tt (given future s))
-PageEndsSo runs depth (ends.Forward path params) s = (left : ℕ) × (depth ≡ level_limit - left) × ((future : List Answer) → runs future (Ended (forwards path params left) (given future s)))
-PageEndsSo runs depth (ends.Redirect location) s = (future : List Answer) → runs future (Ended (redirects location) (given future s))
-PageEndsSo runs depth (ends.Raised fault place) s = (future : List Answer) → runs future (Raised fault place (given future s))
-PageEndsSo runs depth ends.NoMemory s = (future : List Answer) (d : Did) → runs future d → Grows s (state_of d)
+abbrev pub RunEndsSo : ((a : List Answer) → Did → Type 0) → (depth : ℕ) → RunEnd → State → Type 0
+RunEndsSo runs depth ends.Normal s = (future : List Answer) → runs future (Well tt (given future s))
+RunEndsSo runs depth (ends.Forward path params) s = (left : ℕ) × (depth ≡ level_limit - left) × ((future : List Answer) → runs future (Ended (forwards path params left) (given future s)))
+RunEndsSo runs depth (ends.Redirect location) s = (future : List Answer) → runs future (Ended (redirects location) (given future s))
+RunEndsSo runs depth (ends.Raised fault place) s = (future : List Answer) → runs future (Raised fault place (given future s))
+RunEndsSo runs depth ends.NoMemory s = (future : List Answer) (d : Did) → runs future d → Grows s (state_of d)
 
 -- the run of a page from a state: the answers that it got, the state in which it ended, and how
 pub record PageRan (serving : Serving) (program : Program) (params : List Param) (left : ℕ) (stands : State → Type 0) (s : State) (old new : List Answer) (depth : ℕ) (end : RunEnd) : Type 0 where
@@ -114,4 +114,4 @@ pub record PageRan (serving : Serving) (program : Program) (params : List Param)
   pub replies : new ≡ old ++ got
   pub after : State
   pub stood : stands after
-  pub ends : PageEndsSo (λ future d. PageRuns serving program params left (given (got ++ future) s) d) depth end after
+  pub ends : RunEndsSo (λ future d. PageRuns serving program params left (given (got ++ future) s) d) depth end after

@@ -9,13 +9,13 @@ use pg_value::{Attrs, RunFault, Value};
 use run_world::Around;
 use site_words::AppStep;
 use std::alloc::{AllocError, Global};
-use tree_pages::PageEnd;
+use tree_pages::TreeEnd;
 use tree_site::Asked;
 
 /// What came of a run and what it left; the bytes are those that were read for its pages.
 #[derive(Clone, Copy)]
 pub struct Ran<'a> {
-    pub end: &'a PageEnd,
+    pub end: &'a TreeEnd,
     pub writer: &'a Writer,
     pub sink: &'a MemSink,
     pub around: &'a Around,
@@ -50,7 +50,7 @@ fn add(told: &mut String, part: &str) -> Result<(), AllocError> {
 
 fn part_told(alloc: Global, word: &str, ran: Ran<'_>) -> Result<String, AllocError> {
     match word {
-        "end" => page_end_told(alloc, ran.end),
+        "end" => tree_end_told(alloc, ran.end),
         "rest" => rest_told(alloc, ran.writer),
         "asked" => all_asked_told(alloc, ran.asked),
         "sent" => String::from_utf8_lossy(alloc, ran.sink.taken())?.replace(alloc, "\r\n", "\n"),
@@ -87,11 +87,11 @@ fn rest_told(alloc: Global, writer: &Writer) -> Result<String, AllocError> {
     format!(in alloc; "[{star}{rest}]")
 }
 
-fn page_end_told(alloc: Global, end: &PageEnd) -> Result<String, AllocError> {
+fn tree_end_told(alloc: Global, end: &TreeEnd) -> Result<String, AllocError> {
     match end {
-        PageEnd::Faulty(fault) => fault_told(alloc, fault),
-        PageEnd::Ran(end) => end_told(alloc, end),
-        PageEnd::NoMemory => String::from_str(alloc, "no memory"),
+        TreeEnd::Faulty(fault) => fault_told(alloc, fault),
+        TreeEnd::Ran(end) => end_told(alloc, end),
+        TreeEnd::NoMemory => String::from_str(alloc, "no memory"),
     }
 }
 

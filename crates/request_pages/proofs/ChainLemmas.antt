@@ -16,14 +16,14 @@ use Rattle.page_meaning.specs.Response.{Answered, end_state}
 use Rattle.page_meaning.specs.State.{State}
 use Rattle.request_pages.proofs.WithinLemmas.{within_none}
 use Rattle.request_pages.specs.Chained.{Chained, ChainedSo, IsEndOpen, IsProgramIn, chain_answers, params_of}
-use Rattle.request_pages.specs.Gone.{IsOpen}
+use Rattle.request_pages.specs.PageEnd.{IsOpen}
 use Rattle.request_pages.specs.Played.{Played}
 use Rattle.request_pages.specs.Target.{IsTargetEnd, IsTargetReply, IsWhole}
 use Rattle.request_pages.specs.Within.{GoesWithin}
 use Rattle.request_pages.specs.declared.chain.ChainEnd.{ChainEnd}
 use Rattle.request_pages.specs.declared.chain.ChainEnd.TheVariants as ended
 use Rattle.request_pages.specs.declared.chain.Failure.{Failure}
-use Rattle.request_pages.specs.declared.reply.Gone.TheVariants as gone
+use Rattle.request_pages.specs.declared.reply.PageEnd.TheVariants as page_end
 use Rattle.request_pages.specs.declared.reply.Reply.{Reply}
 use Rattle.request_pages.specs.declared.reply.Reply.TheVariants as reply
 use Rattle.response_laws.specs.Laws.{ChainsUnfold, RunsGrowOn, chain_of, target_of}
@@ -34,7 +34,7 @@ use Rattle.run_world.specs.declared.raised.Raise.{Raise}
 use Rattle.site_words.specs.Law.{Answer}
 use Rattle.source_tree.specs.declared.file.File.{File}
 
-end_open : (r : Reply) (pieces : List (List ℕ)) → IsOpen (gone.Done r) pieces → IsEndOpen (ended.Done r) pieces
+end_open : (r : Reply) (pieces : List (List ℕ)) → IsOpen (page_end.Done r) pieces → IsEndOpen (ended.Done r) pieces
 end_open (reply.Written broken) pieces h = h
 end_open (reply.Whole status content_type location body) pieces h = h
 
@@ -61,7 +61,7 @@ module _ (unfolds : ChainsUnfold) (grow : RunsGrowOn) (served : Served) (status 
   }
 
   -- the page answers
-  pub chained_done : {E F : Type 0} (r : Reply) → Played served status page params left stands s old new depth held {E = E} (Ok (gone.Done r)) → Chained (chain_answers served status left page params) request tree stands s old new held {E = F} (Ok (ended.Done r))
+  pub chained_done : {E F : Type 0} (r : Reply) → Played served status page params left stands s old new depth held {E = E} (Ok (page_end.Done r)) → Chained (chain_answers served status left page params) request tree stands s old new held {E = F} (Ok (ended.Done r))
   chained_done r played =
       let l = played.ends.0 in
       let none = played.ends.2 in
@@ -76,7 +76,7 @@ module _ (unfolds : ChainsUnfold) (grow : RunsGrowOn) (served : Served) (status 
 
   -- a fault ended its run
   pub chained_failed : {E F : Type 0} (raise : Raise) (failure : Failure) → failure.raise ≡ raise → params ≡ params_of request failure.own → IsProgramIn (arc_value failure.program) tree page
-      → Played served status page params left stands s old new depth held {E = E} (Ok (gone.Failed raise)) → Chained (chain_answers served status left page params) request tree stands s old new held {E = F} (Ok (ended.Failed failure))
+      → Played served status page params left stands s old new depth held {E = E} (Ok (page_end.Failed raise)) → Chained (chain_answers served status left page params) request tree stands s old new held {E = F} (Ok (ended.Failed failure))
   chained_failed raise failure is own made played =
       let l = played.ends.0 in
       let none = played.ends.2 in
@@ -98,7 +98,7 @@ module _ (unfolds : ChainsUnfold) (grow : RunsGrowOn) (served : Served) (status 
       }
 
   -- memory ran out before its target was told
-  pub chained_lost : {E F : Type 0} (path : List ℕ) (more : List Param) (f : F) → Played served status page params left stands s old new depth held {E = E} (Ok (gone.Forward path more))
+  pub chained_lost : {E F : Type 0} (path : List ℕ) (more : List Param) (f : F) → Played served status page params left stands s old new depth held {E = E} (Ok (page_end.Forward path more))
       → Chained (chain_answers served status left page params) request tree stands s old new held {E = F} (Err f)
   chained_lost path more f played =
       let l = played.ends.0 in
@@ -117,7 +117,7 @@ module _ (unfolds : ChainsUnfold) (grow : RunsGrowOn) (served : Served) (status 
 
   -- its target is no page
   pub chained_told : {E F : Type 0} (path : List ℕ) (more : List Param) (r : Reply) → ((p : List ℕ) → served.pages p ≡ paged_at tree p) → IsTargetReply tree status path r
-      → Played served status page params left stands s old new depth held {E = E} (Ok (gone.Forward path more)) → Chained (chain_answers served status left page params) request tree stands s old new held {E = F} (Ok (ended.Done r))
+      → Played served status page params left stands s old new depth held {E = E} (Ok (page_end.Forward path more)) → Chained (chain_answers served status left page params) request tree stands s old new held {E = F} (Ok (ended.Done r))
   chained_told path more r pages told played =
       let l = played.ends.0 in
       let none = played.ends.2 in
@@ -141,14 +141,14 @@ module _ (unfolds : ChainsUnfold) (grow : RunsGrowOn) (served : Served) (status 
 
   -- its target is no page: what is told of it, unless memory ran out
   pub chained_end : {E F : Type 0} (path : List ℕ) (more : List Param) (result : Result ChainEnd F) → ((p : List ℕ) → served.pages p ≡ paged_at tree p) → IfOk result (IsTargetEnd tree status path)
-      → Played served status page params left stands s old new depth held {E = E} (Ok (gone.Forward path more)) → Chained (chain_answers served status left page params) request tree stands s old new held result
+      → Played served status page params left stands s old new depth held {E = E} (Ok (page_end.Forward path more)) → Chained (chain_answers served status left page params) request tree stands s old new held result
   chained_end path more (Ok (ended.Done r)) pages told played = chained_told path more r pages told played
   chained_end path more (Ok (ended.Failed failure)) pages told played = absurd told
   chained_end path more (Err f) pages told played = chained_lost path more f played
 
 -- its target is a page, which runs in its place
 pub chained_on : {E F : Type 0} → ChainsUnfold → (served : Served) (status : Status) (page : Page) (params : List Param) (left : ℕ) → left ≤ 100 → (request : Request) (tree : List File) (stood stands : State → Type 0) (s : State) (old mid new : List Answer) (depth : ℕ) (held later : Held)
-    (path : List ℕ) (more : List Param) (next : Page) (levels : ℕ) (result : Result ChainEnd F) → served.pages path ≡ good next → (played : Played served status page params left stood s old mid depth held {E = E} (Ok (gone.Forward path more)))
+    (path : List ℕ) (more : List Param) (next : Page) (levels : ℕ) (result : Result ChainEnd F) → served.pages path ≡ good next → (played : Played served status page params left stood s old mid depth held {E = E} (Ok (page_end.Forward path more)))
     → played.ends.0 ≡ levels → Chained (chain_answers served status levels next more) request tree stands played.after mid new later result
     → Chained (chain_answers served status left page params) request tree stands s old new later result
 chained_on {F = F} unfolds served status page params left few request tree stood stands s old mid new depth held later path more next levels result is played same chained = record {
@@ -188,7 +188,7 @@ same_chained served other status left page params request tree later stands s ol
 
 -- what is known where a page ended by a forward: its levels, its depth, and that nothing was committed
 pub forward_known : {E : Type 0} (served : Served) (status : Status) (page : Page) (params : List Param) (left : ℕ) (stands : State → Type 0) (s : State) (old new : List Answer) (depth : ℕ) (held : Held) (path : List ℕ) (more : List Param)
-    (played : Played served status page params left stands s old new depth held {E = E} (Ok (gone.Forward path more)))
+    (played : Played served status page params left stands s old new depth held {E = E} (Ok (page_end.Forward path more)))
     → (played.ends.0 < left) × (depth ≡ 100 - played.ends.0) × (played.after.writer.pieces ≡ [])
 forward_known served status page params left stands s old new depth held path more played = let target = played.ends.1 in (target.0, target.1, played.ends.2)
 

@@ -1,4 +1,4 @@
-pub mod GoneLemmas
+pub mod PageEndLemmas
 pub mod HeadLemmas
 pub mod PlayedLemmas
 pub mod WithinLemmas

@@ -20,9 +20,9 @@ use Rattle.page_meaning.specs.Respond.{at_start, first_run, run_answer}
 use Rattle.page_meaning.specs.Response.{head_of}
 use Rattle.page_meaning.specs.State.{State}
 use Rattle.run_pages.specs.Meant.{page_mean}
-use Rattle.request_pages.specs.Gone.{GoneSo, PageGone}
+use Rattle.request_pages.specs.PageEnd.{PageEnded, PageEndsSo}
 use Rattle.request_pages.specs.Played.{Played, PlayedSo}
-use Rattle.request_pages.specs.declared.reply.Gone.{Gone}
+use Rattle.request_pages.specs.declared.reply.PageEnd.{PageEnd}
 use Rattle.request_pages.proofs.WithinLemmas.{run_heads}
 use Rattle.request_pages.specs.Within.{sent_head}
 use Rattle.response_laws.proofs.Behind.{first_grows, run_leaves}
@@ -105,26 +105,26 @@ played_short leaves grows served status page params left stands s answers depth 
 }
 
 -- what a page's run was from its beginning
-pub played_of : {E : Type 0} → ForwardsLeaveFewer → StepsAndPiecesGrow → (served : Served) (status : Status) (page : Page) (params : List Param) (left : ℕ) (stands : State → Type 0) (s : State) (old new : List Answer) (depth : ℕ) (held : Held) (result : Result Gone E)
-    → status ≡ held.head.status → Some page.settings.content_type ≡ held.head.content_type → PageGone served page params left stands (at_start page s) old new depth held result
+pub played_of : {E : Type 0} → ForwardsLeaveFewer → StepsAndPiecesGrow → (served : Served) (status : Status) (page : Page) (params : List Param) (left : ℕ) (stands : State → Type 0) (s : State) (old new : List Answer) (depth : ℕ) (held : Held) (result : Result PageEnd E)
+    → status ≡ held.head.status → Some page.settings.content_type ≡ held.head.content_type → PageEnded served page params left stands (at_start page s) old new depth held result
     → Played served status page params left stands s old new depth held result
-played_of {E = E} leaves grow served status page params left stands s old new depth held result st ct gone = record {
-  got = gone.got;
-  replies = gone.replies;
-  after = gone.after;
-  stood = gone.stood;
-  ends = so result gone.ends;
+played_of {E = E} leaves grow served status page params left stands s old new depth held result st ct ended = record {
+  got = ended.got;
+  replies = ended.replies;
+  after = ended.after;
+  stood = ended.stood;
+  ends = so result ended.ends;
 }
   where
-    so : (result : Result Gone E) → GoneSo (λ future. page_mean served left page params (given (gone.got ++ future) (at_start page s))) page params left depth held gone.after result
-        → PlayedSo (λ future. first_run served left page params (given (gone.got ++ future) s)) status page params left depth held gone.after result
+    so : (result : Result PageEnd E) → PageEndsSo (λ future. page_mean served left page params (given (ended.got ++ future) (at_start page s))) page params left depth held ended.after result
+        → PlayedSo (λ future. first_run served left page params (given (ended.got ++ future) s)) status page params left depth held ended.after result
     so (Ok g) (l, target, none, answers) = (l, target, none, λ to at_fault future. answers to at_fault status st ct future)
     so (Err e) grows = λ future.
-        let went = page_mean served left page params (given (gone.got ++ future) (at_start page s)) in
-        let all = run_leaves leaves grow served left page params (given (gone.got ++ future) (at_start page s)) in (
+        let went = page_mean served left page params (given (ended.got ++ future) (at_start page s)) in
+        let all = run_leaves leaves grow served left page params (given (ended.got ++ future) (at_start page s)) in (
           grows future,
           λ target at_fault.
-              subst (λ x. HeadsSo (head_of x held.head.content_type None gone.after) gone.after.writer.pieces (run_answer target at_fault status page params went)) st
-              (subst (λ x. HeadsSo (head_of status x None gone.after) gone.after.writer.pieces (run_answer target at_fault status page params went)) ct
-              (run_heads target at_fault status page params gone.after left went all (grows future))),
+              subst (λ x. HeadsSo (head_of x held.head.content_type None ended.after) ended.after.writer.pieces (run_answer target at_fault status page params went)) st
+              (subst (λ x. HeadsSo (head_of status x None ended.after) ended.after.writer.pieces (run_answer target at_fault status page params went)) ct
+              (run_heads target at_fault status page params ended.after left went all (grows future))),
         )

@@ -11,7 +11,7 @@ use Rattle.page_meaning.specs.Page.{Page}
 use Rattle.page_meaning.specs.Respond.{OnFault}
 use Rattle.page_meaning.specs.Response.{Answered}
 use Rattle.page_meaning.specs.State.{State}
-use Rattle.request_pages.specs.Gone.{reply_answer}
+use Rattle.request_pages.specs.PageEnd.{reply_answer}
 use Rattle.request_pages.specs.Within.{GoesWithin}
 use Rattle.request_pages.specs.declared.chain.ChainEnd.{ChainEnd}
 use Rattle.request_pages.specs.declared.chain.ChainEnd.TheVariants as ended

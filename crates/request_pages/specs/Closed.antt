@@ -10,7 +10,7 @@ use Rattle.page_meaning.specs.Page.{Page}
 use Rattle.page_meaning.specs.Respond.{answer_at, from_first_level, on_fault}
 use Rattle.page_meaning.specs.Response.{Answered}
 use Rattle.page_meaning.specs.State.{State}
-use Rattle.request_pages.specs.Gone.{reply_answer}
+use Rattle.request_pages.specs.PageEnd.{reply_answer}
 use Rattle.request_pages.specs.Within.{GoesWithin}
 use Rattle.request_pages.specs.declared.reply.Reply.{Reply}
 use Rattle.request_pages.specs.declared.reply.Reply.TheVariants as reply

@@ -1,6 +1,6 @@
 pub mod Body
 pub mod Course
-pub mod Gone
+pub mod PageEnd
 pub mod Played
 pub mod Within
 pub mod Chained

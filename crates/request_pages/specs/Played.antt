@@ -11,9 +11,9 @@ use Rattle.page_meaning.specs.Respond.{OnFault, first_run, run_answer}
 use Rattle.page_meaning.specs.Response.{Answered}
 use Rattle.page_meaning.specs.State.{State}
 use Rattle.page_meaning.specs.Went.{Did}
-use Rattle.request_pages.specs.Gone.{IsOpen, TargetSo, gone_answer}
+use Rattle.request_pages.specs.PageEnd.{IsOpen, TargetSo, page_end_answer}
 use Rattle.request_pages.specs.Within.{sent_head}
-use Rattle.request_pages.specs.declared.reply.Gone.{Gone}
+use Rattle.request_pages.specs.declared.reply.PageEnd.{PageEnd}
 use Rattle.run_stage.specs.declared.limits.TheConstants.{RUN_PROMISE}
 use Rattle.run_world.specs.Part.{given}
 use Rattle.run_world.specs.declared.around.Around.{Around}
@@ -30,16 +30,16 @@ IsFunded around asking = RUN_PROMISE + session_claim around.id ≤ around.charge
 
 -- a page's run answers as it ended, whatever answers are still to come; where memory ran out it
 -- went no further than the page goes, behind the head of what answers
-abbrev pub PlayedSo : {E : Type 0} → (runs : List Answer → Did) → Status → Page → List Param → (left depth : ℕ) → Held → (after : State) → Result Gone E → Type 0
+abbrev pub PlayedSo : {E : Type 0} → (runs : List Answer → Did) → Status → Page → List Param → (left depth : ℕ) → Held → (after : State) → Result PageEnd E → Type 0
 PlayedSo runs status page params left depth held after (Ok g) =
     (l : ℕ) × TargetSo left depth g l × IsOpen g after.writer.pieces
-    × ((target : List ℕ → List Param → ℕ → State → Answered) (at_fault : OnFault) (future : List Answer) → run_answer target at_fault status page params (runs future) ≡ gone_answer target at_fault held page params g l (given future after))
+    × ((target : List ℕ → List Param → ℕ → State → Answered) (at_fault : OnFault) (future : List Answer) → run_answer target at_fault status page params (runs future) ≡ page_end_answer target at_fault held page params g l (given future after))
 PlayedSo runs status page params left depth held after (Err e) =
     (future : List Answer) → Grows after (state_of (runs future))
     × ((target : List ℕ → List Param → ℕ → State → Answered) (at_fault : OnFault) → HeadsSo (sent_head held.head after) after.writer.pieces (run_answer target at_fault status page params (runs future)))
 
 -- the run of a page from the state in which the request comes to it: the answers that it got, the state in which it ended, and how
-pub record Played (served : Served) (status : Status) (page : Page) (params : List Param) (left : ℕ) (stands : State → Type 0) (s : State) (old new : List Answer) (depth : ℕ) (held : Held) {E : Type 0} (result : Result Gone E) : Type 0 where
+pub record Played (served : Served) (status : Status) (page : Page) (params : List Param) (left : ℕ) (stands : State → Type 0) (s : State) (old new : List Answer) (depth : ℕ) (held : Held) {E : Type 0} (result : Result PageEnd E) : Type 0 where
   pub got : List Answer
   pub replies : new ≡ old ++ got
   pub after : State

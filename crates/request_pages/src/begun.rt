@@ -8,14 +8,14 @@ ghost use Rattle.compiled_pages.specs.Made.{IsPageAt, IsProgramOf, TellsPages};
 ghost use Rattle.page_meaning.specs.Page.{Page};
 ghost use Rattle.page_meaning.specs.State.{State};
 ghost use Rattle.run_pages.specs.Meant.{served_at};
-ghost use Rattle.request_pages.specs.Gone.{GoneBy, PageGone};
+ghost use Rattle.request_pages.specs.PageEnd.{EndsBy, PageEnded};
 ghost use Rattle.run_stage.specs.Standing.{HasCharged, KeepsResponse, KeepsSession};
 ghost use Rattle.run_world.specs.Origin.{Origin};
 
 use crate::body::Body;
 use crate::course::Course;
 use crate::page_run::PageRun;
-use crate::reply::{Gone, Reply};
+use crate::reply::{PageEnd, Reply};
 use edges::Sink;
 use http_out::Status;
 use page_machine::RunEnd;
@@ -33,17 +33,17 @@ pub(crate) fn run_begun<P: AppPort<Program>, K: Sink>(
     course: &mut Course,
     sink: &mut K,
     port: &mut P,
-) -> Result<Gone, AllocError>
+) -> Result<PageEnd, AllocError>
     requires tells { TellsPages P.made P.faulty }
     requires in_order { IsInOrder course.old.scopes course.old.around (P.asking port.old) }
     requires promise { RUN_PROMISE ≤ course.old.around.charge + (P.asking port.old).left }
     requires writer { (start : Option (List ℕ)) × (before : ℕ) × (written : Wrote) × Stands start before
         course.old.writer (K.taken sink.old) (K.faults sink.old) written }
-    ensures gone { (path : List ℕ) → IsProgramOf run.entry.program.now (P.tree port.old) path →
+    ensures ended { (path : List ℕ) → IsProgramOf run.entry.program.now (P.tree port.old) path →
         (page : Page) → IsPageAt page (P.tree port.old) path
         → (origin : Origin) (s : State) → StandsFor origin course.old.scopes course.old.writer
         (K.taken sink.old) (K.faults sink.old) course.old.around (P.asking port.old) s
-        → PageGone (served_at (P.tree port.old) run.entry.request.now course.old.around) page
+        → PageEnded (served_at (P.tree port.old) run.entry.request.now course.old.around) page
         run.entry.params.now (level_limit - course.old.around.depth) (StandsFor origin
         course.new.scopes course.new.writer (K.taken sink.new) (K.faults sink.new) course.new.around
         (P.asking port.new)) s (P.asking port.old).answers (P.asking port.new).answers
@@ -69,24 +69,24 @@ pub(crate) fn run_begun<P: AppPort<Program>, K: Sink>(
         &mut course.around,
         port,
     );
-    gone(alloc, end, course.writer.committed())
+    page_end(alloc, end, course.writer.committed())
 }
 
 // How a run ended, by whether something was committed.
-fn gone(alloc: Global, end: RunEnd, committed: bool) -> Result<Gone, AllocError>
-    ensures { GoneBy committed end result }
+fn page_end(alloc: Global, end: RunEnd, committed: bool) -> Result<PageEnd, AllocError>
+    ensures { EndsBy committed end result }
 {
     match end {
-        RunEnd::Normal => Ok(Gone::Done(Reply::Written { broken: false })),
-        RunEnd::Raised { .. } if committed => Ok(Gone::Done(Reply::Written { broken: true })),
-        RunEnd::Raised { fault, place } => Ok(Gone::Failed(Raise { fault, place })),
-        RunEnd::Redirect(address) => Ok(Gone::Done(Reply::Whole {
+        RunEnd::Normal => Ok(PageEnd::Done(Reply::Written { broken: false })),
+        RunEnd::Raised { .. } if committed => Ok(PageEnd::Done(Reply::Written { broken: true })),
+        RunEnd::Raised { fault, place } => Ok(PageEnd::Failed(Raise { fault, place })),
+        RunEnd::Redirect(address) => Ok(PageEnd::Done(Reply::Whole {
             status: Status::Found,
             content_type: None,
             location: Some(address),
             body: Body::empty(alloc),
         })),
-        RunEnd::Forward(path, params) => Ok(Gone::Forward(path, params)),
+        RunEnd::Forward(path, params) => Ok(PageEnd::Forward(path, params)),
         RunEnd::NoMemory => Err(AllocError),
     }
 }

@@ -20,7 +20,7 @@ ghost use Rattle.source_tree.specs.declared.file.File.{File};
 use crate::course::{Course, Way};
 use crate::incoming::Incoming;
 use crate::page_run::PageRun;
-use crate::reply::{Gone, Reply};
+use crate::reply::{PageEnd, Reply};
 use crate::running::run_page;
 use crate::telling::{file, not_found, page_fault};
 use compiled_pages::Made;
@@ -114,9 +114,9 @@ pub(crate) fn run_chain<'a, Q: Port<Made>, L: Ledger, K: Sink>(
     };
     match run_page(alloc, run, way, course, sink, port) {
         Err(AllocError) => Err(AllocError),
-        Ok(Gone::Done(reply)) => Ok(ChainEnd::Done(reply)),
-        Ok(Gone::Failed(raise)) => Ok(ChainEnd::Failed(failed(raise, chain))),
-        Ok(Gone::Forward(path, more)) => {
+        Ok(PageEnd::Done(reply)) => Ok(ChainEnd::Done(reply)),
+        Ok(PageEnd::Failed(raise)) => Ok(ChainEnd::Failed(failed(raise, chain))),
+        Ok(PageEnd::Forward(path, more)) => {
             drop(chain);
             match port.again(&path) {
                 Err(AllocError) => Err(AllocError),

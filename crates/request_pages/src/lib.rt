@@ -19,4 +19,4 @@ pub use answering::answer;
 pub use body::Body;
 pub use course::{Course, new_id};
 pub use incoming::Incoming;
-pub use reply::{Gone, Reply};
+pub use reply::{PageEnd, Reply};

@@ -22,7 +22,7 @@ pub enum Reply {
 
 /// How the run of one page ended.
 #[derive(Drop)]
-pub enum Gone {
+pub enum PageEnd {
     Done(Reply),
     /// A fault ended it before anything was committed.
     Failed(Raise),

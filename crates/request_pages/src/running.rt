@@ -13,7 +13,7 @@ ghost use Rattle.run_world.specs.Origin.{Origin};
 use crate::begun::run_begun;
 use crate::course::{Course, Way, begin_page};
 use crate::page_run::PageRun;
-use crate::reply::Gone;
+use crate::reply::PageEnd;
 use edges::Sink;
 use page_meaning::{depth, parts};
 use run_world::Program;
@@ -28,7 +28,7 @@ pub(crate) fn run_page<P: AppPort<Program>, K: Sink>(
     course: &mut Course,
     sink: &mut K,
     port: &mut P,
-) -> Result<Gone, AllocError>
+) -> Result<PageEnd, AllocError>
     requires tells { TellsPages P.made P.faulty }
     requires uncommitted { course.old.writer.committed ≡ false }
     requires headed { IsHeaded way.close way.shown course.old.around course.old.writer }

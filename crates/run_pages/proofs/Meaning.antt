@@ -3,7 +3,7 @@ use Rattle.std.proofs.Common.{◌≡◌, ℕ, List, ◌++◌, refl, sym, subst, 
 use Rattle.http_in.specs.declared.params.Param.{Param}
 use Rattle.code_lowering.specs.Laws.{ProgramsMean}
 use Rattle.code_lowering.specs.Programs.{program_of, stored_of}
-use Rattle.page_machine.specs.Run.{PageEndsSo, PageRan}
+use Rattle.page_machine.specs.Run.{PageRan, RunEndsSo}
 use Rattle.page_machine.specs.declared.running.RunEnd.{RunEnd}
 use Rattle.page_machine.specs.declared.running.RunEnd.TheVariants as ends
 use Rattle.page_meaning.specs.Context.{Served}
@@ -33,7 +33,7 @@ page_once serving program params left s d other first second = once (page_begun 
 
 -- where each run goes as is meant, what ended so ended as is meant
 ends_as_meant : (runs : List Answer → Did → Type 0) (means : List Answer → Did) → ((future : List Answer) → runs future (means future))
-    → ((future : List Answer) (d : Did) → runs future d → means future ≡ d) → (depth : ℕ) (end : RunEnd) (s : State) → PageEndsSo runs depth end s → EndsAsMeant means depth end s
+    → ((future : List Answer) (d : Did) → runs future d → means future ≡ d) → (depth : ℕ) (end : RunEnd) (s : State) → RunEndsSo runs depth end s → EndsAsMeant means depth end s
 ends_as_meant runs means meant once depth ends.Normal s so = λ future. once future _ (so future)
 ends_as_meant runs means meant once depth (ends.Forward path params) s so = (so.0, so.1, λ future. once future _ (so.2 future))
 ends_as_meant runs means meant once depth (ends.Redirect location) s so = λ future. once future _ (so future)

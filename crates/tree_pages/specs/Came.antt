@@ -6,8 +6,8 @@ use Rattle.compiled_pages.specs.Made.{IsFaultOf, IsPageAt}
 use Rattle.compiled_pages.specs.Pages.{unit_in}
 use Rattle.page_meaning.specs.Page.{Page}
 use Rattle.source_tree.specs.declared.file.File.{File}
-use Rattle.tree_pages.specs.declared.running.PageEnd.{PageEnd}
-use Rattle.tree_pages.specs.declared.running.PageEnd.TheVariants as came
+use Rattle.tree_pages.specs.declared.running.TreeEnd.{TreeEnd}
+use Rattle.tree_pages.specs.declared.running.TreeEnd.TheVariants as came
 use Rattle.unit_source.specs.Files.{text_in}
 use Rattle.unit_words.specs.Needs.{bytes_of}
 use Rattle.unit_words.specs.Unit.{Unit}
@@ -27,22 +27,22 @@ HasCounted tree path old new (Ok made) = new ≡ old + bytes_at tree path
 HasCounted tree path old new (Err e) = (new ≡ old) ⊎ (new ≡ old + bytes_at tree path)
 
 -- the page at a path ran so, or this is its fault
-abbrev pub ComesSo : List File → (path : List ℕ) → (ran : Page → RunEnd → Type 0) → PageEnd → Type 0
+abbrev pub ComesSo : List File → (path : List ℕ) → (ran : Page → RunEnd → Type 0) → TreeEnd → Type 0
 ComesSo tree path ran (came.Faulty fault) = IsFaultOf fault tree path
 ComesSo tree path ran (came.Ran end) = (page : Page) × IsPageAt page tree path × ran page end
 ComesSo tree path ran came.NoMemory = ⊤
 
 -- the steps of a page that has a fault or ran are its bytes
-abbrev pub StepsSo : List File → (path : List ℕ) → (old new : ℕ) → PageEnd → Type 0
+abbrev pub StepsSo : List File → (path : List ℕ) → (old new : ℕ) → TreeEnd → Type 0
 StepsSo tree path old new came.NoMemory = (new ≡ old) ⊎ (new ≡ old + bytes_at tree path)
 StepsSo tree path old new other = new ≡ old + bytes_at tree path
 
 -- where no page ran this is as it was
-abbrev pub IsUntouched : {A : Type 0} → (old new : A) → PageEnd → Type 0
+abbrev pub IsUntouched : {A : Type 0} → (old new : A) → TreeEnd → Type 0
 IsUntouched old new (came.Ran end) = ⊤
 IsUntouched old new other = new ≡ old
 
 -- how deep the target of a forward runs; another end leaves the depth as it was
-abbrev pub KeepsDepth : (old new : ℕ) → PageEnd → Type 0
+abbrev pub KeepsDepth : (old new : ℕ) → TreeEnd → Type 0
 KeepsDepth old new (came.Ran end) = DepthSo old new end
 KeepsDepth old new other = new ≡ old

@@ -6,4 +6,4 @@ mod making;
 mod running;
 
 pub use making::make;
-pub use running::{PageEnd, run_at};
+pub use running::{TreeEnd, run_at};

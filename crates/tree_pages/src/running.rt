@@ -30,7 +30,7 @@ use std::alloc::Global;
 /// What comes of the page at a path: it has a fault, it ran, or memory ran out before it could
 /// run.
 #[derive(Drop)]
-pub enum PageEnd {
+pub enum TreeEnd {
     Faulty(PageFault),
     Ran(RunEnd),
     NoMemory,
@@ -51,7 +51,7 @@ pub fn run_at<P: AppPort<Program>, K: Sink, L: Ledger>(
     around: &mut Around,
     port: &mut P,
     steps: &mut Steps<L>,
-) -> PageEnd
+) -> TreeEnd
     requires limits { IsWithinLimits tree.now }
     requires stands { IsSome (text_in tree.now path.now) }
     requires tree { P.tree port.old ≡ tree.now }
@@ -82,14 +82,14 @@ pub fn run_at<P: AppPort<Program>, K: Sink, L: Ledger>(
     ensures leads { P.leads port.old port.new }
 {
     let Ok(made) = make(alloc, tree, path, steps) else {
-        return PageEnd::NoMemory;
+        return TreeEnd::NoMemory;
     };
     let Made { deps: _deps, body } = made;
     let program = match body {
         MadeBody::Program(program) => program,
-        MadeBody::Fault(fault) => return PageEnd::Faulty(fault),
+        MadeBody::Fault(fault) => return TreeEnd::Faulty(fault),
     };
-    PageEnd::Ran(run_program(
+    TreeEnd::Ran(run_program(
         alloc, &program, request, params, scopes, writer, sink, around, port,
     ))
 }

@@ -38,7 +38,7 @@ returns-clause-played g c = λ path made page is origin s stands.
     let head = c.run_begun.ensures.response.head in
     let st = ap (λ h. h.status) head ∙ (after_status c.begin_page.new.course.writer.head _ _ _ ∙ ap (λ h. h.status) c.in-Ok.ensures.head) in
     let ct = ap (λ h. h.content_type) head ∙ (after_type c.begin_page.new.course.writer.head _ _ _ ∙ (ap (λ h. h.content_type) c.in-Ok.ensures.head ∙ ap (λ x. Some x.content_type) settings)) in
-    rw (sym c.in-Ok.ensures.around) (played_of c.depth.ensures.forwards c.parts.ensures.grow _ c.args.way.status page _ _ _ s _ _ _ _ c.run_begun.result (sym st) (sym ct) (c.run_begun.ensures.gone path made page is origin _ begun))
+    rw (sym c.in-Ok.ensures.around) (played_of c.depth.ensures.forwards c.parts.ensures.grow _ c.args.way.status page _ _ _ s _ _ _ _ c.run_begun.result (sym st) (sym ct) (c.run_begun.ensures.ended path made page is origin _ begun))
 
 pub returns-in_default-clause-headed : goal.returns-in_default-clause-headed
 returns-in_default-clause-headed g c = subst (λ (x : Course). IsHeaded c.args.way.close c.args.way.shown x.around x.writer) (sym c.in_default.ensures.err) c.requires.headed

@@ -19,8 +19,8 @@ use Rattle.page_meaning.specs.Went.{Did, Raised}
 use Rattle.run_pages.specs.Meant.{EndsAsMeant, PageMeant, page_mean}
 use Rattle.pg_text.specs.declared.place.Place.{Place}
 use Rattle.pg_value.specs.declared.fault.RunFault.{RunFault}
-use Rattle.request_pages.specs.Gone.{GoneBy, GoneSo, PageGone, reply_answer}
-use Rattle.request_pages.specs.declared.reply.Gone.{Gone}
+use Rattle.request_pages.specs.PageEnd.{EndsBy, PageEnded, PageEndsSo, reply_answer}
+use Rattle.request_pages.specs.declared.reply.PageEnd.{PageEnd}
 use Rattle.request_pages.specs.declared.reply.Reply.TheVariants as reply
 use Rattle.response_laws.proofs.Behind.{run_leaves}
 use Rattle.run_world.specs.Part.{given}
@@ -33,10 +33,10 @@ written_same broken chosen held page s st ct =
     ∙ ap (λ x. responds (record { head = head_of held.head.status x None s; pieces = s.writer.pieces; rest = rest_of broken s.writer.buffer; broken = broken }) s) ct
 
 module _ {E : Type 0} (means : List Answer → Did) (page : Page) (params : List Param) (left depth : ℕ) (held : Held) (after : State) where
-  raised_so : (b : Bool) (fault : RunFault) (place : Place) (result : Result Gone E) → b ≡ has_committed after.writer → ((future : List Answer) → means future ≡ Raised fault place (given future after))
-      → GoneBy b (ends.Raised fault place) result → GoneSo means page params left depth held after result
+  raised_so : (b : Bool) (fault : RunFault) (place : Place) (result : Result PageEnd E) → b ≡ has_committed after.writer → ((future : List Answer) → means future ≡ Raised fault place (given future after))
+      → EndsBy b (ends.Raised fault place) result → PageEndsSo means page params left depth held after result
   raised_so true fault place result told so by =
-      subst (GoneSo means page params left depth held after) (sym by) (
+      subst (PageEndsSo means page params left depth held after) (sym by) (
         0,
         tt,
         λ none. absurd (let e : true ≡ false = told ∙ ap has_pieces none in cc),
@@ -46,7 +46,7 @@ module _ {E : Type 0} (means : List Answer → Did) (page : Page) (params : List
             ∙ written_same true chosen held page (given future after) st ct),
       )
   raised_so false fault place result told so by =
-      subst (GoneSo means page params left depth held after) (sym by) (
+      subst (PageEndsSo means page params left depth held after) (sym by) (
         0,
         tt,
         uncommitted after.writer.pieces (sym told),
@@ -55,32 +55,32 @@ module _ {E : Type 0} (means : List Answer → Did) (page : Page) (params : List
             ∙ ap (λ b. if b then page_response chosen page true (given future after) else at_fault page params (record { fault = fault; place = place }) (given future after)) (sym told),
       )
 
-  short_so : (result : Result Gone E) → IsErr result → EndsAsMeant means depth ends.NoMemory after → GoneSo means page params left depth held after result
+  short_so : (result : Result PageEnd E) → IsErr result → EndsAsMeant means depth ends.NoMemory after → PageEndsSo means page params left depth held after result
   short_so (Ok g) by so = absurd (cc)
   short_so (Err e) by so = so
 
-  pub gone_so : ((future : List Answer) → Leaves left (means future)) → held.committed ≡ has_committed after.writer → (end : RunEnd) (result : Result Gone E) → EndsAsMeant means depth end after → GoneBy held.committed end result
-      → GoneSo means page params left depth held after result
-  gone_so leaves told ends.Normal result so by =
-      subst (GoneSo means page params left depth held after) (sym by)
+  pub page_ends_so : ((future : List Answer) → Leaves left (means future)) → held.committed ≡ has_committed after.writer → (end : RunEnd) (result : Result PageEnd E) → EndsAsMeant means depth end after → EndsBy held.committed end result
+      → PageEndsSo means page params left depth held after result
+  page_ends_so leaves told ends.Normal result so by =
+      subst (PageEndsSo means page params left depth held after) (sym by)
       (0, tt, λ none. refl, λ target at_fault chosen st ct future. ap (run_answer target at_fault chosen page params) (so future) ∙ written_same false chosen held page (given future after) st ct)
-  gone_so leaves told (ends.Raised fault place) result so by = raised_so held.committed fault place result told so by
-  gone_so leaves told (ends.Redirect address) result so by =
+  page_ends_so leaves told (ends.Raised fault place) result so by = raised_so held.committed fault place result told so by
+  page_ends_so leaves told (ends.Redirect address) result so by =
       let none : after.writer.pieces ≡ [] = subst (Leaves left) (so []) (leaves []) in
-      subst (GoneSo means page params left depth held after) (sym by) (0, tt, none, λ target at_fault chosen st ct future. ap (run_answer target at_fault chosen page params) (so future))
-  gone_so leaves told (ends.Forward path more) result so by =
+      subst (PageEndsSo means page params left depth held after) (sym by) (0, tt, none, λ target at_fault chosen st ct future. ap (run_answer target at_fault chosen page params) (so future))
+  page_ends_so leaves told (ends.Forward path more) result so by =
       let by_levels : (so.0 < left) × (after.writer.pieces ≡ []) = subst (Leaves left) (so.2 []) (leaves []) in
-      subst (GoneSo means page params left depth held after) (sym by)
+      subst (PageEndsSo means page params left depth held after) (sym by)
       (so.0, (by_levels.0, so.1), by_levels.1, λ target at_fault chosen st ct future. ap (run_answer target at_fault chosen page params) (so.2 future))
-  gone_so leaves told ends.NoMemory result so by = short_so result by so
+  page_ends_so leaves told ends.NoMemory result so by = short_so result by so
 
-pub page_gone : {E : Type 0} → ForwardsLeaveFewer → StepsAndPiecesGrow → (served : Served) (page : Page) (params : List Param) (left : ℕ) (stands : State → Type 0) (s : State) (old new : List Answer) (depth : ℕ) (held : Held) (end : RunEnd) (result : Result Gone E)
-    → ((t : State) → stands t → held.committed ≡ has_committed t.writer) → GoneBy held.committed end result → PageMeant served page params left stands s old new depth end → PageGone served page params left stands s old new depth held result
-page_gone leaves grows served page params left stands s old new depth held end result told by meant = record {
+pub page_ended : {E : Type 0} → ForwardsLeaveFewer → StepsAndPiecesGrow → (served : Served) (page : Page) (params : List Param) (left : ℕ) (stands : State → Type 0) (s : State) (old new : List Answer) (depth : ℕ) (held : Held) (end : RunEnd) (result : Result PageEnd E)
+    → ((t : State) → stands t → held.committed ≡ has_committed t.writer) → EndsBy held.committed end result → PageMeant served page params left stands s old new depth end → PageEnded served page params left stands s old new depth held result
+page_ended leaves grows served page params left stands s old new depth held end result told by meant = record {
   got = meant.got;
   replies = meant.replies;
   after = meant.after;
   stood = meant.stood;
-  ends = gone_so (λ future. page_mean served left page params (given (meant.got ++ future) s)) page params left depth held meant.after (λ future. run_leaves leaves grows served left page params (given (meant.got ++ future) s))
+  ends = page_ends_so (λ future. page_mean served left page params (given (meant.got ++ future) s)) page params left depth held meant.after (λ future. run_leaves leaves grows served left page params (given (meant.got ++ future) s))
       (told meant.after meant.stood) end result meant.ends by;
 }

@@ -15,8 +15,8 @@ use Rattle.page_meaning.specs.Response.{Answered, head_of, responds, rest_of}
 use Rattle.page_meaning.specs.State.{State}
 use Rattle.page_meaning.specs.Went.{Did}
 use Rattle.run_pages.specs.Meant.{page_mean}
-use Rattle.request_pages.specs.declared.reply.Gone.{Gone}
-use Rattle.request_pages.specs.declared.reply.Gone.TheVariants as gone
+use Rattle.request_pages.specs.declared.reply.PageEnd.{PageEnd}
+use Rattle.request_pages.specs.declared.reply.PageEnd.TheVariants as page_end
 use Rattle.request_pages.specs.declared.reply.Reply.{Reply}
 use Rattle.request_pages.specs.declared.reply.Reply.TheVariants as reply
 use Rattle.run_world.specs.Part.{given}
@@ -30,44 +30,44 @@ reply_answer held (reply.Written broken) s =
 reply_answer held (reply.Whole status content_type location body) s = responds (record { head = head_of status content_type location s; pieces = []; rest = body; broken = false }) s
 
 -- what the end of a page's run answers: a reply, what is done with its fault, or what the target of its forward answers
-abbrev pub gone_answer : (target : List ℕ → List Param → ℕ → State → Answered) → OnFault → Held → Page → List Param → Gone → (left : ℕ) → State → Answered
-gone_answer target at_fault held page params (gone.Done r) left s = reply_answer held r s
-gone_answer target at_fault held page params (gone.Failed raise) left s = at_fault page params (raise_of raise) s
-gone_answer target at_fault held page params (gone.Forward path more) left s = target path more left s
+abbrev pub page_end_answer : (target : List ℕ → List Param → ℕ → State → Answered) → OnFault → Held → Page → List Param → PageEnd → (left : ℕ) → State → Answered
+page_end_answer target at_fault held page params (page_end.Done r) left s = reply_answer held r s
+page_end_answer target at_fault held page params (page_end.Failed raise) left s = at_fault page params (raise_of raise) s
+page_end_answer target at_fault held page params (page_end.Forward path more) left s = target path more left s
 
 -- nothing was committed where a page's run ended by a fault that is still to be answered, by a forward or by a redirect, and a response
 -- breaks off only behind a commit
-abbrev pub IsOpen : Gone → List (List ℕ) → Type 0
-IsOpen (gone.Done (reply.Written broken)) pieces = pieces ≡ [] → broken ≡ false
+abbrev pub IsOpen : PageEnd → List (List ℕ) → Type 0
+IsOpen (page_end.Done (reply.Written broken)) pieces = pieces ≡ [] → broken ≡ false
 IsOpen other pieces = pieces ≡ []
 
 -- the target of a forward has fewer levels left, by which it is as deep as this
-abbrev pub TargetSo : (left depth : ℕ) → Gone → (l : ℕ) → Type 0
-TargetSo left depth (gone.Forward path more) l = (l < left) × (depth ≡ level_limit - l)
+abbrev pub TargetSo : (left depth : ℕ) → PageEnd → (l : ℕ) → Type 0
+TargetSo left depth (page_end.Forward path more) l = (l < left) × (depth ≡ level_limit - l)
 TargetSo left depth other l = ⊤
 
 -- the run of a page answers as it ended, whatever answers are still to come; where memory ran out
 -- it went no further than the page goes
-abbrev pub GoneSo : {E : Type 0} → (means : List Answer → Did) → Page → List Param → (left depth : ℕ) → Held → (after : State) → Result Gone E → Type 0
-GoneSo means page params left depth held after (Ok g) =
+abbrev pub PageEndsSo : {E : Type 0} → (means : List Answer → Did) → Page → List Param → (left depth : ℕ) → Held → (after : State) → Result PageEnd E → Type 0
+PageEndsSo means page params left depth held after (Ok g) =
     (l : ℕ) × TargetSo left depth g l × IsOpen g after.writer.pieces
     × ((target : List ℕ → List Param → ℕ → State → Answered) (at_fault : OnFault) (chosen : Status) → chosen ≡ held.head.status → Some page.settings.content_type ≡ held.head.content_type
-    → (future : List Answer) → run_answer target at_fault chosen page params (means future) ≡ gone_answer target at_fault held page params g l (given future after))
-GoneSo means page params left depth held after (Err e) = (future : List Answer) → Grows after (state_of (means future))
+    → (future : List Answer) → run_answer target at_fault chosen page params (means future) ≡ page_end_answer target at_fault held page params g l (given future after))
+PageEndsSo means page params left depth held after (Err e) = (future : List Answer) → Grows after (state_of (means future))
 
 -- the run of a page from a state: the answers that it got, the state in which it ended, and how
-pub record PageGone (served : Served) (page : Page) (params : List Param) (left : ℕ) (stands : State → Type 0) (s : State) (old new : List Answer) (depth : ℕ) (held : Held) {E : Type 0} (result : Result Gone E) : Type 0 where
+pub record PageEnded (served : Served) (page : Page) (params : List Param) (left : ℕ) (stands : State → Type 0) (s : State) (old new : List Answer) (depth : ℕ) (held : Held) {E : Type 0} (result : Result PageEnd E) : Type 0 where
   pub got : List Answer
   pub replies : new ≡ old ++ got
   pub after : State
   pub stood : stands after
-  pub ends : GoneSo (λ future. page_mean served left page params (given (got ++ future) s)) page params left depth held after result
+  pub ends : PageEndsSo (λ future. page_mean served left page params (given (got ++ future) s)) page params left depth held after result
 
 -- how a run ended, as its caller takes it: a fault behind a commit breaks the response off
-abbrev pub GoneBy : {E : Type 0} → (committed : Bool) → RunEnd → Result Gone E → Type 0
-GoneBy committed ends.Normal r = r ≡ Ok (gone.Done (reply.Written false))
-GoneBy true (ends.Raised fault place) r = r ≡ Ok (gone.Done (reply.Written true))
-GoneBy false (ends.Raised fault place) r = r ≡ Ok (gone.Failed (record { fault = fault; place = place }))
-GoneBy committed (ends.Redirect address) r = r ≡ Ok (gone.Done (reply.Whole status.Found None (Some address) []))
-GoneBy committed (ends.Forward path params) r = r ≡ Ok (gone.Forward path params)
-GoneBy committed ends.NoMemory r = IsErr r
+abbrev pub EndsBy : {E : Type 0} → (committed : Bool) → RunEnd → Result PageEnd E → Type 0
+EndsBy committed ends.Normal r = r ≡ Ok (page_end.Done (reply.Written false))
+EndsBy true (ends.Raised fault place) r = r ≡ Ok (page_end.Done (reply.Written true))
+EndsBy false (ends.Raised fault place) r = r ≡ Ok (page_end.Failed (record { fault = fault; place = place }))
+EndsBy committed (ends.Redirect address) r = r ≡ Ok (page_end.Done (reply.Whole status.Found None (Some address) []))
+EndsBy committed (ends.Forward path params) r = r ≡ Ok (page_end.Forward path params)
+EndsBy committed ends.NoMemory r = IsErr r
