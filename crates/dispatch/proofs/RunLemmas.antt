@@ -31,7 +31,7 @@ use Rattle.request_pages.specs.declared.course.Course.{Course}
 use Rattle.request_pages.specs.declared.reply.Reply.{Reply}
 use Rattle.request_port.proofs.AskedLemmas.{asking_at}
 use Rattle.request_port.specs.Asked.{asked_in, asking_of, told_in}
-use Rattle.run_stage.specs.Standing.{session_weight}
+use Rattle.run_stage.specs.Keeping.{session_weight}
 use Rattle.run_world.specs.Origin.{Origin}
 use Rattle.run_world.specs.declared.around.Around.{Around}
 use Rattle.scopes.specs.Scopes.{Entries, ScopeState, starting}

@@ -19,7 +19,7 @@ use Rattle.run_moves.specs.declared.flow.End.{End}
 use Rattle.run_moves.specs.declared.flow.End.TheVariants as ends
 use Rattle.run_stage.specs.Stage.{Covered, Reached, StoresSo}
 use Rattle.run_stage.specs.StageLaws.{no_claim, same_head}
-use Rattle.run_stage.specs.Standing.{HasCharged, KeepsResponse}
+use Rattle.run_stage.specs.Keeping.{HasCharged, KeepsResponse}
 use Rattle.run_stage.specs.declared.stage.Stage.{Stage}
 use Rattle.run_world.specs.Origin.{Origin}
 use Rattle.run_world.specs.Part.{given}

@@ -13,7 +13,7 @@ use Rattle.run_world.specs.Known.{ServesSo, Known}
 use Rattle.run_world.specs.Origin.{Origin}
 use Rattle.run_world.specs.Part.{given}
 use Rattle.run_moves.specs.Simple.{IsSimple}
-use Rattle.page_machine.specs.Turn.{CallBegins, CodeRuns, Ran, Turns, Stepped, Standing, SeatHolds}
+use Rattle.page_machine.specs.Turn.{CallBegins, CodeRuns, Ran, Turns, Stepped, StandsInCode, SeatHolds}
 use Rattle.run_moves.specs.declared.flow.End.{End}
 use Rattle.run_moves.specs.declared.flow.Flow.{Flow}
 use Rattle.run_moves.specs.declared.flow.Flow.TheVariants as flows
@@ -46,7 +46,7 @@ holds_more (in_page program params) n m h s = tt
 holds_more (in_tag call caller) n m h s = (omega (arith, h, s.0), s.1, holds_more caller n m h s.2)
 
 -- a run begins with the empty shape
-pub standing_start : (seat : Seat) (at left kept : ℕ) (o : Open) → Carries (code_of seat) at empty_shape → o ≡ fresh_open left → Standing seat at kept o
+pub standing_start : (seat : Seat) (at left kept : ℕ) (o : Open) → Carries (code_of seat) at empty_shape → o ≡ fresh_open left → StandsInCode seat at kept o
 standing_start seat at left kept o carries e = record { base = kept; stands = subst (Stands (code_of seat) kept at kept) (sym e) (starts (code_of seat) kept at left carries) }
 
 -- the same between the worlds of a run, for whatever serving there is and whatever states they stand for
@@ -111,7 +111,7 @@ module _ {W : Type 0} {reached : W → Origin → W → State → Type 0} {repli
   pub loop_known : Known reached stores served new
   loop_known = known_on stores_on again served w new k turn.after turn.stood
 
-  pub loop_standing : Standing seat pc (kept w) o → Standing seat to (kept new) o2
+  pub loop_standing : StandsInCode seat pc (kept w) o → StandsInCode seat to (kept new) o2
   loop_standing st = record {
     base = st.base;
     stands = subst (λ n. Stands (code_of seat) st.base to n o2) (sym (tells w new k.origin turn.after turn.stood).1)
@@ -126,7 +126,7 @@ module _ {W : Type 0} {reached : W → Origin → W → State → Type 0} {repli
       let more = turns_leave_frames k.serving seat pc to (given (turn.got ++ []) k.state) (given [] turn.after) o o2 turned in
       holds_more seat (length (variables w).frames) (length (variables new).frames) (omega (arith, one, two, more)) h
 
-  pub loop_nearer : Standing seat pc (kept w) o
+  pub loop_nearer : StandsInCode seat pc (kept w) o
       → (visit_limit - visits new) * span (code_of seat) + weight (length (code_of seat)) to o2.catches < (visit_limit - visits w) * span (code_of seat) + weight (length (code_of seat)) pc o.catches
   loop_nearer st =
       let less = turns_come_nearer k.serving k.fits seat seated st.base pc (given (turn.got ++ []) k.state) o
@@ -137,9 +137,9 @@ module _ {W : Type 0} {reached : W → Origin → W → State → Type 0} {repli
       (sym (tells w w k.origin k.state k.stands).2) less)
 
   -- so does the loop
-  pub behind_turn : (at left : ℕ) (start : W) → Known reached stores served start → SeatHolds seat (length (variables w).frames) → Standing seat pc (kept w) o
+  pub behind_turn : (at left : ℕ) (start : W) → Known reached stores served start → SeatHolds seat (length (variables w).frames) → StandsInCode seat pc (kept w) o
       → RunSoFar reached replies (ServesSo stores served) seat at left start w pc o
-      → Known reached stores served new × SeatHolds seat (length (variables new).frames) × Standing seat to (kept new) o2 × RunSoFar reached replies (ServesSo stores served) seat at left start new to o2
+      → Known reached stores served new × SeatHolds seat (length (variables new).frames) × StandsInCode seat to (kept new) o2 × RunSoFar reached replies (ServesSo stores served) seat at left start new to o2
   behind_turn at left start begun h st far = (
     loop_known,
     loop_holds h,
@@ -156,7 +156,7 @@ module _ {W : Type 0} {reached : W → Origin → W → State → Type 0} {repli
 pub finds_at : {W : Type 0} {reached : W → Origin → W → State → Type 0} {stores : W → ((path : List ℕ) → Stored) → Type 0} {variables : W → ScopeState} {kept visits : W → ℕ} {committed : W → Bool}
     (tells : (first w : W) (origin : Origin) (s : State) → reached first origin w s
     → (variables w ≡ s.scopes) × (kept w ≡ length s.writer.kept) × (visits w ≡ s.visits) × (committed w ≡ has_committed s.writer))
-    (served : machine_served.Served) (seat : Seat) → SeatFits seat → (pc : ℕ) (o : Open) (w : W) (k : Known reached stores served w) → Standing seat pc (kept w) o → (cell : Cell) → slice_get (code_of seat) pc ≡ Some cell
+    (served : machine_served.Served) (seat : Seat) → SeatFits seat → (pc : ℕ) (o : Open) (w : W) (k : Known reached stores served w) → StandsInCode seat pc (kept w) o → (cell : Cell) → slice_get (code_of seat) pc ≡ Some cell
     → Finds (length (code_of seat)) pc (kept w) o cell.instr
 finds_at {kept = kept} tells served seat seated pc o w k st cell e =
     subst (λ n. Finds (length (code_of seat)) pc n o cell.instr) (sym (tells w w k.origin k.state k.stands).1)
@@ -197,7 +197,7 @@ simple_of instr.CatchEnd h = tt
 simple_of (instr.Leave how) h = tt
 
 -- a place at which a run stands is in its code
-pub within_code : (seat : Seat) (pc kept : ℕ) (o : Open) → Standing seat pc kept o → pc < length (code_of seat)
+pub within_code : (seat : Seat) (pc kept : ℕ) (o : Open) → StandsInCode seat pc kept o → pc < length (code_of seat)
 within_code seat pc kept o st = carries_within (code_of seat) pc st.stands.shape st.stands.carries
 
 -- a call that is this one

@@ -28,7 +28,7 @@ use Rattle.run_moves.specs.declared.flow.End.{End}
 use Rattle.run_moves.specs.declared.flow.End.TheVariants as machine_ends
 use Rattle.run_stage.specs.declared.limits.TheConstants.{MAX_CHARGE}
 use Rattle.run_stage.specs.Stage.{StoresSo}
-use Rattle.run_stage.specs.Standing.{session_weight}
+use Rattle.run_stage.specs.Keeping.{session_weight}
 
 -- how many calls, includes, fragments and forwards may stand in one another
 abbrev pub level_limit : ℕ

@@ -81,7 +81,7 @@ pub record Ran {W : Type 0} (reached : W → Origin → W → State → Type 0) 
       → RunFrom (runs serving) (reached first origin new) s (replies old) (replies new) end
 
 -- a run stands in its code with the shape of its place, where so many bodies are kept
-pub record Standing (seat : Seat) (pc kept : ℕ) (o : Open) : Type 0 where
+pub record StandsInCode (seat : Seat) (pc kept : ℕ) (o : Open) : Type 0 where
   pub base : ℕ
   pub stands : Stands (code_of seat) base pc kept o
 

@@ -8,7 +8,7 @@ ghost use Rattle.page_machine.specs.Turn.{Ran};
 ghost use Rattle.page_meaning.specs.State.{State};
 ghost use Rattle.page_table.specs.Program.{Serving};
 ghost use Rattle.page_table.specs.Runs.{PageRuns};
-ghost use Rattle.run_stage.specs.Standing.{HasCharged, KeepsResponse, KeepsSession};
+ghost use Rattle.run_stage.specs.Keeping.{HasCharged, KeepsResponse, KeepsSession};
 ghost use Rattle.run_world.specs.Origin.{Origin};
 ghost use Rattle.run_world.specs.Programs.{program_of};
 

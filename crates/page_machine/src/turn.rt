@@ -3,7 +3,7 @@ ghost use Rattle.std.specs.Prelude.{◌≡◌, ◌+◌, ◌<◌, ◌^◌, IfSome
 ghost use Rattle.page_code.specs.Fits.{Carries};
 ghost use Rattle.page_code.specs.Shapes.{empty_shape};
 ghost use Rattle.page_code.specs.declared.instr.Instr.TheVariants as instr;
-ghost use Rattle.page_machine.specs.Turn.{CallBegins, CodeRuns, Ran, SeatHolds, Standing, Stepped};
+ghost use Rattle.page_machine.specs.Turn.{CallBegins, CodeRuns, Ran, SeatHolds, StandsInCode, Stepped};
 ghost use Rattle.page_table.specs.Act.{called_out, move_of};
 ghost use Rattle.page_table.specs.Checked.{SeatFits};
 ghost use Rattle.page_table.specs.Finds.{CallFinds};
@@ -128,7 +128,7 @@ fn turn<W: World>(
     requires holds { SeatHolds (seat_at at.now) (length (W.variables world.old).frames) }
     requires cell { slice_get (code_of (seat_at at.now)) at.now.pc ≡ Some at.now.cell }
     requires within { length (code_of (seat_at at.now)) < 2 ^ 64 }
-    requires standing { Standing (seat_at at.now) at.now.pc (W.kept world.old) (open_of opened.old) }
+    requires standing { StandsInCode (seat_at at.now) at.now.pc (W.kept world.old) (open_of opened.old) }
     ensures covered { W.covered world.new }
     ensures records { IsRecordsAt at.now records.new }
     ensures stepped { Stepped W.reached W.replies (ServesSo W.stores at.now.served.now) (seat_at at.now)

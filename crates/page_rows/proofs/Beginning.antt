@@ -5,7 +5,7 @@ use Rattle.tree_site.specs.Asked.{asking_by}
 use Rattle.page_machine.specs.Run.{IsInOrder}
 use Rattle.page_meaning.specs.declared.limits.TheConstants.{VISIT_LIMIT}
 use Rattle.run_stage.specs.declared.limits.TheConstants.{MAX_CHARGE}
-use Rattle.run_stage.specs.Standing.{session_weight}
+use Rattle.run_stage.specs.Keeping.{session_weight}
 use Rattle.run_world.specs.declared.around.Around.{Around}
 use Rattle.scopes.specs.Limits.{max_session_weight}
 use Rattle.scopes.specs.Scopes.{Entries, ScopeState, starting}

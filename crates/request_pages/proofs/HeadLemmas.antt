@@ -5,7 +5,7 @@ use Rattle.http_out.specs.declared.status.Status.{Status}
 use Rattle.out_buffer.specs.Held.{Held}
 use Rattle.page_meaning.specs.Response.{new_id}
 use Rattle.request_pages.specs.Course.{IsHeaded}
-use Rattle.run_stage.specs.Standing.{KeepsResponse, KeepsSession, head_after, naming}
+use Rattle.run_stage.specs.Keeping.{KeepsResponse, KeepsSession, head_after, naming}
 use Rattle.run_world.specs.declared.around.Around.{Around}
 
 -- a head that names a session, or none

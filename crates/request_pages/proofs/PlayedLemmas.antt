@@ -26,7 +26,7 @@ use Rattle.request_pages.specs.declared.reply.PageEnd.{PageEnd}
 use Rattle.request_pages.proofs.WithinLemmas.{run_heads}
 use Rattle.request_pages.specs.Within.{sent_head}
 use Rattle.response_laws.proofs.Behind.{first_grows, run_leaves}
-use Rattle.run_stage.specs.Standing.{head_after, naming}
+use Rattle.run_stage.specs.Keeping.{head_after, naming}
 use Rattle.run_world.proofs.Parts.{adds_given}
 use Rattle.run_world.specs.Origin.{Origin}
 use Rattle.run_world.specs.Part.{given}

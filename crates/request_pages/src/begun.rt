@@ -9,7 +9,7 @@ ghost use Rattle.page_meaning.specs.Page.{Page};
 ghost use Rattle.page_meaning.specs.State.{State};
 ghost use Rattle.run_pages.specs.Meant.{served_at};
 ghost use Rattle.request_pages.specs.PageEnd.{EndsBy, PageEnded};
-ghost use Rattle.run_stage.specs.Standing.{HasCharged, KeepsResponse, KeepsSession};
+ghost use Rattle.run_stage.specs.Keeping.{HasCharged, KeepsResponse, KeepsSession};
 ghost use Rattle.run_world.specs.Origin.{Origin};
 
 use crate::body::Body;

@@ -12,7 +12,7 @@ ghost use Rattle.request_pages.specs.Course.{IsHeaded};
 ghost use Rattle.request_pages.specs.Played.{IsFunded};
 ghost use Rattle.request_pages.specs.Target.{IsOther, IsTargetEnd, IsTargetReply};
 ghost use Rattle.request_port.specs.Leading.{IsLast, Leads};
-ghost use Rattle.run_stage.specs.Standing.{HasCharged, KeepsSession};
+ghost use Rattle.run_stage.specs.Keeping.{HasCharged, KeepsSession};
 ghost use Rattle.run_world.specs.Origin.{Origin};
 ghost use Rattle.site_words.specs.Running.{IsPaged};
 ghost use Rattle.source_tree.specs.declared.file.File.{File};

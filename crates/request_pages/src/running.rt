@@ -7,7 +7,7 @@ ghost use Rattle.page_meaning.specs.State.{State};
 ghost use Rattle.run_pages.specs.Meant.{served_at};
 ghost use Rattle.request_pages.specs.Course.{IsHeaded};
 ghost use Rattle.request_pages.specs.Played.{IsFunded, Played};
-ghost use Rattle.run_stage.specs.Standing.{HasCharged, KeepsSession};
+ghost use Rattle.run_stage.specs.Keeping.{HasCharged, KeepsSession};
 ghost use Rattle.run_world.specs.Origin.{Origin};
 
 use crate::begun::run_begun;

@@ -7,7 +7,7 @@ ghost use Rattle.compiled_pages.specs.Made.{IsPageAt, IsProgramOf, TellsPages};
 ghost use Rattle.page_meaning.specs.Page.{Page};
 ghost use Rattle.page_meaning.specs.State.{State};
 ghost use Rattle.run_pages.specs.Meant.{PageMeant, served_at};
-ghost use Rattle.run_stage.specs.Standing.{HasCharged, KeepsResponse, KeepsSession};
+ghost use Rattle.run_stage.specs.Keeping.{HasCharged, KeepsResponse, KeepsSession};
 ghost use Rattle.run_world.specs.Origin.{Origin};
 
 use code_lowering::programs;

@@ -16,7 +16,7 @@ use Rattle.pg_text.specs.declared.place.Place.{Place}
 use Rattle.pg_value.specs.declared.fault.RunFault.{RunFault}
 use Rattle.pg_value.specs.declared.fault.RunFault.TheVariants as fault
 use Rattle.run_stage.specs.Stage.{Reached}
-use Rattle.run_stage.specs.Standing.{fresh_claim, head_after, naming}
+use Rattle.run_stage.specs.Keeping.{fresh_claim, head_after, naming}
 use Rattle.run_stage.specs.declared.stage.Stage.{Stage}
 use Rattle.page_meaning.proofs.Growing.{ordered_asked, same as grows_here, starts}
 use Rattle.run_world.proofs.Parts.{adds_given}

@@ -14,7 +14,7 @@ use Rattle.pg_value.specs.Weight.{entries_weight}
 use Rattle.pg_value.specs.declared.fault.RunFault.{RunFault}
 use Rattle.run_stage.proofs.StageMoves.{scoped_stage, stage_scoped}
 use Rattle.run_stage.specs.Stage.{Covered, Reached}
-use Rattle.run_stage.specs.Standing.{session_weight}
+use Rattle.run_stage.specs.Keeping.{session_weight}
 use Rattle.run_stage.specs.declared.stage.Stage.{Stage}
 use Rattle.run_world.proofs.Adds.{set_held_adds}
 use Rattle.run_world.proofs.Parts.{adds_given}

@@ -1,3 +1,3 @@
 pub mod Stage
 pub mod StageLaws
-pub mod Standing
+pub mod Keeping

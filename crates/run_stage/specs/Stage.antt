@@ -3,7 +3,7 @@ use Rattle.std.specs.Prelude.{◌≡◌, ◌+◌, ◌≤◌, ℕ, List, ◌++◌
 use Rattle.out_buffer.specs.Held.{Stands}
 use Rattle.run_world.specs.Origin.{Origin}
 use Rattle.run_world.specs.Programs.{stored_of}
-use Rattle.run_stage.specs.Standing.{HasCharged, KeepsResponse, KeepsSession, session_weight}
+use Rattle.run_stage.specs.Keeping.{HasCharged, KeepsResponse, KeepsSession, session_weight}
 use Rattle.run_world.specs.declared.program.Program.{Program}
 use Rattle.run_stage.specs.declared.stage.Stage.{Stage}
 use Rattle.run_stage.specs.declared.limits.TheConstants.{MAX_CHARGE, RUN_PROMISE, SESSION_RUN_PROMISE}

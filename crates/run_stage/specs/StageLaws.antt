@@ -5,7 +5,7 @@ use Rattle.http_out.specs.declared.head.Head.{Head}
 use Rattle.out_buffer.specs.Writer.{has_committed}
 use Rattle.run_world.specs.Origin.{Origin}
 use Rattle.run_stage.specs.Stage.{Reached, StoresSo}
-use Rattle.run_stage.specs.Standing.{fresh_claim, head_after}
+use Rattle.run_stage.specs.Keeping.{fresh_claim, head_after}
 use Rattle.run_world.specs.declared.program.Program.{Program}
 use Rattle.run_stage.specs.declared.stage.Stage.{Stage}
 use Rattle.page_meaning.specs.State.{State}

@@ -6,7 +6,7 @@ ghost use Rattle.page_machine.specs.Run.{IsInOrder, StandsFor, level_limit};
 ghost use Rattle.compiled_pages.specs.Made.{TellsPages};
 ghost use Rattle.page_meaning.specs.State.{State};
 ghost use Rattle.run_pages.specs.Meant.{PageMeant, served_at};
-ghost use Rattle.run_stage.specs.Standing.{HasCharged, KeepsResponse, KeepsSession};
+ghost use Rattle.run_stage.specs.Keeping.{HasCharged, KeepsResponse, KeepsSession};
 ghost use Rattle.run_world.specs.Origin.{Origin};
 ghost use Rattle.source_tree.specs.Limits.{IsWithinLimits};
 ghost use Rattle.tree_pages.specs.Came.{ComesSo, IsUntouched, KeepsDepth, StepsSo};

@@ -2,7 +2,7 @@ use Rattle.std.proofs.Common.{◌≡◌, ◌+◌, ◌-◌, ◌*◌, length}
 use Rattle.run_world.specs.Known.{Known, ServesSo}
 use Rattle.run_moves.specs.Opened.{open_of}
 use Rattle.run_world.specs.Seats.{seat_of}
-use Rattle.page_machine.specs.Turn.{SeatHolds, Standing}
+use Rattle.page_machine.specs.Turn.{SeatHolds, StandsInCode}
 use Rattle.page_machine.proofs.Looping.{RunSoFar}
 use Rattle.page_machine.proofs.+machine.Given as goal
 use Rattle.page_meaning.specs.Work.{visit_limit}
@@ -55,6 +55,6 @@ invariant-turn::run_code-loop-op g l = record {
   known : Known g.W.World.reached g.W.World.stores l.served l.world;
   records : IsRecordsOf l.served.request.now (page_run_of (seat_of l.start.seat.now)).params l.records;
   holds : SeatHolds (seat_of l.start.seat.now) (length (g.W.World.variables l.world).frames);
-  standing : Standing (seat_of l.start.seat.now) l.pc (g.W.World.kept l.world) (open_of l.opened);
+  standing : StandsInCode (seat_of l.start.seat.now) l.pc (g.W.World.kept l.world) (open_of l.opened);
   so_far : RunSoFar g.W.World.reached g.W.World.replies (ServesSo g.W.World.stores l.served) (seat_of l.start.seat.now) l.start.pc l.start.left l.fn.world l.world l.pc (open_of l.opened);
 }
