@@ -26,7 +26,7 @@ use Rattle.pass_course.specs.Course.{HasDone}
 use Rattle.request_pages.specs.Closed.{IsReplyOpen}
 use Rattle.request_pages.specs.PageEnd.{reply_answer}
 use Rattle.request_pages.specs.Within.{GoesWithin, sent_head}
-use Rattle.request_pages.specs.declared.course.Course.{Course}
+use Rattle.request_pages.specs.declared.request_state.RequestState.{RequestState}
 use Rattle.request_pages.specs.declared.reply.Reply.{Reply}
 use Rattle.request_pages.specs.declared.reply.Reply.TheVariants as replied
 use Rattle.run_world.specs.Part.{given}
@@ -63,16 +63,16 @@ pub reply_within : (held : Held) (r : Reply) (more : List Answer) (s : State) �
 reply_within held r more s is_open = (reply_grows held r more s, reply_heads held r more s is_open)
 
 -- where memory ran out while a reply was written, its pages went no further than they go
-pub replies_starve : (x : Opening) (pass : ℕ) (p : Start) (new : List Entry) (now : ℕ) (course : Course) (taken : Option (List ℕ)) (faults : ℕ) (reply : Reply) (replies : Replies x pass p new now course taken faults reply)
-    → Starves x pass p new now course.writer.head replies.ran.after
-replies_starve x pass p new now course taken faults reply replies = record {
+pub replies_starve : (x : Opening) (pass : ℕ) (p : Start) (new : List Entry) (now : ℕ) (state : RequestState) (taken : Option (List ℕ)) (faults : ℕ) (reply : Reply) (replies : Replies x pass p new now state taken faults reply)
+    → Starves x pass p new now state.writer.head replies.ran.after
+replies_starve x pass p new now state taken faults reply replies = record {
   turns = replies.ran.turns;
   stops = whole_but_last replies.ran.turns replies.whole;
   did = replies.ran.did;
   asked = replies.ran.asked;
   ordered = replies.ran.stood.ordered;
   read = let r = replies.read in omega (arith, r);
-  means = λ more. subst (GoesWithin course.writer.head replies.ran.after) (sym (replies.means more)) (reply_within course.writer reply more replies.ran.after replies.is_open);
+  means = λ more. subst (GoesWithin state.writer.head replies.ran.after) (sym (replies.means more)) (reply_within state.writer reply more replies.ran.after replies.is_open);
 }
 
 module _ (x : Opening) (pass : ℕ) (old : Standing) (moments : Moments) (p : Start) (begun : HasBegun x pass old moments p) (new : List Entry) (now : ℕ) where
@@ -138,17 +138,17 @@ module _ (x : Opening) (pass : ℕ) (old : Standing) (moments : Moments) (p : St
       })
 
   -- by its reply and its End
-  pub replied_answer : (mid : List Entry) (course : Course) (taken : Option (List ℕ)) (faults : ℕ) (r : Reply) (replies : Replies x pass p mid now course taken faults r)
-      → HasDone needs_at x pass mid new ((op.End p.number (unwrap_or course.scopes.session []), reply.Ended) ∷ [])
-      → Answers needs_at x pass p.request p.close old (wire (closing p.close (response_in course.writer r replies.ran.after)) p.shown) (response_in course.writer r replies.ran.after).broken (standing_of new moments now)
-  replied_answer mid course taken faults r replies ended =
+  pub replied_answer : (mid : List Entry) (state : RequestState) (taken : Option (List ℕ)) (faults : ℕ) (r : Reply) (replies : Replies x pass p mid now state taken faults r)
+      → HasDone needs_at x pass mid new ((op.End p.number (unwrap_or state.scopes.session []), reply.Ended) ∷ [])
+      → Answers needs_at x pass p.request p.close old (wire (closing p.close (response_in state.writer r replies.ran.after)) p.shown) (response_in state.writer r replies.ran.after).broken (standing_of new moments now)
+  replied_answer mid state taken faults r replies ended =
       let ran = replies.ran in
-      let attrs : unwrap_or course.scopes.session [] ≡ attrs_left (given [] ran.after) = ap (λ (scopes : ScopeState). unwrap_or scopes.session []) (sym ran.stood.scopes_are) in
+      let attrs : unwrap_or state.scopes.session [] ≡ attrs_left (given [] ran.after) = ap (λ (scopes : ScopeState). unwrap_or scopes.session []) (sym ran.stood.scopes_are) in
       let calls = all_calls p.number ran.turns in
-      answered ran.turns (response_in course.writer r ran.after) (given [] ran.after) replies.whole
-      (ap (meant p) (sym (append-nil (answers_of x.seed ran.turns))) ∙ (replies.means [] ∙ reply_is course.writer r ran.after)) ran.asked refl
+      answered ran.turns (response_in state.writer r ran.after) (given [] ran.after) replies.whole
+      (ap (meant p) (sym (append-nil (answers_of x.seed ran.turns))) ∙ (replies.means [] ∙ reply_is state.writer r ran.after)) ran.asked refl
       (subst (λ attrs. HasDone needs_at x pass p.begun new (calls ++ (op.End p.number attrs, reply.Ended) ∷ [])) attrs
-      (courses_join needs_at x pass p.begun mid new calls ((op.End p.number (unwrap_or course.scopes.session []), reply.Ended) ∷ []) ran.did ended)) replies.read
+      (courses_join needs_at x pass p.begun mid new calls ((op.End p.number (unwrap_or state.scopes.session []), reply.Ended) ∷ []) ran.did ended)) replies.read
 
   -- by its Abandon
   pub starved_drop : (mid : List Entry) (reached : State) (text : List ℕ) (head : Head) → Starves x pass p mid now head reached → HasDone needs_at x pass mid new ((op.Abandon p.number, reply.Dropped) ∷ [])

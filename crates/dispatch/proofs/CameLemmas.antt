@@ -23,8 +23,8 @@ use Rattle.compiled_pages.specs.Pages.{needs_at}
 use Rattle.page_meaning.specs.Response.{closing, head_of}
 use Rattle.page_meaning.specs.State.{State}
 use Rattle.pass_course.specs.Course.{HasDone}
-use Rattle.request_pages.specs.Course.{IsHeaded}
-use Rattle.request_pages.specs.declared.course.Course.{Course}
+use Rattle.request_pages.specs.Headed.{IsHeaded}
+use Rattle.request_pages.specs.declared.request_state.RequestState.{RequestState}
 use Rattle.request_pages.specs.declared.reply.Reply.{Reply}
 use Rattle.run_world.specs.declared.around.Around.{Around}
 use Rattle.scopes.specs.Scopes.{Entries}
@@ -74,12 +74,12 @@ module _ (x : Opening) (pass : ℕ) (old : Standing) (moments : Moments) (p : St
   came_written text broken pieces taken faults outcome.NoMemory answers wrote = absurd wrote
 
   -- its pages replied, and it was ended
-  pub came_ended : (mid : List Entry) (course : Course) (before taken : Option (List ℕ)) (counted faults : ℕ) (r : Reply) (o : Outcome) (replies : Replies x pass p mid now course before counted r)
-      → Wrote {E = AllocError} p.taken p.faults (wire (closing p.close (response_in course.writer r replies.ran.after)) p.shown) (response_in course.writer r replies.ran.after).broken replies.ran.after.writer.pieces taken faults (Ok o)
-      → HasDone needs_at x pass mid new ((op.End p.number (unwrap_or course.scopes.session []), reply.Ended) ∷ []) → Came x pass old moments p new now taken faults o
-  came_ended mid course before taken counted faults r o replies wrote ended =
-      came_written (wire (closing p.close (response_in course.writer r replies.ran.after)) p.shown) (response_in course.writer r replies.ran.after).broken replies.ran.after.writer.pieces taken faults o
-      (replied_answer x pass old moments p begun new now mid course before counted r replies ended) wrote
+  pub came_ended : (mid : List Entry) (state : RequestState) (before taken : Option (List ℕ)) (counted faults : ℕ) (r : Reply) (o : Outcome) (replies : Replies x pass p mid now state before counted r)
+      → Wrote {E = AllocError} p.taken p.faults (wire (closing p.close (response_in state.writer r replies.ran.after)) p.shown) (response_in state.writer r replies.ran.after).broken replies.ran.after.writer.pieces taken faults (Ok o)
+      → HasDone needs_at x pass mid new ((op.End p.number (unwrap_or state.scopes.session []), reply.Ended) ∷ []) → Came x pass old moments p new now taken faults o
+  came_ended mid state before taken counted faults r o replies wrote ended =
+      came_written (wire (closing p.close (response_in state.writer r replies.ran.after)) p.shown) (response_in state.writer r replies.ran.after).broken replies.ran.after.writer.pieces taken faults o
+      (replied_answer x pass old moments p begun new now mid state before counted r replies ended) wrote
 
   -- memory ran out before anything was committed, and the plain answer says so
   pub came_silent : (mid : List Entry) (head : Head) (reached : State) (failed : Bool) (taken : Option (List ℕ)) (faults : ℕ) → Starves x pass p mid now head reached → reached.writer.pieces ≡ [] → HasDone needs_at x pass mid new ((op.Abandon p.number, reply.Dropped) ∷ [])
@@ -93,11 +93,11 @@ module _ (x : Opening) (pass : ℕ) (old : Standing) (moments : Moments) (p : St
   }
 
   -- or behind a commit, and what was sent stands
-  pub came_cut : (mid : List Entry) (course : Course) (taken : Option (List ℕ)) (faults : ℕ) (ran : Ran x pass p mid course taken faults) → course.writer.committed ≡ true → Starves x pass p mid now course.writer.head ran.after
+  pub came_cut : (mid : List Entry) (state : RequestState) (taken : Option (List ℕ)) (faults : ℕ) (ran : Ran x pass p mid state taken faults) → state.writer.committed ≡ true → Starves x pass p mid now state.writer.head ran.after
       → HasDone needs_at x pass mid new ((op.Abandon p.number, reply.Dropped) ∷ []) → Came x pass old moments p new now taken faults outcome.NoMemory
-  came_cut mid course taken faults ran committed starves abandoned =
+  came_cut mid state taken faults ran committed starves abandoned =
       let s = ran.after in
-      let held = course.writer in
+      let held = state.writer in
       let head = head_is ran.stood ran.headed in
       let some = sym ran.stood.writer.committed ∙ committed in
       let streamed = ran.stood.writer.streamed in
@@ -119,20 +119,20 @@ module _ (x : Opening) (pass : ℕ) (old : Standing) (moments : Moments) (p : St
       (subst (λ close. Sent p.taken taken (no_memory close p.shown) failed) (sym is.close_is) (subst (λ shown. Sent p.taken taken (no_memory close shown) failed) (sym is.shown_is) sent)) cause
 
   -- or behind a commit
-  pub came_cut_off : (mid : List Entry) (course : Course) (taken : Option (List ℕ)) (faults number : ℕ) (close shown : Bool) (ran : Ran x pass p mid course taken faults) → IsAt p number close shown → course.writer.committed ≡ true → Starves x pass p mid now course.writer.head ran.after
+  pub came_cut_off : (mid : List Entry) (state : RequestState) (taken : Option (List ℕ)) (faults number : ℕ) (close shown : Bool) (ran : Ran x pass p mid state taken faults) → IsAt p number close shown → state.writer.committed ≡ true → Starves x pass p mid now state.writer.head ran.after
       → HasDone needs_at x pass mid new ((op.Abandon number, reply.Dropped) ∷ []) → Came x pass old moments p new now taken faults outcome.NoMemory
-  came_cut_off mid course taken faults number close shown ran is committed starves abandoned =
-      came_cut mid course taken faults ran committed starves (subst (λ n. HasDone needs_at x pass mid new ((op.Abandon n, reply.Dropped) ∷ [])) (sym is.number_is) abandoned)
+  came_cut_off mid state taken faults number close shown ran is committed starves abandoned =
+      came_cut mid state taken faults ran committed starves (subst (λ n. HasDone needs_at x pass mid new ((op.Abandon n, reply.Dropped) ∷ [])) (sym is.number_is) abandoned)
 
   -- its reply was written, and it was ended by its number
-  pub came_finished : (mid : List Entry) (course : Course) (before taken : Option (List ℕ)) (counted faults number : ℕ) (close shown : Bool) (r : Reply) (o : Outcome) (attrs : Entries) (replies : Replies x pass p mid now course before counted r)
+  pub came_finished : (mid : List Entry) (state : RequestState) (before taken : Option (List ℕ)) (counted faults number : ℕ) (close shown : Bool) (r : Reply) (o : Outcome) (attrs : Entries) (replies : Replies x pass p mid now state before counted r)
       → IsAt p number close shown
-      → Wrote {E = AllocError} p.taken p.faults (wire (closing close (response_in course.writer r replies.ran.after)) shown) (response_in course.writer r replies.ran.after).broken replies.ran.after.writer.pieces taken faults (Ok o)
-      → attrs ≡ unwrap_or course.scopes.session [] → HasDone needs_at x pass mid new ((op.End number attrs, reply.Ended) ∷ []) → Came x pass old moments p new now taken faults o
-  came_finished mid course before taken counted faults number close shown r o attrs replies is wrote attrs_are ended =
-      let response = response_in course.writer r replies.ran.after in
+      → Wrote {E = AllocError} p.taken p.faults (wire (closing close (response_in state.writer r replies.ran.after)) shown) (response_in state.writer r replies.ran.after).broken replies.ran.after.writer.pieces taken faults (Ok o)
+      → attrs ≡ unwrap_or state.scopes.session [] → HasDone needs_at x pass mid new ((op.End number attrs, reply.Ended) ∷ []) → Came x pass old moments p new now taken faults o
+  came_finished mid state before taken counted faults number close shown r o attrs replies is wrote attrs_are ended =
+      let response = response_in state.writer r replies.ran.after in
       let pieces = replies.ran.after.writer.pieces in
-      came_ended mid course before taken counted faults r o replies
+      came_ended mid state before taken counted faults r o replies
       (subst (λ close. Wrote {E = AllocError} p.taken p.faults (wire (closing close response) p.shown) response.broken pieces taken faults (Ok o)) (sym is.close_is)
       (subst (λ shown. Wrote {E = AllocError} p.taken p.faults (wire (closing close response) shown) response.broken pieces taken faults (Ok o)) (sym is.shown_is) wrote))
       (subst (λ attrs. HasDone needs_at x pass mid new ((op.End p.number attrs, reply.Ended) ∷ [])) attrs_are (subst (λ n. HasDone needs_at x pass mid new ((op.End n attrs, reply.Ended) ∷ [])) (sym is.number_is) ended))

@@ -11,7 +11,7 @@ use Rattle.out_buffer.specs.Streamed.{HasTaken, so_far}
 use Rattle.page_meaning.specs.Response.{closing, head_of, new_id, rest_of}
 use Rattle.page_meaning.specs.State.{State}
 use Rattle.request_pages.specs.Closed.{IsReplyOpen, Reached}
-use Rattle.request_pages.specs.Course.{IsHeaded}
+use Rattle.request_pages.specs.Headed.{IsHeaded}
 use Rattle.request_pages.specs.declared.reply.Reply.{Reply}
 use Rattle.request_pages.specs.declared.reply.Reply.TheVariants as reply
 use Rattle.run_world.specs.Origin.{Origin}

@@ -24,10 +24,10 @@ use Rattle.page_meaning.specs.State.{State}
 use Rattle.pass_course.specs.Course.{HasDone}
 use Rattle.pass_course.specs.Under.{Under}
 use Rattle.request_pages.specs.Closed.{Closed, ClosedSo, Reached}
-use Rattle.request_pages.specs.Course.{IsHeaded, head_for}
+use Rattle.request_pages.specs.Headed.{IsHeaded, head_for}
 use Rattle.request_pages.specs.Played.{IsFunded, session_claim}
 use Rattle.request_pages.specs.Within.{GoesWithin}
-use Rattle.request_pages.specs.declared.course.Course.{Course}
+use Rattle.request_pages.specs.declared.request_state.RequestState.{RequestState}
 use Rattle.request_pages.specs.declared.reply.Reply.{Reply}
 use Rattle.request_port.proofs.AskedLemmas.{asking_at}
 use Rattle.request_port.specs.Asked.{asked_in, asking_of, told_in}
@@ -83,8 +83,8 @@ opened_asking x pass seen number session tree opened =
 fresh_stands : (head : Head) (shown : Bool) (taken : Option (List ℕ)) (faults : ℕ) → Stands taken faults (fresh head None true shown) taken faults (empty_writer None true)
 fresh_stands head shown taken faults = record { holds = refl; committed = refl; streamed = record { sent = sent_none taken; later = omega arith; cause = λ is. absurd (cc) } }
 
-module _ (cookie : List ℕ) (session : Option ℕ) (attrs : Entries) (close shown : Bool) (course : Course) (begun : IsBegun cookie session attrs close shown course) where
-  pub begun_headed : IsHeaded close shown course.around course.writer
+module _ (cookie : List ℕ) (session : Option ℕ) (attrs : Entries) (close shown : Bool) (state : RequestState) (begun : IsBegun cookie session attrs close shown state) where
+  pub begun_headed : IsHeaded close shown state.around state.writer
   begun_headed = record {
     status = status.Ok;
     content_type = None;
@@ -93,7 +93,7 @@ module _ (cookie : List ℕ) (session : Option ℕ) (attrs : Entries) (close sho
   }
 
   module _ (x : Opening) (pass : ℕ) (seen : List Entry) (number : ℕ) (held : Option ℕ) (tree : List File) (opened : IsOpened x pass seen number held tree) where
-    pub begun_in_order : held ≡ session → attrs_weight attrs ≤ attrs_limit → IsInOrder course.scopes course.around (asking_of x pass seen number tree)
+    pub begun_in_order : held ≡ session → attrs_weight attrs ≤ attrs_limit → IsInOrder state.scopes state.around (asking_of x pass seen number tree)
     begun_in_order same light =
         let asking = asking_of x pass seen number tree in
         let in_order : IsInOrder (starting (option_map (λ (number : ℕ). attrs) session)) (around_of cookie session) asking = record {
@@ -103,16 +103,16 @@ module _ (cookie : List ℕ) (session : Option ℕ) (attrs : Entries) (close sho
           visits = omega arith;
           charge = omega arith;
         } in
-        subst (λ scopes. IsInOrder scopes course.around asking) (sym begun.scopes) (subst (λ around. IsInOrder (starting (option_map (λ (number : ℕ). attrs) session)) around asking) (sym begun.around) in_order)
+        subst (λ scopes. IsInOrder scopes state.around asking) (sym begun.scopes) (subst (λ around. IsInOrder (starting (option_map (λ (number : ℕ). attrs) session)) around asking) (sym begun.around) in_order)
 
-    pub begun_funded : IsFunded course.around (asking_of x pass seen number tree)
+    pub begun_funded : IsFunded state.around (asking_of x pass seen number tree)
     begun_funded =
         let left : (asking_of x pass seen number tree).left ≡ opened.run.left = ap (λ (a : Asking). a.left) (opened_asking x pass seen number held tree opened) in
         let claim = claims_so cookie session in
         let enough = opened.left in
         subst (λ (around : Around). IsFunded around (asking_of x pass seen number tree)) (sym begun.around) (omega (arith, left, claim, enough))
 
-    pub begun_stands : (taken : Option (List ℕ)) (faults : ℕ) → StandsFor (record { start = taken; before = faults; asked = [] }) course.scopes course.writer taken faults course.around (asking_of x pass seen number tree) (beginning (found cookie session attrs) [])
+    pub begun_stands : (taken : Option (List ℕ)) (faults : ℕ) → StandsFor (record { start = taken; before = faults; asked = [] }) state.scopes state.writer taken faults state.around (asking_of x pass seen number tree) (beginning (found cookie session attrs) [])
     begun_stands taken faults = record {
       scopes = ap starting (starts_so cookie attrs session) ∙ sym begun.scopes;
       asked = sym (ap (λ (a : Asking). a.asked) (opened_asking x pass seen number held tree opened));
@@ -133,10 +133,10 @@ module _ {Q : Type 0} (opening : Q → Opening) (pass : Q → ℕ) (seen : Q →
       subst (λ q. OnOk result (IsInOrder scopes around (asking_of (opening q) (pass q) (seen q) n t))) (sym port)
       (subst (λ n. OnOk result (IsInOrder scopes around (asking_of (opening r) (pass r) (seen r) n t))) number (subst (λ t. OnOk result (IsInOrder scopes around (asking_of (opening r) (pass r) (seen r) m t))) tree in_order))
 
-  pub runs_back : {E : Type 0} (result : Result Reply E) (x : Opening) (p : ℕ) (start : Start) (course : Course) (taken : Option (List ℕ)) (faults : ℕ) (q r : Q) (a b : ℕ) → q ≡ r → a ≡ b → RunsSo x p start (seen r) b course taken faults result
-      → RunsSo x p start (seen q) a course taken faults result
-  runs_back result x p start course taken faults q r a b port steps runs =
-      subst (λ q. RunsSo x p start (seen q) a course taken faults result) (sym port) (subst (λ n. RunsSo x p start (seen r) n course taken faults result) (sym steps) runs)
+  pub runs_back : {E : Type 0} (result : Result Reply E) (x : Opening) (p : ℕ) (start : Start) (state : RequestState) (taken : Option (List ℕ)) (faults : ℕ) (q r : Q) (a b : ℕ) → q ≡ r → a ≡ b → RunsSo x p start (seen r) b state taken faults result
+      → RunsSo x p start (seen q) a state taken faults result
+  runs_back result x p start state taken faults q r a b port steps runs =
+      subst (λ q. RunsSo x p start (seen q) a state taken faults result) (sym port) (subst (λ n. RunsSo x p start (seen r) n state taken faults result) (sym steps) runs)
 
   pub under_back : (x : Opening) (p : ℕ) (number : ℕ) (tree : List File) (q r : Q) → q ≡ r → IsSamePort {H = Unit {0}} p (pass r) x (opening r) tt tt → (next : Run) × Under x p (seen r) number tree next → (next : Run) × Under (opening q) (pass q) (seen q) number tree next
   under_back x p number tree q r port same under =
@@ -144,13 +144,13 @@ module _ {Q : Type 0} (opening : Q → Opening) (pass : Q → ℕ) (seen : Q →
       (under.0, subst (λ x. Under x (pass r) (seen r) number tree under.0) (sym same.1) (subst (λ p. Under x p (seen r) number tree under.0) (sym same.0) under.1))
 
 -- and of a port that is told to be the same
-pub closed_at : {E : Type 0} (answers : List Answer → State → Answered) (origin : Origin) (course : Course) (taken : Option (List ℕ)) (faults : ℕ) (x y : Opening) (pass other : ℕ) (new : List Entry) (number : ℕ) (tree : List File) (s : State) (old : List Answer)
+pub closed_at : {E : Type 0} (answers : List Answer → State → Answered) (origin : Origin) (state : RequestState) (taken : Option (List ℕ)) (faults : ℕ) (x y : Opening) (pass other : ℕ) (new : List Entry) (number : ℕ) (tree : List File) (s : State) (old : List Answer)
     (result : Result Reply E) → y ≡ x → other ≡ pass
-    → Closed answers (Reached origin course.scopes course.writer taken faults course.around (asking_of y other new number tree)) s old (told_in y.seed (own other new)) course.writer result
-    → Closed answers (Reached origin course.scopes course.writer taken faults course.around (asking_of x pass new number tree)) s old (told_in x.seed (own pass new)) course.writer result
-closed_at answers origin course taken faults x y pass other new number tree s old result opening same closed =
-    subst (λ x. Closed answers (Reached origin course.scopes course.writer taken faults course.around (asking_of x pass new number tree)) s old (told_in x.seed (own pass new)) course.writer result) opening
-    (subst (λ p. Closed answers (Reached origin course.scopes course.writer taken faults course.around (asking_of y p new number tree)) s old (told_in y.seed (own p new)) course.writer result) same closed)
+    → Closed answers (Reached origin state.scopes state.writer taken faults state.around (asking_of y other new number tree)) s old (told_in y.seed (own other new)) state.writer result
+    → Closed answers (Reached origin state.scopes state.writer taken faults state.around (asking_of x pass new number tree)) s old (told_in x.seed (own pass new)) state.writer result
+closed_at answers origin state taken faults x y pass other new number tree s old result opening same closed =
+    subst (λ x. Closed answers (Reached origin state.scopes state.writer taken faults state.around (asking_of x pass new number tree)) s old (told_in x.seed (own pass new)) state.writer result) opening
+    (subst (λ p. Closed answers (Reached origin state.scopes state.writer taken faults state.around (asking_of y p new number tree)) s old (told_in y.seed (own p new)) state.writer result) same closed)
 
 -- what the run of its pages comes to
 
@@ -166,10 +166,10 @@ module _ (x : Opening) (pass : ℕ) (p : Start) (new : List Entry) (turns : List
   told_so got replies =
       ap (λ a. a ++ got) (sym told) ∙ (sym replies ∙ (turns_told needs_at x pass p.begun new p.number turns did ∙ ap (λ a. a ++ answers_of x.seed turns) told))
 
-  module _ {E : Type 0} (number : ℕ) (tree : List File) (s : State) (answers : List Answer → State → Answered) (means : (a : List Answer) → answers a s ≡ meant p a) (course : Course) (taken : Option (List ℕ)) (faults : ℕ) (result : Result Reply E)
-      (headed : IsHeaded p.close p.shown course.around course.writer)
-      (closed : Closed answers (Reached (origin_of p) course.scopes course.writer taken faults course.around (asking_of x pass new number tree)) s (told_in x.seed (own pass p.begun)) (told_in x.seed (own pass new)) course.writer result) where
-    abbrev ran : Ran x pass p new course taken faults
+  module _ {E : Type 0} (number : ℕ) (tree : List File) (s : State) (answers : List Answer → State → Answered) (means : (a : List Answer) → answers a s ≡ meant p a) (state : RequestState) (taken : Option (List ℕ)) (faults : ℕ) (result : Result Reply E)
+      (headed : IsHeaded p.close p.shown state.around state.writer)
+      (closed : Closed answers (Reached (origin_of p) state.scopes state.writer taken faults state.around (asking_of x pass new number tree)) s (told_in x.seed (own pass p.begun)) (told_in x.seed (own pass new)) state.writer result) where
+    abbrev ran : Ran x pass p new state taken faults
     ran = record {
       turns = turns;
       did = did;
@@ -184,7 +184,7 @@ module _ (x : Opening) (pass : ℕ) (p : Start) (new : List Entry) (turns : List
     meant_so future = ap (λ got. meant p (got ++ future)) (sym (told_so closed.got closed.replies)) ∙ sym (means (closed.got ++ future))
 
     -- memory ran out
-    pub ran_short : (now : ℕ) → now ≤ p.steps + all_bytes p.tree turns → (ran : Ran x pass p new course taken faults) × Starves x pass p new now course.writer.head ran.after
+    pub ran_short : (now : ℕ) → now ≤ p.steps + all_bytes p.tree turns → (ran : Ran x pass p new state taken faults) × Starves x pass p new now state.writer.head ran.after
     ran_short now read = (
       ran,
       record {
@@ -194,18 +194,18 @@ module _ (x : Opening) (pass : ℕ) (p : Start) (new : List Entry) (turns : List
         asked = ran.asked;
         ordered = closed.stood.ordered;
         read = read;
-        means = λ more. subst (GoesWithin course.writer.head closed.after) (sym (meant_so more)) (closed_within (λ future. answers (closed.got ++ future) s) course.writer closed.after result closed.ends more);
+        means = λ more. subst (GoesWithin state.writer.head closed.after) (sym (meant_so more)) (closed_within (λ future. answers (closed.got ++ future) s) state.writer closed.after result closed.ends more);
       },
     )
 
     -- or it was not
-    pub ran_whole : (now : ℕ) → list_all is_whole turns ≡ true → now ≡ p.steps + all_bytes p.tree turns → RunsSo x pass p new now course taken faults result
+    pub ran_whole : (now : ℕ) → list_all is_whole turns ≡ true → now ≡ p.steps + all_bytes p.tree turns → RunsSo x pass p new now state taken faults result
     ran_whole now whole read = go result refl
       where
-        go : (r : Result Reply E) → result ≡ r → RunsSo x pass p new now course taken faults r
+        go : (r : Result Reply E) → result ≡ r → RunsSo x pass p new now state taken faults r
         go (Err e) is = ran_short now (omega (arith, read))
         go (Ok r) is =
-            let ends : ClosedSo {E = E} (λ future. answers (closed.got ++ future) s) course.writer closed.after (Ok r) = subst (ClosedSo {E = E} (λ future. answers (closed.got ++ future) s) course.writer closed.after) is closed.ends in
+            let ends : ClosedSo {E = E} (λ future. answers (closed.got ++ future) s) state.writer closed.after (Ok r) = subst (ClosedSo {E = E} (λ future. answers (closed.got ++ future) s) state.writer closed.after) is closed.ends in
             record {
               ran = ran;
               whole = whole;
@@ -221,8 +221,8 @@ ok_unless P true replied (Ok r) err fed h = absurd (cc (err refl))
 ok_unless P true replied (Err e) err fed h = tt
 ok_unless P false replied result err fed h = subst (λ r. OnOk r P) (sym (fed refl)) h
 
-pub runs_unless : (x : Opening) (pass : ℕ) (p : Start) (new : List Entry) (now : ℕ) (course : Course) (taken : Option (List ℕ)) (faults : ℕ) (starved : Bool) (replied result : Result Reply AllocError) → (starved ≡ true → IsErr result)
-    → (starved ≡ false → result ≡ replied) → (starved ≡ false → RunsSo x pass p new now course taken faults replied) → (ran : Ran x pass p new course taken faults) × Starves x pass p new now course.writer.head ran.after → RunsSo x pass p new now course taken faults result
-runs_unless x pass p new now course taken faults true replied (Ok r) err fed whole short = absurd (cc (err refl))
-runs_unless x pass p new now course taken faults true replied (Err e) err fed whole short = short
-runs_unless x pass p new now course taken faults false replied result err fed whole short = subst (RunsSo x pass p new now course taken faults) (sym (fed refl)) (whole refl)
+pub runs_unless : (x : Opening) (pass : ℕ) (p : Start) (new : List Entry) (now : ℕ) (state : RequestState) (taken : Option (List ℕ)) (faults : ℕ) (starved : Bool) (replied result : Result Reply AllocError) → (starved ≡ true → IsErr result)
+    → (starved ≡ false → result ≡ replied) → (starved ≡ false → RunsSo x pass p new now state taken faults replied) → (ran : Ran x pass p new state taken faults) × Starves x pass p new now state.writer.head ran.after → RunsSo x pass p new now state taken faults result
+runs_unless x pass p new now state taken faults true replied (Ok r) err fed whole short = absurd (cc (err refl))
+runs_unless x pass p new now state taken faults true replied (Err e) err fed whole short = short
+runs_unless x pass p new now state taken faults false replied result err fed whole short = subst (RunsSo x pass p new now state taken faults) (sym (fed refl)) (whole refl)

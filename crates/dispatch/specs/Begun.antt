@@ -5,7 +5,7 @@ use Rattle.http_out.specs.declared.head.Head.{Head}
 use Rattle.http_out.specs.declared.status.Status.TheVariants as status
 use Rattle.out_buffer.specs.Held.{fresh}
 use Rattle.pg_value.specs.Datum.{Datum}
-use Rattle.request_pages.specs.declared.course.Course.{Course}
+use Rattle.request_pages.specs.declared.request_state.RequestState.{RequestState}
 use Rattle.run_world.specs.declared.around.Around.{Around}
 use Rattle.scopes.specs.Scopes.{starting}
 
@@ -18,7 +18,7 @@ abbrev pub around_of : (cookie : List ℕ) → (session : Option ℕ) → Around
 around_of cookie session = record { depth = 0; visits = 0; charge = 0; id = option_map (λ number. cookie) session; fresh = false; exception = None }
 
 -- the request has just begun: no page has run, and its session has these attributes
-pub record IsBegun (cookie : List ℕ) (session : Option ℕ) (attrs : List (List ℕ × Datum)) (close shown : Bool) (course : Course) : Type 0 where
-  pub scopes : course.scopes ≡ starting (option_map (λ number. attrs) session)
-  pub writer : course.writer ≡ fresh (empty_head close) None true shown
-  pub around : course.around ≡ around_of cookie session
+pub record IsBegun (cookie : List ℕ) (session : Option ℕ) (attrs : List (List ℕ × Datum)) (close shown : Bool) (state : RequestState) : Type 0 where
+  pub scopes : state.scopes ≡ starting (option_map (λ number. attrs) session)
+  pub writer : state.writer ≡ fresh (empty_head close) None true shown
+  pub around : state.around ≡ around_of cookie session

@@ -18,10 +18,10 @@ use Rattle.page_meaning.specs.Response.{Answered}
 use Rattle.page_meaning.specs.State.{State}
 use Rattle.pass_course.specs.Course.{HasDone}
 use Rattle.request_pages.specs.Closed.{IsReplyOpen, Reached}
-use Rattle.request_pages.specs.Course.{IsHeaded}
+use Rattle.request_pages.specs.Headed.{IsHeaded}
 use Rattle.request_pages.specs.PageEnd.{reply_answer}
 use Rattle.request_pages.specs.Within.{GoesWithin}
-use Rattle.request_pages.specs.declared.course.Course.{Course}
+use Rattle.request_pages.specs.declared.request_state.RequestState.{RequestState}
 use Rattle.request_pages.specs.declared.reply.Reply.{Reply}
 use Rattle.run_world.specs.Origin.{Origin}
 use Rattle.run_world.specs.Part.{given}
@@ -86,23 +86,23 @@ Came x pass old moments p new now taken faults outcome =
     faults p.taken taken outcome
 
 -- such a request did these turns, and what it keeps stands for this state
-pub record Ran (x : Opening) (pass : ℕ) (p : Start) (new : List Entry) (course : Course) (taken : Option (List ℕ)) (faults : ℕ) : Type 0 where
+pub record Ran (x : Opening) (pass : ℕ) (p : Start) (new : List Entry) (state : RequestState) (taken : Option (List ℕ)) (faults : ℕ) : Type 0 where
   pub turns : List Turn
   pub did : HasDone needs_at x pass p.begun new (all_calls p.number turns)
   pub after : State
   pub asked : after.asked ≡ steps_of turns
   pub asking : Asking
-  pub stood : Reached (origin_of p) course.scopes course.writer taken faults course.around asking after
-  pub headed : IsHeaded p.close p.shown course.around course.writer
+  pub stood : Reached (origin_of p) state.scopes state.writer taken faults state.around asking after
+  pub headed : IsHeaded p.close p.shown state.around state.writer
 
 -- the pages of such a request ran to their end, and this is their reply, whatever answers are still
 -- to come
-pub record Replies (x : Opening) (pass : ℕ) (p : Start) (new : List Entry) (now : ℕ) (course : Course) (taken : Option (List ℕ)) (faults : ℕ) (reply : Reply) : Type 0 where
-  pub ran : Ran x pass p new course taken faults
+pub record Replies (x : Opening) (pass : ℕ) (p : Start) (new : List Entry) (now : ℕ) (state : RequestState) (taken : Option (List ℕ)) (faults : ℕ) (reply : Reply) : Type 0 where
+  pub ran : Ran x pass p new state taken faults
   pub whole : list_all is_whole ran.turns ≡ true
   pub read : now ≡ p.steps + all_bytes p.tree ran.turns
   pub is_open : IsReplyOpen reply ran.after.writer.pieces
-  pub means : (future : List Answer) → meant p (answers_of x.seed ran.turns ++ future) ≡ reply_answer course.writer reply (given future ran.after)
+  pub means : (future : List Answer) → meant p (answers_of x.seed ran.turns ++ future) ≡ reply_answer state.writer reply (given future ran.after)
 
 -- memory ran out, and the pages of such a request went no further than they go, behind this head
 pub record Starves (x : Opening) (pass : ℕ) (p : Start) (new : List Entry) (now : ℕ) (head : Head) (reached : State) : Type 0 where
@@ -115,6 +115,6 @@ pub record Starves (x : Opening) (pass : ℕ) (p : Start) (new : List Entry) (no
   pub means : (more : List Answer) → GoesWithin head reached (meant p (answers_of x.seed turns ++ more))
 
 -- the run of such a request's pages replies, or memory ran out
-abbrev pub RunsSo : {E : Type 0} → Opening → (pass : ℕ) → Start → (new : List Entry) → (now : ℕ) → Course → (taken : Option (List ℕ)) → (faults : ℕ) → Result Reply E → Type 0
-RunsSo x pass p new now course taken faults (Ok reply) = Replies x pass p new now course taken faults reply
-RunsSo x pass p new now course taken faults (Err e) = (ran : Ran x pass p new course taken faults) × Starves x pass p new now course.writer.head ran.after
+abbrev pub RunsSo : {E : Type 0} → Opening → (pass : ℕ) → Start → (new : List Entry) → (now : ℕ) → RequestState → (taken : Option (List ℕ)) → (faults : ℕ) → Result Reply E → Type 0
+RunsSo x pass p new now state taken faults (Ok reply) = Replies x pass p new now state taken faults reply
+RunsSo x pass p new now state taken faults (Err e) = (ran : Ran x pass p new state taken faults) × Starves x pass p new now state.writer.head ran.after

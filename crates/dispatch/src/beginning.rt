@@ -5,27 +5,27 @@ ghost use Rattle.dispatch.specs.Begun.{IsBegun};
 use http_out::{Head, Status};
 use out_buffer::Writer;
 use pg_value::Attrs;
-use request_pages::{Course, Incoming};
+use request_pages::{Incoming, RequestState};
 use run_world::Around;
 use scopes::Scopes;
 use std::alloc::{AllocError, Global};
 
 /// What a request keeps that has just begun, with the session that it found.
 #[inline(always)]
-pub(crate) fn begin_course(
+pub(crate) fn begin_state(
     alloc: Global,
     incoming: Incoming,
     session: Option<u64>,
     attrs: Attrs,
-) -> Result<Course, AllocError>
-    ensures { IfOk result (λ course. IsBegun incoming.entry.request.now.cookie session attrs
-        incoming.entry.close incoming.entry.shown course) }
+) -> Result<RequestState, AllocError>
+    ensures { IfOk result (λ state. IsBegun incoming.entry.request.now.cookie session attrs
+        incoming.entry.close incoming.entry.shown state) }
 {
     let (id, attrs) = match session {
         Some(_) => (Some(incoming.request.cookie.copy()?), Some(attrs)),
         None => (None, None),
     };
-    Ok(Course {
+    Ok(RequestState {
         scopes: Scopes::new(alloc, attrs)?,
         writer: Writer::new(
             alloc,

@@ -9,7 +9,7 @@ ghost use Rattle.out_buffer.specs.Writer.{Writer as Written};
 ghost use Rattle.page_meaning.specs.Response.{closing};
 ghost use Rattle.page_meaning.specs.State.{State};
 ghost use Rattle.request_pages.specs.Closed.{IsReplyOpen, Reached};
-ghost use Rattle.request_pages.specs.Course.{IsHeaded};
+ghost use Rattle.request_pages.specs.Headed.{IsHeaded};
 ghost use Rattle.run_world.specs.Origin.{Origin};
 ghost use Rattle.scopes.specs.Scopes.{ScopeState};
 ghost use Rattle.site_words.specs.Running.{Asking};

@@ -20,7 +20,7 @@ ghost use Rattle.page_meaning.specs.State.{State};
 ghost use Rattle.pass_course.specs.Course.{IsIdle};
 ghost use Rattle.pass_course.specs.Under.{Under};
 ghost use Rattle.pg_value.specs.Datum.{Datum};
-ghost use Rattle.request_pages.specs.declared.course.Course.{Course as Course'};
+ghost use Rattle.request_pages.specs.declared.request_state.RequestState.{RequestState as RequestState'};
 ghost use Rattle.request_port.specs.Asked.{asking_of};
 ghost use Rattle.site_words.specs.Answers.{IsSamePort, StartsWith};
 ghost use Rattle.site_words.specs.Law.{May, own};
@@ -29,14 +29,14 @@ ghost use Rattle.site_words.specs.Weights.{attrs_limit, attrs_weight};
 ghost use Rattle.site_words.specs.declared.words.Op.TheVariants as op;
 ghost use Rattle.site_words.specs.declared.words.Run.{Run};
 
-use crate::beginning::begin_course;
+use crate::beginning::begin_state;
 use crate::replying::write_reply;
 use crate::under_way::UnderWay;
 use compiled_pages::Made;
 use conversation::Outcome;
 use edges::{Ledger, Sink, Steps};
 use http_out::write_no_memory;
-use request_pages::{Course, Incoming, Reply, answer};
+use request_pages::{Incoming, Reply, RequestState, answer};
 use request_port::RequestPort;
 use site_words::{Begun, Port};
 use std::alloc::{AllocError, Global};
@@ -79,12 +79,12 @@ pub(crate) fn serve<Q: Port<Made>, K: Sink, L: Ledger>(
         tree: &*tree,
         incoming,
     };
-    let Ok(mut course) = begin_course(alloc, incoming, session, attrs) else {
+    let Ok(mut state) = begin_state(alloc, incoming, session, attrs) else {
         return abandon(port, under_way, sink);
     };
-    match reply_from_pages(alloc, port, under_way, &mut course, sink, steps) {
-        Ok(reply) => finish(alloc, port, under_way, reply, course, sink),
-        Err(AllocError) => give_up(port, under_way, course.writer.committed(), sink),
+    match reply_from_pages(alloc, port, under_way, &mut state, sink, steps) {
+        Ok(reply) => finish(alloc, port, under_way, reply, state, sink),
+        Err(AllocError) => give_up(port, under_way, state.writer.committed(), sink),
     }
 }
 
@@ -93,28 +93,28 @@ fn reply_from_pages<'a, Q: Port<Made>, K: Sink, L: Ledger>(
     alloc: Global,
     port: &'a mut Q,
     under_way: UnderWay<'a>,
-    course: &mut Course,
+    state: &mut RequestState,
     sink: &mut K,
     steps: &'a mut Steps<L>,
 ) -> Result<Reply, AllocError>
     requires opened { (session : Option ℕ) × (attrs : List (List ℕ × Datum)) × IsOpened
         (Q.opening port.old) (Q.pass port.old) (Q.seen port.old) under_way.number session
         under_way.tree.now × IsBegun under_way.incoming.request.now.cookie session attrs
-        under_way.incoming.close under_way.incoming.shown course.old × (attrs_weight attrs ≤ attrs_limit) }
+        under_way.incoming.close under_way.incoming.shown state.old × (attrs_weight attrs ≤ attrs_limit) }
     ensures same { IsSamePort (Q.pass port.old) (Q.pass port.new) (Q.opening port.old) (Q.opening port.new)
         (Q.home port.old) (Q.home port.new) }
     ensures under { (now : Run) × Under (Q.opening port.new) (Q.pass port.new) (Q.seen port.new)
         under_way.entry.number under_way.entry.tree.now now }
     ensures ran { (session : Option ℕ) (attrs : List (List ℕ × Datum)) →
         IsBegun under_way.entry.incoming.request.now.cookie session attrs
-        under_way.entry.incoming.close under_way.entry.incoming.shown course.old
+        under_way.entry.incoming.close under_way.entry.incoming.shown state.old
         → RunsSo (Q.opening port.old) (Q.pass port.old) (started
         under_way.entry.incoming.request.now under_way.entry.incoming.close
         under_way.entry.incoming.shown under_way.entry.number under_way.entry.tree.now
         (found under_way.entry.incoming.request.now.cookie session attrs) (Q.seen port.old) steps.old
-        (K.taken sink.old) (K.faults sink.old)) (Q.seen port.new) steps.new course.new
+        (K.taken sink.old) (K.faults sink.old)) (Q.seen port.new) steps.new state.new
         (K.taken sink.new) (K.faults sink.new) result }
-    ensures in_order { OnOk result (IsInOrder course.new.scopes course.new.around
+    ensures in_order { OnOk result (IsInOrder state.new.scopes state.new.around
         (asking_of (Q.opening port.new) (Q.pass port.new) (Q.seen port.new) under_way.entry.number
         under_way.entry.tree.now)) }
     ensures later { K.faults sink.old ≤ K.faults sink.new }
@@ -129,7 +129,7 @@ fn reply_from_pages<'a, Q: Port<Made>, K: Sink, L: Ledger>(
         starved: false,
         last: None,
     };
-    let replied = answer(alloc, under_way.incoming, course, sink, &mut asked);
+    let replied = answer(alloc, under_way.incoming, state, sink, &mut asked);
     let RequestPort {
         port,
         steps,
@@ -168,12 +168,12 @@ fn finish<Q: Port<Made>, K: Sink>(
     port: &mut Q,
     under_way: UnderWay,
     reply: Reply,
-    course: Course,
+    state: RequestState,
     sink: &mut K,
 ) -> Outcome
     requires ends { May (Q.opening port.old) (Q.seen port.old) (Q.pass port.old)
         (own (Q.pass port.old) (Q.seen port.old)) (op.End under_way.number
-        (unwrap_or course.scopes.session [])) }
+        (unwrap_or state.scopes.session [])) }
     requires drops { May (Q.opening port.old) (Q.seen port.old) (Q.pass port.old)
         (own (Q.pass port.old) (Q.seen port.old)) (op.Abandon under_way.number) }
     ensures idle { IsIdle (Q.opening port.new) (Q.pass port.new) (Q.seen port.new) }
@@ -182,20 +182,20 @@ fn finish<Q: Port<Made>, K: Sink>(
     ensures came { (p : Start) (old : Standing) (moments : Moments) (now : ℕ) →
         IsAt p under_way.entry.number under_way.entry.incoming.close under_way.entry.incoming.shown →
         HasBegun (Q.opening port.old) (Q.pass port.old) old moments p
-        → Replies (Q.opening port.old) (Q.pass port.old) p (Q.seen port.old) now course (K.taken sink.old)
+        → Replies (Q.opening port.old) (Q.pass port.old) p (Q.seen port.old) now state (K.taken sink.old)
         (K.faults sink.old) reply → Came (Q.opening port.old) (Q.pass port.old) old moments p
         (Q.seen port.new) now (K.taken sink.new) (K.faults sink.new) result }
     ensures failed { (p : Start) (now : ℕ) → IsAt p under_way.entry.number
         under_way.entry.incoming.close under_way.entry.incoming.shown →
-        Replies (Q.opening port.old) (Q.pass port.old) p (Q.seen port.old) now course (K.taken sink.old)
+        Replies (Q.opening port.old) (Q.pass port.old) p (Q.seen port.old) now state (K.taken sink.old)
         (K.faults sink.old) reply → result ≡ outcome.WriteFault → Rose p.faults (K.faults sink.new) }
     ensures later { K.faults sink.old ≤ K.faults sink.new }
 {
-    let Course {
+    let RequestState {
         scopes,
         writer,
         around,
-    } = course;
+    } = state;
     match write_reply(alloc, reply, writer, &around, under_way.incoming, sink) {
         Ok(outcome) => {
             port.end(under_way.number, scopes.into_session());
@@ -220,12 +220,12 @@ fn give_up<Q: Port<Made>, K: Sink>(
     ensures idle { IsIdle (Q.opening port.new) (Q.pass port.new) (Q.seen port.new) }
     ensures same { IsSamePort (Q.pass port.old) (Q.pass port.new) (Q.opening port.old) (Q.opening port.new)
         (Q.home port.old) (Q.home port.new) }
-    ensures came { (p : Start) (old : Standing) (moments : Moments) (now : ℕ) (course : Course')
-        (ran : Ran (Q.opening port.old) (Q.pass port.old) p (Q.seen port.old) course (K.taken sink.old)
+    ensures came { (p : Start) (old : Standing) (moments : Moments) (now : ℕ) (state : RequestState')
+        (ran : Ran (Q.opening port.old) (Q.pass port.old) p (Q.seen port.old) state (K.taken sink.old)
         (K.faults sink.old)) → IsAt p under_way.entry.number under_way.entry.incoming.close
         under_way.entry.incoming.shown → HasBegun (Q.opening port.old) (Q.pass port.old) old moments p →
-        committed ≡ course.writer.committed →
-        Starves (Q.opening port.old) (Q.pass port.old) p (Q.seen port.old) now course.writer.head ran.after
+        committed ≡ state.writer.committed →
+        Starves (Q.opening port.old) (Q.pass port.old) p (Q.seen port.old) now state.writer.head ran.after
         → Came (Q.opening port.old) (Q.pass port.old) old moments p (Q.seen port.new) now (K.taken sink.new)
         (K.faults sink.new) result }
     ensures outcome { result ≡ outcome.NoMemory }

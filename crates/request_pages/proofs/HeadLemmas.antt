@@ -4,7 +4,7 @@ use Rattle.http_out.specs.declared.head.Head.{Head}
 use Rattle.http_out.specs.declared.status.Status.{Status}
 use Rattle.out_buffer.specs.Held.{Held}
 use Rattle.page_meaning.specs.Response.{new_id}
-use Rattle.request_pages.specs.Course.{IsHeaded}
+use Rattle.request_pages.specs.Headed.{IsHeaded}
 use Rattle.run_stage.specs.Keeping.{KeepsResponse, KeepsSession, head_after, naming}
 use Rattle.run_world.specs.declared.around.Around.{Around}
 

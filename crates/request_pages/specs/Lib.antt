@@ -1,5 +1,5 @@
 pub mod Body
-pub mod Course
+pub mod Headed
 pub mod PageEnd
 pub mod Played
 pub mod Within

@@ -10,17 +10,17 @@ ghost use Rattle.page_meaning.specs.State.{State};
 ghost use Rattle.run_pages.specs.Meant.{served_at};
 ghost use Rattle.request_pages.specs.Chained.{asking_over};
 ghost use Rattle.request_pages.specs.Closed.{Closed, Reached, first_answers, request_answers};
-ghost use Rattle.request_pages.specs.Course.{IsHeaded};
+ghost use Rattle.request_pages.specs.Headed.{IsHeaded};
 ghost use Rattle.request_pages.specs.Played.{IsFunded};
 ghost use Rattle.request_port.specs.Leading.{IsLast, Leads};
 ghost use Rattle.run_world.specs.Origin.{Origin};
 
 use crate::chain::{Chain, ChainEnd, run_chain};
-use crate::course::Course;
 use crate::erring::run_error;
 use crate::incoming::Incoming;
 use crate::looking::look;
 use crate::reply::Reply;
+use crate::request_state::RequestState;
 use crate::telling::{file, not_found, page_fault};
 use compiled_pages::Made;
 use edges::{Ledger, Sink};
@@ -39,30 +39,30 @@ use std::sync::Arc;
 pub fn answer<'a, Q: Port<Made>, L: Ledger, K: Sink>(
     alloc: Global,
     incoming: Incoming,
-    course: &mut Course,
+    state: &mut RequestState,
     sink: &mut K,
     port: &mut RequestPort<'a, Q, L>,
 ) -> Result<Reply, AllocError>
-    requires headed { IsHeaded incoming.close incoming.shown course.old.around course.old.writer }
-    requires in_order { IsInOrder course.old.scopes course.old.around (asking_over Q.opening Q.pass Q.seen port.old) }
-    requires funded { IsFunded course.old.around (asking_over Q.opening Q.pass Q.seen port.old) }
-    requires begun { (course.old.around.depth ≡ 0) × (course.old.around.charge ≡ 0) ×
-        (course.old.around.exception ≡ None) }
+    requires headed { IsHeaded incoming.close incoming.shown state.old.around state.old.writer }
+    requires in_order { IsInOrder state.old.scopes state.old.around (asking_over Q.opening Q.pass Q.seen port.old) }
+    requires funded { IsFunded state.old.around (asking_over Q.opening Q.pass Q.seen port.old) }
+    requires begun { (state.old.around.depth ≡ 0) × (state.old.around.charge ≡ 0) ×
+        (state.old.around.exception ≡ None) }
     requires last { IsLast port.old.tree.now port.old.last }
-    requires stands { (origin : Origin) × (s : State) × StandsFor origin course.old.scopes course.old.writer
-        (K.taken sink.old) (K.faults sink.old) course.old.around (asking_over Q.opening Q.pass Q.seen port.old)
+    requires stands { (origin : Origin) × (s : State) × StandsFor origin state.old.scopes state.old.writer
+        (K.taken sink.old) (K.faults sink.old) state.old.around (asking_over Q.opening Q.pass Q.seen port.old)
         s × (s.writer.pieces ≡ []) }
-    ensures closed { (origin : Origin) (s : State) → StandsFor origin course.old.scopes course.old.writer
-        (K.taken sink.old) (K.faults sink.old) course.old.around (asking_over Q.opening Q.pass Q.seen port.old)
+    ensures closed { (origin : Origin) (s : State) → StandsFor origin state.old.scopes state.old.writer
+        (K.taken sink.old) (K.faults sink.old) state.old.around (asking_over Q.opening Q.pass Q.seen port.old)
         s → s.writer.pieces ≡ []
         → Closed (request_answers (served_at port.old.tree.now incoming.entry.request.now
-        course.old.around) incoming.entry.request.now) (Reached origin course.new.scopes
-        course.new.writer (K.taken sink.new) (K.faults sink.new) course.new.around
+        state.old.around) incoming.entry.request.now) (Reached origin state.new.scopes
+        state.new.writer (K.taken sink.new) (K.faults sink.new) state.new.around
         (asking_over Q.opening Q.pass Q.seen port.new)) s
         (asking_over Q.opening Q.pass Q.seen port.old).answers
-        (asking_over Q.opening Q.pass Q.seen port.new).answers course.new.writer result }
-    ensures headed { IsHeaded incoming.entry.close incoming.entry.shown course.new.around course.new.writer }
-    ensures in_order { OnOk result (IsInOrder course.new.scopes course.new.around
+        (asking_over Q.opening Q.pass Q.seen port.new).answers state.new.writer result }
+    ensures headed { IsHeaded incoming.entry.close incoming.entry.shown state.new.around state.new.writer }
+    ensures in_order { OnOk result (IsInOrder state.new.scopes state.new.around
         (asking_over Q.opening Q.pass Q.seen port.new)) }
     ensures tree { port.new.tree.now ≡ port.old.tree.now }
     ensures leads { Leads needs_at Q.pass Q.opening Q.home Q.seen port.old port.new }
@@ -74,12 +74,12 @@ pub fn answer<'a, Q: Port<Made>, L: Ledger, K: Sink>(
     if is_hidden(path) {
         return not_found(alloc);
     }
-    match look(path, &mut course.around, port) {
+    match look(path, &mut state.around, port) {
         Err(AllocError) => Err(AllocError),
         Ok(Paged::Absent) => not_found(alloc),
         Ok(Paged::Plain(text)) => file(Status::Ok, path, &text),
         Ok(Paged::Bad(fault)) => page_fault(alloc, &fault),
-        Ok(Paged::Page(program)) => first_page(alloc, program, incoming, course, sink, port),
+        Ok(Paged::Page(program)) => first_page(alloc, program, incoming, state, sink, port),
     }
 }
 
@@ -88,33 +88,33 @@ fn first_page<'a, Q: Port<Made>, L: Ledger, K: Sink>(
     alloc: Global,
     program: Arc<Program>,
     incoming: Incoming,
-    course: &mut Course,
+    state: &mut RequestState,
     sink: &mut K,
     port: &mut RequestPort<'a, Q, L>,
 ) -> Result<Reply, AllocError>
-    requires uncommitted { course.old.writer.committed ≡ false }
-    requires headed { IsHeaded incoming.close incoming.shown course.old.around course.old.writer }
-    requires in_order { IsInOrder course.old.scopes course.old.around (asking_over Q.opening Q.pass Q.seen port.old) }
-    requires funded { IsFunded course.old.around (asking_over Q.opening Q.pass Q.seen port.old) }
-    requires depth { course.old.around.depth ≡ 0 }
-    requires charge { course.old.around.charge ≤ MAX_ASKED_CHARGE }
+    requires uncommitted { state.old.writer.committed ≡ false }
+    requires headed { IsHeaded incoming.close incoming.shown state.old.around state.old.writer }
+    requires in_order { IsInOrder state.old.scopes state.old.around (asking_over Q.opening Q.pass Q.seen port.old) }
+    requires funded { IsFunded state.old.around (asking_over Q.opening Q.pass Q.seen port.old) }
+    requires depth { state.old.around.depth ≡ 0 }
+    requires charge { state.old.around.charge ≤ MAX_ASKED_CHARGE }
     requires last { IsLast port.old.tree.now port.old.last }
     requires known { (page : Page) × (path : List ℕ) × (origin : Origin) × (s : State) × IsProgramOf
         (arc_value program) port.old.tree.now path × IsPageAt page port.old.tree.now path
-        × StandsFor origin course.old.scopes course.old.writer (K.taken sink.old) (K.faults sink.old)
-        course.old.around (asking_over Q.opening Q.pass Q.seen port.old) s }
+        × StandsFor origin state.old.scopes state.old.writer (K.taken sink.old) (K.faults sink.old)
+        state.old.around (asking_over Q.opening Q.pass Q.seen port.old) s }
     ensures closed { (path : List ℕ) → IsProgramOf (arc_value program) port.old.tree.now path →
         (page : Page) → IsPageAt page port.old.tree.now path
-        → (origin : Origin) (s : State) → StandsFor origin course.old.scopes course.old.writer
-        (K.taken sink.old) (K.faults sink.old) course.old.around (asking_over Q.opening Q.pass Q.seen port.old) s
+        → (origin : Origin) (s : State) → StandsFor origin state.old.scopes state.old.writer
+        (K.taken sink.old) (K.faults sink.old) state.old.around (asking_over Q.opening Q.pass Q.seen port.old) s
         → Closed (first_answers (served_at port.old.tree.now incoming.entry.request.now
-        course.old.around) page incoming.entry.request.now.params) (Reached origin
-        course.new.scopes course.new.writer (K.taken sink.new) (K.faults sink.new) course.new.around
+        state.old.around) page incoming.entry.request.now.params) (Reached origin
+        state.new.scopes state.new.writer (K.taken sink.new) (K.faults sink.new) state.new.around
         (asking_over Q.opening Q.pass Q.seen port.new)) s
         (asking_over Q.opening Q.pass Q.seen port.old).answers
-        (asking_over Q.opening Q.pass Q.seen port.new).answers course.new.writer result }
-    ensures headed { IsHeaded incoming.entry.close incoming.entry.shown course.new.around course.new.writer }
-    ensures in_order { OnOk result (IsInOrder course.new.scopes course.new.around
+        (asking_over Q.opening Q.pass Q.seen port.new).answers state.new.writer result }
+    ensures headed { IsHeaded incoming.entry.close incoming.entry.shown state.new.around state.new.writer }
+    ensures in_order { OnOk result (IsInOrder state.new.scopes state.new.around
         (asking_over Q.opening Q.pass Q.seen port.new)) }
     ensures tree { port.new.tree.now ≡ port.old.tree.now }
     ensures leads { Leads needs_at Q.pass Q.opening Q.home Q.seen port.old port.new }
@@ -125,10 +125,10 @@ fn first_page<'a, Q: Port<Made>, L: Ledger, K: Sink>(
         own: None,
         status: Status::Ok,
     };
-    match run_chain(alloc, chain, incoming, course, sink, port) {
+    match run_chain(alloc, chain, incoming, state, sink, port) {
         Err(AllocError) => Err(AllocError),
         Ok(ChainEnd::Done(reply)) => Ok(reply),
-        Ok(ChainEnd::Failed(failure)) => run_error(alloc, failure, incoming, course, sink, port),
+        Ok(ChainEnd::Failed(failure)) => run_error(alloc, failure, incoming, state, sink, port),
     }
 }
 

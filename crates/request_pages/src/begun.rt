@@ -13,9 +13,9 @@ ghost use Rattle.run_stage.specs.Keeping.{HasCharged, KeepsResponse, KeepsSessio
 ghost use Rattle.run_world.specs.Origin.{Origin};
 
 use crate::body::Body;
-use crate::course::Course;
 use crate::page_run::PageRun;
 use crate::reply::{PageEnd, Reply};
+use crate::request_state::RequestState;
 use edges::Sink;
 use http_out::Status;
 use page_machine::RunEnd;
@@ -30,29 +30,29 @@ use std::alloc::{AllocError, Global};
 pub(crate) fn run_begun<P: AppPort<Program>, K: Sink>(
     alloc: Global,
     run: PageRun,
-    course: &mut Course,
+    state: &mut RequestState,
     sink: &mut K,
     port: &mut P,
 ) -> Result<PageEnd, AllocError>
     requires tells { TellsPages P.made P.faulty }
-    requires in_order { IsInOrder course.old.scopes course.old.around (P.asking port.old) }
-    requires promise { RUN_PROMISE ≤ course.old.around.charge + (P.asking port.old).left }
+    requires in_order { IsInOrder state.old.scopes state.old.around (P.asking port.old) }
+    requires promise { RUN_PROMISE ≤ state.old.around.charge + (P.asking port.old).left }
     requires writer { (start : Option (List ℕ)) × (before : ℕ) × (written : Wrote) × Stands start before
-        course.old.writer (K.taken sink.old) (K.faults sink.old) written }
+        state.old.writer (K.taken sink.old) (K.faults sink.old) written }
     ensures ended { (path : List ℕ) → IsProgramOf run.entry.program.now (P.tree port.old) path →
         (page : Page) → IsPageAt page (P.tree port.old) path
-        → (origin : Origin) (s : State) → StandsFor origin course.old.scopes course.old.writer
-        (K.taken sink.old) (K.faults sink.old) course.old.around (P.asking port.old) s
-        → PageEnded (served_at (P.tree port.old) run.entry.request.now course.old.around) page
-        run.entry.params.now (level_limit - course.old.around.depth) (StandsFor origin
-        course.new.scopes course.new.writer (K.taken sink.new) (K.faults sink.new) course.new.around
+        → (origin : Origin) (s : State) → StandsFor origin state.old.scopes state.old.writer
+        (K.taken sink.old) (K.faults sink.old) state.old.around (P.asking port.old) s
+        → PageEnded (served_at (P.tree port.old) run.entry.request.now state.old.around) page
+        run.entry.params.now (level_limit - state.old.around.depth) (StandsFor origin
+        state.new.scopes state.new.writer (K.taken sink.new) (K.faults sink.new) state.new.around
         (P.asking port.new)) s (P.asking port.old).answers (P.asking port.new).answers
-        course.new.around.depth course.new.writer result }
-    ensures in_order { IsInOrder course.new.scopes course.new.around (P.asking port.new) }
-    ensures charged { HasCharged course.old.around course.new.around (P.asking port.old) (P.asking port.new) }
-    ensures session { KeepsSession course.old.around course.new.around }
-    ensures response { KeepsResponse course.old.writer course.new.writer course.old.around course.new.around }
-    ensures exception { course.new.around.exception ≡ course.old.around.exception }
+        state.new.around.depth state.new.writer result }
+    ensures in_order { IsInOrder state.new.scopes state.new.around (P.asking port.new) }
+    ensures charged { HasCharged state.old.around state.new.around (P.asking port.old) (P.asking port.new) }
+    ensures session { KeepsSession state.old.around state.new.around }
+    ensures response { KeepsResponse state.old.writer state.new.writer state.old.around state.new.around }
+    ensures exception { state.new.around.exception ≡ state.old.around.exception }
     ensures tree { P.tree port.new ≡ P.tree port.old }
     ensures leads { P.leads port.old port.new }
 {
@@ -63,13 +63,13 @@ pub(crate) fn run_begun<P: AppPort<Program>, K: Sink>(
         run.program,
         run.request,
         run.params,
-        &mut course.scopes,
-        &mut course.writer,
+        &mut state.scopes,
+        &mut state.writer,
         sink,
-        &mut course.around,
+        &mut state.around,
         port,
     );
-    page_end(alloc, end, course.writer.committed())
+    page_end(alloc, end, state.writer.committed())
 }
 
 // How a run ended, by whether something was committed.

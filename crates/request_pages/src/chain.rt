@@ -8,7 +8,7 @@ ghost use Rattle.page_meaning.specs.Page.{Page};
 ghost use Rattle.page_meaning.specs.State.{State};
 ghost use Rattle.run_pages.specs.Meant.{served_at};
 ghost use Rattle.request_pages.specs.Chained.{Chained, asking_over, chain_answers, params_of};
-ghost use Rattle.request_pages.specs.Course.{IsHeaded};
+ghost use Rattle.request_pages.specs.Headed.{IsHeaded};
 ghost use Rattle.request_pages.specs.Played.{IsFunded};
 ghost use Rattle.request_pages.specs.Target.{IsOther, IsTargetEnd, IsTargetReply};
 ghost use Rattle.request_port.specs.Leading.{IsLast, Leads};
@@ -17,10 +17,11 @@ ghost use Rattle.run_world.specs.Origin.{Origin};
 ghost use Rattle.site_words.specs.Running.{IsPaged};
 ghost use Rattle.source_tree.specs.declared.file.File.{File};
 
-use crate::course::{Course, Way};
+use crate::delivery::Delivery;
 use crate::incoming::Incoming;
 use crate::page_run::PageRun;
 use crate::reply::{PageEnd, Reply};
+use crate::request_state::RequestState;
 use crate::running::run_page;
 use crate::telling::{file, not_found, page_fault};
 use compiled_pages::Made;
@@ -65,37 +66,37 @@ pub(crate) fn run_chain<'a, Q: Port<Made>, L: Ledger, K: Sink>(
     alloc: Global,
     chain: Chain,
     incoming: Incoming,
-    course: &mut Course,
+    state: &mut RequestState,
     sink: &mut K,
     port: &mut RequestPort<'a, Q, L>,
 ) -> Result<ChainEnd, AllocError>
-    requires uncommitted { course.old.writer.committed ≡ false }
-    requires headed { IsHeaded incoming.close incoming.shown course.old.around course.old.writer }
-    requires in_order { IsInOrder course.old.scopes course.old.around (asking_over Q.opening Q.pass Q.seen port.old) }
-    requires funded { IsFunded course.old.around (asking_over Q.opening Q.pass Q.seen port.old) }
+    requires uncommitted { state.old.writer.committed ≡ false }
+    requires headed { IsHeaded incoming.close incoming.shown state.old.around state.old.writer }
+    requires in_order { IsInOrder state.old.scopes state.old.around (asking_over Q.opening Q.pass Q.seen port.old) }
+    requires funded { IsFunded state.old.around (asking_over Q.opening Q.pass Q.seen port.old) }
     requires last { IsLast port.old.tree.now port.old.last }
     requires known { (page : Page) × (path : List ℕ) × (origin : Origin) × (s : State) × IsProgramOf
         (arc_value chain.program) port.old.tree.now path × IsPageAt page port.old.tree.now path
-        × StandsFor origin course.old.scopes course.old.writer (K.taken sink.old) (K.faults sink.old)
-        course.old.around (asking_over Q.opening Q.pass Q.seen port.old) s }
+        × StandsFor origin state.old.scopes state.old.writer (K.taken sink.old) (K.faults sink.old)
+        state.old.around (asking_over Q.opening Q.pass Q.seen port.old) s }
     ensures chained { (path : List ℕ) → IsProgramOf (arc_value chain.program) port.old.tree.now path →
         (page : Page) → IsPageAt page port.old.tree.now path
-        → (origin : Origin) (s : State) → StandsFor origin course.old.scopes course.old.writer
-        (K.taken sink.old) (K.faults sink.old) course.old.around (asking_over Q.opening Q.pass Q.seen port.old) s
+        → (origin : Origin) (s : State) → StandsFor origin state.old.scopes state.old.writer
+        (K.taken sink.old) (K.faults sink.old) state.old.around (asking_over Q.opening Q.pass Q.seen port.old) s
         → Chained (chain_answers (served_at port.old.tree.now incoming.entry.request.now
-        course.old.around) chain.status (level_limit - course.old.around.depth) page
+        state.old.around) chain.status (level_limit - state.old.around.depth) page
         (params_of incoming.entry.request.now chain.own)) incoming.entry.request.now port.old.tree.now
-        (StandsFor origin course.new.scopes course.new.writer (K.taken sink.new) (K.faults sink.new)
-        course.new.around (asking_over Q.opening Q.pass Q.seen port.new)) s
+        (StandsFor origin state.new.scopes state.new.writer (K.taken sink.new) (K.faults sink.new)
+        state.new.around (asking_over Q.opening Q.pass Q.seen port.new)) s
         (asking_over Q.opening Q.pass Q.seen port.old).answers
-        (asking_over Q.opening Q.pass Q.seen port.new).answers course.new.writer result }
-    ensures headed { IsHeaded incoming.entry.close incoming.entry.shown course.new.around course.new.writer }
-    ensures in_order { IsInOrder course.new.scopes course.new.around (asking_over Q.opening Q.pass Q.seen port.new) }
-    ensures funded { IsFunded course.new.around (asking_over Q.opening Q.pass Q.seen port.new) }
-    ensures charged { HasCharged course.old.around course.new.around
+        (asking_over Q.opening Q.pass Q.seen port.new).answers state.new.writer result }
+    ensures headed { IsHeaded incoming.entry.close incoming.entry.shown state.new.around state.new.writer }
+    ensures in_order { IsInOrder state.new.scopes state.new.around (asking_over Q.opening Q.pass Q.seen port.new) }
+    ensures funded { IsFunded state.new.around (asking_over Q.opening Q.pass Q.seen port.new) }
+    ensures charged { HasCharged state.old.around state.new.around
         (asking_over Q.opening Q.pass Q.seen port.old) (asking_over Q.opening Q.pass Q.seen port.new) }
-    ensures session { KeepsSession course.old.around course.new.around }
-    ensures exception { course.new.around.exception ≡ course.old.around.exception }
+    ensures session { KeepsSession state.old.around state.new.around }
+    ensures exception { state.new.around.exception ≡ state.old.around.exception }
     ensures tree { port.new.tree.now ≡ port.old.tree.now }
     ensures leads { Leads needs_at Q.pass Q.opening Q.home Q.seen port.old port.new }
 {
@@ -107,12 +108,12 @@ pub(crate) fn run_chain<'a, Q: Port<Made>, L: Ledger, K: Sink>(
         params,
     };
     let status = chain.status;
-    let way = Way {
+    let delivery = Delivery {
         status,
         close: incoming.close,
         shown: incoming.shown,
     };
-    match run_page(alloc, run, way, course, sink, port) {
+    match run_page(alloc, run, delivery, state, sink, port) {
         Err(AllocError) => Err(AllocError),
         Ok(PageEnd::Done(reply)) => Ok(ChainEnd::Done(reply)),
         Ok(PageEnd::Failed(raise)) => Ok(ChainEnd::Failed(failed(raise, chain))),
@@ -126,7 +127,7 @@ pub(crate) fn run_chain<'a, Q: Port<Made>, L: Ledger, K: Sink>(
                         own: Some(more),
                         status,
                     };
-                    run_chain(alloc, next, incoming, course, sink, port)
+                    run_chain(alloc, next, incoming, state, sink, port)
                 }
                 Ok(found) => end_at_target(alloc, status, &path, found),
             }

@@ -9,17 +9,17 @@ ghost use Rattle.page_meaning.specs.State.{State};
 ghost use Rattle.run_pages.specs.Meant.{served_at};
 ghost use Rattle.request_pages.specs.Chained.{asking_over, params_of};
 ghost use Rattle.request_pages.specs.Closed.{Closed, Reached, fault_answers};
-ghost use Rattle.request_pages.specs.Course.{IsHeaded};
+ghost use Rattle.request_pages.specs.Headed.{IsHeaded};
 ghost use Rattle.request_pages.specs.Played.{IsFunded};
 ghost use Rattle.request_port.specs.Leading.{IsLast, Leads};
 ghost use Rattle.run_world.specs.Origin.{Origin};
 ghost use Rattle.run_world.specs.Seats.{raise_of};
 
 use crate::chain::{Chain, ChainEnd, Failure, run_chain};
-use crate::course::Course;
 use crate::incoming::Incoming;
 use crate::instead::{Instead, find_instead};
 use crate::reply::Reply;
+use crate::request_state::RequestState;
 use compiled_pages::Made;
 use edges::{Ledger, Sink};
 use http_out::Status;
@@ -34,40 +34,40 @@ pub(crate) fn run_error<'a, Q: Port<Made>, L: Ledger, K: Sink>(
     alloc: Global,
     failure: Failure,
     incoming: Incoming,
-    course: &mut Course,
+    state: &mut RequestState,
     sink: &mut K,
     port: &mut RequestPort<'a, Q, L>,
 ) -> Result<Reply, AllocError>
-    requires uncommitted { course.old.writer.committed ≡ false }
-    requires headed { IsHeaded incoming.close incoming.shown course.old.around course.old.writer }
-    requires in_order { IsInOrder course.old.scopes course.old.around (asking_over Q.opening Q.pass Q.seen port.old) }
-    requires funded { IsFunded course.old.around (asking_over Q.opening Q.pass Q.seen port.old) }
-    requires charge { course.old.around.charge ≤ MAX_ASKED_CHARGE }
+    requires uncommitted { state.old.writer.committed ≡ false }
+    requires headed { IsHeaded incoming.close incoming.shown state.old.around state.old.writer }
+    requires in_order { IsInOrder state.old.scopes state.old.around (asking_over Q.opening Q.pass Q.seen port.old) }
+    requires funded { IsFunded state.old.around (asking_over Q.opening Q.pass Q.seen port.old) }
+    requires charge { state.old.around.charge ≤ MAX_ASKED_CHARGE }
     requires last { IsLast port.old.tree.now port.old.last }
     requires known { (page : Page) × (path : List ℕ) × (origin : Origin) × (s : State) × IsProgramOf
         (arc_value failure.program) port.old.tree.now path × IsPageAt page port.old.tree.now path
-        × StandsFor origin course.old.scopes course.old.writer (K.taken sink.old) (K.faults sink.old)
-        course.old.around (asking_over Q.opening Q.pass Q.seen port.old) s × (s.writer.pieces ≡ []) }
+        × StandsFor origin state.old.scopes state.old.writer (K.taken sink.old) (K.faults sink.old)
+        state.old.around (asking_over Q.opening Q.pass Q.seen port.old) s × (s.writer.pieces ≡ []) }
     ensures closed { (path : List ℕ) → IsProgramOf (arc_value failure.program) port.old.tree.now path →
         (page : Page) → IsPageAt page port.old.tree.now path
-        → (origin : Origin) (s : State) → StandsFor origin course.old.scopes course.old.writer
-        (K.taken sink.old) (K.faults sink.old) course.old.around
+        → (origin : Origin) (s : State) → StandsFor origin state.old.scopes state.old.writer
+        (K.taken sink.old) (K.faults sink.old) state.old.around
         (asking_over Q.opening Q.pass Q.seen port.old) s → s.writer.pieces ≡ []
         → Closed (fault_answers (served_at port.old.tree.now incoming.entry.request.now
-        course.old.around) page (params_of incoming.entry.request.now failure.own)
+        state.old.around) page (params_of incoming.entry.request.now failure.own)
         (raise_of failure.raise))
-        (Reached origin course.new.scopes course.new.writer (K.taken sink.new) (K.faults sink.new)
-        course.new.around (asking_over Q.opening Q.pass Q.seen port.new)) s
+        (Reached origin state.new.scopes state.new.writer (K.taken sink.new) (K.faults sink.new)
+        state.new.around (asking_over Q.opening Q.pass Q.seen port.new)) s
         (asking_over Q.opening Q.pass Q.seen port.old).answers
-        (asking_over Q.opening Q.pass Q.seen port.new).answers course.new.writer result }
-    ensures headed { IsHeaded incoming.entry.close incoming.entry.shown course.new.around course.new.writer }
-    ensures in_order { OnOk result (IsInOrder course.new.scopes course.new.around
+        (asking_over Q.opening Q.pass Q.seen port.new).answers state.new.writer result }
+    ensures headed { IsHeaded incoming.entry.close incoming.entry.shown state.new.around state.new.writer }
+    ensures in_order { OnOk result (IsInOrder state.new.scopes state.new.around
         (asking_over Q.opening Q.pass Q.seen port.new)) }
     ensures tree { port.new.tree.now ≡ port.old.tree.now }
     ensures leads { Leads needs_at Q.pass Q.opening Q.home Q.seen port.old port.new }
 {
     responses();
-    match find_instead(alloc, &failure, &mut course.around, port) {
+    match find_instead(alloc, &failure, &mut state.around, port) {
         Instead::Told(answer) => answer,
         Instead::Page { program, line } => {
             let Failure {
@@ -76,15 +76,15 @@ pub(crate) fn run_error<'a, Q: Port<Made>, L: Ledger, K: Sink>(
                 own,
             } = failure;
             drop(failed);
-            course.around.exception = Some(raise);
-            course.around.visits = 0;
-            course.around.depth = 0;
+            state.around.exception = Some(raise);
+            state.around.visits = 0;
+            state.around.depth = 0;
             let chain = Chain {
                 program,
                 own,
                 status: Status::InternalServerError,
             };
-            match run_chain(alloc, chain, incoming, course, sink, port) {
+            match run_chain(alloc, chain, incoming, state, sink, port) {
                 Err(AllocError) => Err(AllocError),
                 Ok(ChainEnd::Done(reply)) => Ok(reply),
                 Ok(ChainEnd::Failed(second)) => {

@@ -15,19 +15,19 @@ returns-in-Ok-clause-came g c = λ p old moments now is begun replies.
     let port = c.args.port.now in
     let x = g.Q.Port.opening port in
     let pass = g.Q.Port.pass port in
-    let course = c.args.course in
+    let state = c.args.state in
     let new = g.Q.Port.seen c.end.new.self in
     let ran = replies.ran in
-    let wrote = c.in-Ok.ensures.wrote (origin_of p) course.scopes ran.asking ran.after ran.stood (headed_at p c.args.under_way.number c.args.under_way.incoming.close c.args.under_way.incoming.shown course.around course.writer is ran.headed) replies.is_open in
-    came_finished x pass old moments p begun new now (g.Q.Port.seen port) course (g.K.Sink.taken c.args.sink.now) (g.K.Sink.taken c.write_reply.new.sink) (g.K.Sink.faults c.args.sink.now) (g.K.Sink.faults c.write_reply.new.sink) c.args.under_way.number c.args.under_way.incoming.close c.args.under_way.incoming.shown c.args.reply
+    let wrote = c.in-Ok.ensures.wrote (origin_of p) state.scopes ran.asking ran.after ran.stood (headed_at p c.args.under_way.number c.args.under_way.incoming.close c.args.under_way.incoming.shown state.around state.writer is ran.headed) replies.is_open in
+    came_finished x pass old moments p begun new now (g.Q.Port.seen port) state (g.K.Sink.taken c.args.sink.now) (g.K.Sink.taken c.write_reply.new.sink) (g.K.Sink.faults c.args.sink.now) (g.K.Sink.faults c.write_reply.new.sink) c.args.under_way.number c.args.under_way.incoming.close c.args.under_way.incoming.shown c.args.reply
     c.in-Ok.outcome c.into_session.result replies is wrote c.into_session.ensures (done_acts needs_at x pass (g.Q.Port.seen port) new (op.End c.args.under_way.number c.into_session.result) reply.Ended c.end.ensures.call)
 
 pub returns-in-Ok-clause-failed : goal.returns-in-Ok-clause-failed
 returns-in-Ok-clause-failed g c = λ p now is replies failed.
-    let course = c.args.course in
+    let state = c.args.state in
     let ran = replies.ran in
-    let wrote = c.in-Ok.ensures.wrote (origin_of p) course.scopes ran.asking ran.after ran.stood (headed_at p c.args.under_way.number c.args.under_way.incoming.close c.args.under_way.incoming.shown course.around course.writer is ran.headed) replies.is_open in
-    let response = response_in course.writer c.args.reply ran.after in
+    let wrote = c.in-Ok.ensures.wrote (origin_of p) state.scopes ran.asking ran.after ran.stood (headed_at p c.args.under_way.number c.args.under_way.incoming.close c.args.under_way.incoming.shown state.around state.writer is ran.headed) replies.is_open in
+    let response = response_in state.writer c.args.reply ran.after in
     fault_rose p.taken p.faults (wire (closing c.args.under_way.incoming.close response) c.args.under_way.incoming.shown) response.broken ran.after.writer.pieces (g.K.Sink.taken c.write_reply.new.sink) (g.K.Sink.faults c.write_reply.new.sink) c.in-Ok.outcome failed wrote
 
 pub returns-in-Err-clause-came : goal.returns-in-Err-clause-came
@@ -35,7 +35,7 @@ returns-in-Err-clause-came g c = λ p old moments now is begun replies.
     let port = c.args.port.now in
     let x = g.Q.Port.opening port in
     let pass = g.Q.Port.pass port in
-    let course = c.args.course in
+    let state = c.args.state in
     let ran = replies.ran in
-    let wrote = c.in-Err.ensures.wrote (origin_of p) course.scopes ran.asking ran.after ran.stood (headed_at p c.args.under_way.number c.args.under_way.incoming.close c.args.under_way.incoming.shown course.around course.writer is ran.headed) replies.is_open in
-    c.abandon.ensures.came p old moments now course.writer.head ran.after is begun (replies_starve x pass p (g.Q.Port.seen port) now course (g.K.Sink.taken c.args.sink.now) (g.K.Sink.faults c.args.sink.now) c.args.reply replies) wrote.0 wrote.1
+    let wrote = c.in-Err.ensures.wrote (origin_of p) state.scopes ran.asking ran.after ran.stood (headed_at p c.args.under_way.number c.args.under_way.incoming.close c.args.under_way.incoming.shown state.around state.writer is ran.headed) replies.is_open in
+    c.abandon.ensures.came p old moments now state.writer.head ran.after is begun (replies_starve x pass p (g.Q.Port.seen port) now state (g.K.Sink.taken c.args.sink.now) (g.K.Sink.faults c.args.sink.now) c.args.reply replies) wrote.0 wrote.1

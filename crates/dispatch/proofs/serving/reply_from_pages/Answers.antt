@@ -16,19 +16,19 @@ use Rattle.site_words.specs.Law.{Answer}
 pub answer-replied-requires-clause-headed : goal.answer-replied-requires-clause-headed
 answer-replied-requires-clause-headed g c =
     let o = c.requires.opened in
-    begun_headed c.args.under_way.incoming.request.now.cookie o.0 o.1 c.args.under_way.incoming.close c.args.under_way.incoming.shown c.args.course.now o.3
+    begun_headed c.args.under_way.incoming.request.now.cookie o.0 o.1 c.args.under_way.incoming.close c.args.under_way.incoming.shown c.args.state.now o.3
 
 pub answer-replied-requires-clause-in_order : goal.answer-replied-requires-clause-in_order
 answer-replied-requires-clause-in_order g c =
     let o = c.requires.opened in
     let port = c.args.port.now in
-    begun_in_order c.args.under_way.incoming.request.now.cookie o.0 o.1 c.args.under_way.incoming.close c.args.under_way.incoming.shown c.args.course.now o.3 (g.Q.Port.opening port) (g.Q.Port.pass port) (g.Q.Port.seen port) c.args.under_way.number o.0 c.args.under_way.tree.now o.2 refl o.4
+    begun_in_order c.args.under_way.incoming.request.now.cookie o.0 o.1 c.args.under_way.incoming.close c.args.under_way.incoming.shown c.args.state.now o.3 (g.Q.Port.opening port) (g.Q.Port.pass port) (g.Q.Port.seen port) c.args.under_way.number o.0 c.args.under_way.tree.now o.2 refl o.4
 
 pub answer-replied-requires-clause-funded : goal.answer-replied-requires-clause-funded
 answer-replied-requires-clause-funded g c =
     let o = c.requires.opened in
     let port = c.args.port.now in
-    begun_funded c.args.under_way.incoming.request.now.cookie o.0 o.1 c.args.under_way.incoming.close c.args.under_way.incoming.shown c.args.course.now o.3 (g.Q.Port.opening port) (g.Q.Port.pass port) (g.Q.Port.seen port) c.args.under_way.number o.0 c.args.under_way.tree.now o.2
+    begun_funded c.args.under_way.incoming.request.now.cookie o.0 o.1 c.args.under_way.incoming.close c.args.under_way.incoming.shown c.args.state.now o.3 (g.Q.Port.opening port) (g.Q.Port.pass port) (g.Q.Port.seen port) c.args.under_way.number o.0 c.args.under_way.tree.now o.2
 
 pub answer-replied-requires-clause-stands : goal.answer-replied-requires-clause-stands
 answer-replied-requires-clause-stands g c =
@@ -39,7 +39,7 @@ answer-replied-requires-clause-stands g c =
     let origin : Origin = record { start = taken; before = faults; asked = [] } in (
       origin,
       beginning (found c.args.under_way.incoming.request.now.cookie o.0 o.1) [],
-      begun_stands c.args.under_way.incoming.request.now.cookie o.0 o.1 c.args.under_way.incoming.close c.args.under_way.incoming.shown c.args.course.now o.3 (g.Q.Port.opening port) (g.Q.Port.pass port) (g.Q.Port.seen port) c.args.under_way.number o.0 c.args.under_way.tree.now o.2 taken faults,
+      begun_stands c.args.under_way.incoming.request.now.cookie o.0 o.1 c.args.under_way.incoming.close c.args.under_way.incoming.shown c.args.state.now o.3 (g.Q.Port.opening port) (g.Q.Port.pass port) (g.Q.Port.seen port) c.args.under_way.number o.0 c.args.under_way.tree.now o.2 taken faults,
       refl,
     )
 
@@ -68,7 +68,7 @@ returns-clause-later g c =
     let faults = g.K.Sink.faults c.args.sink.now in
     let origin : Origin = record { start = taken; before = faults; asked = [] } in
     let closed = c.answer-replied.ensures.closed origin (beginning (found c.args.under_way.incoming.request.now.cookie o.0 o.1) [])
-    (begun_stands c.args.under_way.incoming.request.now.cookie o.0 o.1 c.args.under_way.incoming.close c.args.under_way.incoming.shown c.args.course.now o.3 (g.Q.Port.opening port) (g.Q.Port.pass port) (g.Q.Port.seen port) c.args.under_way.number o.0 c.args.under_way.tree.now o.2 taken faults) refl in
+    (begun_stands c.args.under_way.incoming.request.now.cookie o.0 o.1 c.args.under_way.incoming.close c.args.under_way.incoming.shown c.args.state.now o.3 (g.Q.Port.opening port) (g.Q.Port.pass port) (g.Q.Port.seen port) c.args.under_way.number o.0 c.args.under_way.tree.now o.2 taken faults) refl in
     closed.stood.writer.streamed.later
 
 pub returns-clause-ran : goal.returns-clause-ran
@@ -80,8 +80,8 @@ returns-clause-ran g c = λ session attrs begun.
     let seen = g.Q.Port.seen port in
     let request = c.args.under_way.incoming.request.now in
     let tree = c.args.under_way.tree.now in
-    let course = c.args.course.now in
-    let after = c.answer-replied.new.course in
+    let state = c.args.state.now in
+    let after = c.answer-replied.new.state in
     let taken = g.K.Sink.taken c.args.sink.now in
     let faults = g.K.Sink.faults c.args.sink.now in
     let origin : Origin = record { start = taken; before = faults; asked = [] } in
@@ -89,8 +89,8 @@ returns-clause-ran g c = λ session attrs begun.
     let leads = c.answer-replied.ensures.leads in
     let now = c.answer-replied.new.port in
     let p : Start = started request c.args.under_way.incoming.close c.args.under_way.incoming.shown c.args.under_way.number tree (found request.cookie session attrs) seen c.args.steps.now taken faults in
-    let closed = c.answer-replied.ensures.closed origin s (begun_stands request.cookie session attrs c.args.under_way.incoming.close c.args.under_way.incoming.shown course begun x pass seen c.args.under_way.number o.0 tree o.2 taken faults) refl in
-    let answers = request_answers (served_at tree request course.around) request in
+    let closed = c.answer-replied.ensures.closed origin s (begun_stands request.cookie session attrs c.args.under_way.incoming.close c.args.under_way.incoming.shown state begun x pass seen c.args.under_way.number o.0 tree o.2 taken faults) refl in
+    let answers = request_answers (served_at tree request state.around) request in
     let means = λ (a : List Answer). ap (λ (around : Around). request_answers (served_at tree request around) request a s) begun.around in
     let new = g.Q.Port.seen now.port.now in
     let sent = g.K.Sink.taken c.answer-replied.new.sink in
@@ -108,6 +108,6 @@ pub returns-clause-in_order : goal.returns-clause-in_order
 returns-clause-in_order g c =
     let leads = c.answer-replied.ensures.leads in
     let now = c.answer-replied.new.port in
-    let after = c.answer-replied.new.course in
+    let after = c.answer-replied.new.state in
     in_order_back g.Q.Port.opening g.Q.Port.pass g.Q.Port.seen c.come_back.result after.scopes after.around _ now.port.now c.args.under_way.number now.request c.args.under_way.tree.now now.tree.now (c.port-1.given.1 (sym leads.port) ∙ c.come_back.ensures.port) leads.request leads.tree
     (ok_unless _ now.starved c.answer-replied.result c.come_back.result c.come_back.ensures.starved c.come_back.ensures.fed c.answer-replied.ensures.in_order)

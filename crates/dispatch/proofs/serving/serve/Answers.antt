@@ -63,7 +63,7 @@ returns-in-Ok-reply_from_pages-clause-came g c = λ old moments begins.
     let mid = c.reply_from_pages.new.port in
     let same = c.reply_from_pages.ensures.same in
     at_same
-    (λ (x : Opening) (pass : ℕ). HasBegun x pass old moments p → Replies x pass p (g.Q.Port.seen mid) c.reply_from_pages.new.steps c.reply_from_pages.new.course (g.K.Sink.taken c.reply_from_pages.new.sink) (g.K.Sink.faults c.reply_from_pages.new.sink) c.in-Ok-reply_from_pages.reply
+    (λ (x : Opening) (pass : ℕ). HasBegun x pass old moments p → Replies x pass p (g.Q.Port.seen mid) c.reply_from_pages.new.steps c.reply_from_pages.new.state (g.K.Sink.taken c.reply_from_pages.new.sink) (g.K.Sink.faults c.reply_from_pages.new.sink) c.in-Ok-reply_from_pages.reply
     → Came x pass old moments p (g.Q.Port.seen c.finish.new.port) c.reply_from_pages.new.steps (g.K.Sink.taken c.finish.new.sink) (g.K.Sink.faults c.finish.new.sink) c.finish.result) x (g.Q.Port.opening mid) pass (g.Q.Port.pass mid) same.1 same.0
     (c.finish.ensures.came p old moments c.reply_from_pages.new.steps (record { number_is = refl; close_is = refl; shown_is = refl })) here replies
 
@@ -84,10 +84,10 @@ returns-clause-came g c = λ old moments begins.
     let starves = c.in-Err.ensures.ran begun.session begun.attrs c.in-Ok.ensures in
     let mid = c.reply_from_pages.new.port in
     let same = c.reply_from_pages.ensures.same in
-    let course = c.reply_from_pages.new.course in
+    let state = c.reply_from_pages.new.state in
     let sent = g.K.Sink.taken c.reply_from_pages.new.sink in
     let counted = g.K.Sink.faults c.reply_from_pages.new.sink in
     at_same
-    (λ (x : Opening) (pass : ℕ). HasBegun x pass old moments p → (ran : Ran x pass p (g.Q.Port.seen mid) course sent counted) × Starves x pass p (g.Q.Port.seen mid) c.reply_from_pages.new.steps course.writer.head ran.after
+    (λ (x : Opening) (pass : ℕ). HasBegun x pass old moments p → (ran : Ran x pass p (g.Q.Port.seen mid) state sent counted) × Starves x pass p (g.Q.Port.seen mid) c.reply_from_pages.new.steps state.writer.head ran.after
     → Came x pass old moments p (g.Q.Port.seen c.give_up.new.port) c.reply_from_pages.new.steps (g.K.Sink.taken c.give_up.new.sink) (g.K.Sink.faults c.give_up.new.sink) c.give_up.result) x (g.Q.Port.opening mid) pass (g.Q.Port.pass mid) same.1 same.0
-    (λ begins short. c.give_up.ensures.came p old moments c.reply_from_pages.new.steps course short.0 (record { number_is = refl; close_is = refl; shown_is = refl }) begins c.committed.ensures short.1) here starves
+    (λ begins short. c.give_up.ensures.came p old moments c.reply_from_pages.new.steps state short.0 (record { number_is = refl; close_is = refl; shown_is = refl }) begins c.committed.ensures short.1) here starves

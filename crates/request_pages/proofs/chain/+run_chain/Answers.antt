@@ -44,13 +44,13 @@ run_chain-requires g t c κs within =
     let (page, path, origin, s, made, is, stands) = c.requires.known in
     let played = rw c.in-Ok-Forward.field-0-is at (c.in-Ok-Forward.ensures.played path (subst (λ p. IsProgramOf p c.args.port.now.tree.now path) (sym c.deref.ensures) made) page is origin s stands) in
     let known = forward_known _ _ page _ _ _ s _ _ _ _ _ _ played in
-    let quiet = none_held c.run_page.new.course.writer played.after.writer played.stood.writer.committed known.2 in
+    let quiet = none_held c.run_page.new.state.writer played.after.writer played.stood.writer.committed known.2 in
     let kept = c.in-Ok-Forward.ensures.leads.last c.requires.last in
     let found = rw c.in-Ok-Page.field-0-is at c.in-Ok-Page.ensures.paged in
     let next = found.1 in
     let depth = known.1 in
     let less = known.0 in
-    let below : 100 - c.run_page.new.course.around.depth < t = omega (arith, c.decreases, depth, less) in
+    let below : 100 - c.run_page.new.state.around.depth < t = omega (arith, c.decreases, depth, less) in
     let ensures = c.in-Ok-Forward.ensures in (
       below,
       (
@@ -71,7 +71,7 @@ run_chain-requires g t c κs within =
 pub returns-in-Ok-Page-clause-chained : goal.returns-in-Ok-Page-clause-chained
 returns-in-Ok-Page-clause-chained g t c = λ path made page is origin s stands.
     let tree = c.args.port.now.tree.now in
-    let around = c.args.course.now.around in
+    let around = c.args.state.now.around in
     let played = rw c.in-Ok-Forward.field-0-is at (c.in-Ok-Forward.ensures.played path (subst (λ p. IsProgramOf p c.args.port.now.tree.now path) (sym c.deref.ensures) made) page is origin s stands) in
     let known = forward_known _ _ page _ _ _ s _ _ _ _ _ _ played in
     let found = rw c.in-Ok-Page.field-0-is at c.in-Ok-Page.ensures.paged in
@@ -85,7 +85,7 @@ returns-in-Ok-Page-clause-chained g t c = λ path made page is origin s stands.
     rw (sym c.params_of-params.ensures)
     (chained_on c.responses.ensures.unfold (served_at tree c.args.incoming.request.now around) c.args.chain.status page _ _ (omega arith) c.args.incoming.request.now tree _ _ s _ _ _ _ _ _ target _ next.page _ c.run_chain.result good played l
     (same_chained (served_at tree c.args.incoming.request.now around) _ c.args.chain.status _ next.page _ c.args.incoming.request.now tree _ _ played.after _ _ _ c.run_chain.result
-    (ap (λ t. served_at t c.args.incoming.request.now c.run_page.new.course.around) same ∙ ap (λ e. record { request = c.args.incoming.request.now; pages = paged_at tree; exception = option_map raise_of e }) c.in-Ok-Forward.ensures.exception) same chained))
+    (ap (λ t. served_at t c.args.incoming.request.now c.run_page.new.state.around) same ∙ ap (λ e. record { request = c.args.incoming.request.now; pages = paged_at tree; exception = option_map raise_of e }) c.in-Ok-Forward.ensures.exception) same chained))
 
 pub returns-in-Ok-Page-clause-leads : goal.returns-in-Ok-Page-clause-leads
 returns-in-Ok-Page-clause-leads g t c = leads_on c.args.port.now c.run_page.new.port c.run_chain.new.port c.in-Ok-Forward.ensures.leads c.run_chain.ensures.leads

@@ -17,16 +17,16 @@ use Rattle.run_world.specs.Seats.{raise_of}
 pub returns-in-Told-clause-closed : goal.returns-in-Told-clause-closed
 returns-in-Told-clause-closed g c = λ path made page is origin s stands none.
     let request = c.args.incoming.request.now in
-    (c.in-Told.ensures.found path made page is (served_at c.args.port.now.tree.now request c.args.course.now.around) (λ p. refl) (params_of request c.args.failure.own) origin _ _ _ _ s stands none).so
+    (c.in-Told.ensures.found path made page is (served_at c.args.port.now.tree.now request c.args.state.now.around) (λ p. refl) (params_of request c.args.failure.own) origin _ _ _ _ s stands none).so
 
 pub returns-in-Told-clause-headed : goal.returns-in-Told-clause-headed
-returns-in-Told-clause-headed g c = headed_looked c.args.incoming.close c.args.incoming.shown c.args.course.now.around c.find_instead.new.around c.args.course.now.writer c.in-Told.ensures.around c.requires.headed
+returns-in-Told-clause-headed g c = headed_looked c.args.incoming.close c.args.incoming.shown c.args.state.now.around c.find_instead.new.around c.args.state.now.writer c.in-Told.ensures.around c.requires.headed
 
 pub run_chain-requires-clause-known : goal.run_chain-requires-clause-known
 run_chain-requires-clause-known g c =
     let (page, path, origin, s, made, is, stands, none) = c.requires.known in
     let request = c.args.incoming.request.now in
-    let found = c.in-Page.ensures.found path made page is (served_at c.args.port.now.tree.now request c.args.course.now.around) (λ p. refl) (params_of request c.args.failure.own) origin _ _ _ _ s stands none in
+    let found = c.in-Page.ensures.found path made page is (served_at c.args.port.now.tree.now request c.args.state.now.around) (λ p. refl) (params_of request c.args.failure.own) origin _ _ _ _ s stands none in
     let next = found.so.0 in
     let same = c.in-Page.ensures.tree in (
       next.made.page,
@@ -51,7 +51,7 @@ pub returns-in-Err-clause-closed : goal.returns-in-Err-clause-closed
 returns-in-Err-clause-closed g c = λ path made page is origin s stands none.
     let tree = c.args.port.now.tree.now in
     let request = c.args.incoming.request.now in
-    let served = served_at tree request c.args.course.now.around in
+    let served = served_at tree request c.args.state.now.around in
     let params = params_of request c.args.failure.own in
     let found = c.in-Page.ensures.found path made page is served (λ p. refl) params origin _ _ _ _ s stands none in
     let next = found.so.0 in
@@ -65,7 +65,7 @@ pub returns-in-Ok-Done-clause-closed : goal.returns-in-Ok-Done-clause-closed
 returns-in-Ok-Done-clause-closed g c = λ path made page is origin s stands none.
     let tree = c.args.port.now.tree.now in
     let request = c.args.incoming.request.now in
-    let served = served_at tree request c.args.course.now.around in
+    let served = served_at tree request c.args.state.now.around in
     let params = params_of request c.args.failure.own in
     let found = c.in-Page.ensures.found path made page is served (λ p. refl) params origin _ _ _ _ s stands none in
     let next = found.so.0 in
@@ -79,7 +79,7 @@ pub returns-in-Ok-Failed-clause-closed : goal.returns-in-Ok-Failed-clause-closed
 returns-in-Ok-Failed-clause-closed g c = λ path made page is origin s stands none.
     let tree = c.args.port.now.tree.now in
     let request = c.args.incoming.request.now in
-    let served = served_at tree request c.args.course.now.around in
+    let served = served_at tree request c.args.state.now.around in
     let params = params_of request c.args.failure.own in
     let found = c.in-Page.ensures.found path made page is served (λ p. refl) params origin _ _ _ _ s stands none in
     let next = found.so.0 in

@@ -6,8 +6,8 @@ use Rattle.request_pages.proofs.HeadLemmas.{headed_on}
 use Rattle.request_pages.proofs.PlayedLemmas.{after_status, after_type, none_committed, played_of, played_short, settings_same}
 use Rattle.request_pages.proofs.running.run_page.Goals as goal
 use Rattle.pg_value.specs.declared.settings.PageSettings.{PageSettings}
-use Rattle.request_pages.specs.declared.course.Course.{Course}
-use Rattle.request_pages.specs.Course.{IsHeaded}
+use Rattle.request_pages.specs.declared.request_state.RequestState.{RequestState}
+use Rattle.request_pages.specs.Headed.{IsHeaded}
 
 pub begin_page-requires-clause-buffered : goal.begin_page-requires-clause-buffered
 begin_page-requires-clause-buffered g c =
@@ -17,12 +17,12 @@ begin_page-requires-clause-buffered g c =
 
 pub returns-in_default-clause-played : goal.returns-in_default-clause-played
 returns-in_default-clause-played g c = λ path made page is origin s stands.
-    let course = c.args.course.now in
+    let state = c.args.state.now in
     let taken = g.K.Sink.taken c.args.sink.now in
     let faults = g.K.Sink.faults c.args.sink.now in
     let asking = g.P.AppPort.asking c.args.port.now in
-    let stood = subst (λ (x : Course). StandsFor origin x.scopes x.writer taken faults x.around asking s) (sym c.in_default.ensures.err) stands in
-    played_short c.depth.ensures.forwards c.parts.ensures.grow _ c.args.way.status page _ _ _ s _ _ _ _ stood (none_committed origin course.scopes course.writer taken faults course.around asking s c.requires.uncommitted stands)
+    let stood = subst (λ (x : RequestState). StandsFor origin x.scopes x.writer taken faults x.around asking s) (sym c.in_default.ensures.err) stands in
+    played_short c.depth.ensures.forwards c.parts.ensures.grow _ c.args.delivery.status page _ _ _ s _ _ _ _ stood (none_committed origin state.scopes state.writer taken faults state.around asking s c.requires.uncommitted stands)
 
 pub run_begun-requires-clause-writer : goal.run_begun-requires-clause-writer
 run_begun-requires-clause-writer g c =
@@ -36,14 +36,14 @@ returns-clause-played g c = λ path made page is origin s stands.
     let settings = settings_same c.args.run.program.now tree path page made is in
     let begun = c.in-Ok.ensures.stands origin (g.K.Sink.taken c.args.sink.now) (g.K.Sink.faults c.args.sink.now) (g.P.AppPort.asking c.args.port.now) s page settings stands in
     let head = c.run_begun.ensures.response.head in
-    let st = ap (λ h. h.status) head ∙ (after_status c.begin_page.new.course.writer.head _ _ _ ∙ ap (λ h. h.status) c.in-Ok.ensures.head) in
-    let ct = ap (λ h. h.content_type) head ∙ (after_type c.begin_page.new.course.writer.head _ _ _ ∙ (ap (λ h. h.content_type) c.in-Ok.ensures.head ∙ ap (λ x. Some x.content_type) settings)) in
-    rw (sym c.in-Ok.ensures.around) (played_of c.depth.ensures.forwards c.parts.ensures.grow _ c.args.way.status page _ _ _ s _ _ _ _ c.run_begun.result (sym st) (sym ct) (c.run_begun.ensures.ended path made page is origin _ begun))
+    let st = ap (λ h. h.status) head ∙ (after_status c.begin_page.new.state.writer.head _ _ _ ∙ ap (λ h. h.status) c.in-Ok.ensures.head) in
+    let ct = ap (λ h. h.content_type) head ∙ (after_type c.begin_page.new.state.writer.head _ _ _ ∙ (ap (λ h. h.content_type) c.in-Ok.ensures.head ∙ ap (λ x. Some x.content_type) settings)) in
+    rw (sym c.in-Ok.ensures.around) (played_of c.depth.ensures.forwards c.parts.ensures.grow _ c.args.delivery.status page _ _ _ s _ _ _ _ c.run_begun.result (sym st) (sym ct) (c.run_begun.ensures.ended path made page is origin _ begun))
 
 pub returns-in_default-clause-headed : goal.returns-in_default-clause-headed
-returns-in_default-clause-headed g c = subst (λ (x : Course). IsHeaded c.args.way.close c.args.way.shown x.around x.writer) (sym c.in_default.ensures.err) c.requires.headed
+returns-in_default-clause-headed g c = subst (λ (x : RequestState). IsHeaded c.args.delivery.close c.args.delivery.shown x.around x.writer) (sym c.in_default.ensures.err) c.requires.headed
 
 pub returns-clause-headed : goal.returns-clause-headed
 returns-clause-headed g c =
-    headed_on c.args.way.close c.args.way.shown c.begin_page.new.course.around c.run_begun.new.course.around c.begin_page.new.course.writer c.run_begun.new.course.writer c.run_begun.ensures.response c.run_begun.ensures.session
-    (record { status = c.args.way.status; content_type = Some c.args.run.program.now.settings.content_type; head = c.in-Ok.ensures.head; shown_is = c.in-Ok.ensures.shown })
+    headed_on c.args.delivery.close c.args.delivery.shown c.begin_page.new.state.around c.run_begun.new.state.around c.begin_page.new.state.writer c.run_begun.new.state.writer c.run_begun.ensures.response c.run_begun.ensures.session
+    (record { status = c.args.delivery.status; content_type = Some c.args.run.program.now.settings.content_type; head = c.in-Ok.ensures.head; shown_is = c.in-Ok.ensures.shown })

@@ -1,4 +1,4 @@
--- What a request keeps while its pages run.
+-- The head of the response that a writer has begun.
 use Rattle.std.specs.Prelude.{◌≡◌, ℕ, Bool, false, List, Option, None}
 use Rattle.http_out.specs.declared.head.Head.{Head}
 use Rattle.http_out.specs.declared.status.Status.{Status}

@@ -6,11 +6,12 @@ ghost use Rattle.page_meaning.specs.Page.{Page};
 ghost use Rattle.page_meaning.specs.Respond.{at_start};
 ghost use Rattle.page_meaning.specs.Response.{new_id};
 ghost use Rattle.page_meaning.specs.State.{State};
-ghost use Rattle.request_pages.specs.Course.{head_for};
+ghost use Rattle.request_pages.specs.Headed.{head_for};
 ghost use Rattle.run_world.specs.Origin.{Origin};
 ghost use Rattle.site_words.specs.Running.{Asking};
 
-use http_out::{ContentType, Head, Status};
+use crate::delivery::Delivery;
+use http_out::{ContentType, Head};
 use out_buffer::Writer;
 use pg_text::Text;
 use run_world::{Around, Program};
@@ -19,7 +20,7 @@ use std::alloc::{AllocError, Global};
 
 /// What a request keeps while its pages run.
 #[derive(Drop)]
-pub struct Course {
+pub struct RequestState {
     /// The variables of the page that runs, and those of the request and its session.
     pub scopes: Scopes,
     /// What the page that runs has written, behind the head of the response.
@@ -28,50 +29,41 @@ pub struct Course {
     pub around: Around,
 }
 
-/// How a page is answered: its status, whether the connection closes after the response, and
-/// whether the body is sent, which it isn't to HEAD.
-#[derive(Clone, Copy, Debug, PartialEq, Eq)]
-pub(crate) struct Way {
-    pub status: Status,
-    pub close: bool,
-    pub shown: bool,
-}
-
 /// Begins the run of a page that isn't included: one empty frame, and a writer of its own. Nothing
 /// may have been committed.
 pub(crate) fn begin_page(
     alloc: Global,
     program: &Program,
-    way: Way,
-    course: &mut Course,
+    delivery: Delivery,
+    state: &mut RequestState,
 ) -> Result<(), AllocError>
     requires buffered { ForSome program.now.settings.buffer (λ size. 0 < size) }
-    requires uncommitted { course.old.writer.committed ≡ false }
+    requires uncommitted { state.old.writer.committed ≡ false }
     ensures stands { (origin : Origin) (taken : Option (List ℕ)) (faults : ℕ) (asking : Asking) (s : State)
         (page : Page) → program.now.settings ≡ page.settings →
-        StandsFor origin course.old.scopes course.old.writer taken faults course.old.around asking s
-        → OnOk result (StandsFor origin course.new.scopes course.new.writer taken faults course.new.around
+        StandsFor origin state.old.scopes state.old.writer taken faults state.old.around asking s
+        → OnOk result (StandsFor origin state.new.scopes state.new.writer taken faults state.new.around
         asking (at_start page s)) }
-    ensures head { OnOk result (course.new.writer.head
-        ≡ head_for way.status (Some program.now.settings.content_type) way.close course.new.around) }
-    ensures shown { OnOk result (course.new.writer.shown ≡ way.shown) }
-    ensures fresh { OnOk result (course.new.writer.committed ≡ false) }
-    ensures session { OnOk result (course.new.scopes.session ≡ course.old.scopes.session) }
-    ensures around { course.new.around ≡ course.old.around }
-    ensures err { OnErr result (course.new ≡ course.old) }
+    ensures head { OnOk result (state.new.writer.head
+        ≡ head_for delivery.status (Some program.now.settings.content_type) delivery.close state.new.around) }
+    ensures shown { OnOk result (state.new.writer.shown ≡ delivery.shown) }
+    ensures fresh { OnOk result (state.new.writer.committed ≡ false) }
+    ensures session { OnOk result (state.new.scopes.session ≡ state.old.scopes.session) }
+    ensures around { state.new.around ≡ state.old.around }
+    ensures err { OnErr result (state.new ≡ state.old) }
 {
     let head = Head {
         content_type: Some(ContentType::named(program.settings.content_type.copy()?)),
-        set_cookie: new_id(&course.around)?,
-        ..Head::of(way.status, way.close)
+        set_cookie: new_id(&state.around)?,
+        ..Head::of(delivery.status, delivery.close)
     };
-    course.scopes.restart();
-    course.writer = Writer::new(
+    state.scopes.restart();
+    state.writer = Writer::new(
         alloc,
         head,
         program.settings.buffer,
         program.settings.auto_flush,
-        way.shown,
+        delivery.shown,
     );
     Ok(())
 }
