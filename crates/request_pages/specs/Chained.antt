@@ -6,31 +6,25 @@ use Rattle.http_in.specs.declared.request.Request.{Request}
 use Rattle.http_out.specs.declared.status.Status.{Status}
 use Rattle.out_buffer.specs.Held.{Held}
 use Rattle.compiled_pages.specs.Made.{IsPageAt, IsProgramOf}
+use Rattle.page_machine.specs.Run.{StandsFor}
 use Rattle.page_meaning.specs.Context.{Served}
 use Rattle.page_meaning.specs.Page.{Page}
 use Rattle.page_meaning.specs.Respond.{OnFault}
 use Rattle.page_meaning.specs.Response.{Answered}
 use Rattle.page_meaning.specs.State.{State}
 use Rattle.request_pages.specs.PageEnd.{reply_answer}
+use Rattle.request_pages.specs.Point.{Point, PointStands}
 use Rattle.request_pages.specs.Within.{GoesWithin}
 use Rattle.request_pages.specs.declared.chain.ChainEnd.{ChainEnd}
 use Rattle.request_pages.specs.declared.chain.ChainEnd.TheVariants as ended
 use Rattle.request_pages.specs.declared.reply.Reply.TheVariants as reply
-use Rattle.request_port.specs.Asked.{asking_of}
-use Rattle.request_port.specs.declared.port.RequestPort.{RequestPort}
 use Rattle.response_laws.specs.Laws.{FaultsGrow, chain_of}
+use Rattle.run_world.specs.Origin.{Origin}
 use Rattle.run_world.specs.Part.{given}
 use Rattle.run_world.specs.Seats.{raise_of}
 use Rattle.run_world.specs.declared.program.Program.{Program}
 use Rattle.site_words.specs.Law.{Answer}
-use Rattle.site_words.specs.Running.{Asking}
-use Rattle.site_words.specs.declared.words.Entry.{Entry}
-use Rattle.site_words.specs.declared.words.Opening.{Opening}
 use Rattle.source_tree.specs.declared.file.File.{File}
-
--- what was asked over a port of a request
-abbrev pub asking_over : {Q L : Type 0} → (opening : Q → Opening) (pass : Q → ℕ) (seen : Q → List Entry) → RequestPort Q L → Asking
-asking_over opening pass seen w = asking_of (opening w.port.now) (pass w.port.now) (seen w.port.now) w.request w.tree.now
 
 -- the parameters of a page's run: its own, or those of the request
 abbrev pub params_of : Request → Option (List Param) → List Param
@@ -70,6 +64,12 @@ pub record Chained (answers : OnFault → List Answer → State → Answered) (r
   pub after : State
   pub stood : stands after
   pub ends : ChainedSo (λ at_fault future. answers at_fault (got ++ future) s) request tree held after result
+
+-- the same from each state for which one point of the request stands, to another
+abbrev pub ChainsFrom : {E : Type 0} → (answers : OnFault → List Answer → State → Answered) → Request → List File → (old new : Point) → Result ChainEnd E → Type 0
+ChainsFrom answers request tree old new result =
+    (origin : Origin) (s : State) → PointStands origin old s
+    → Chained answers request tree (StandsFor origin new.state.scopes new.state.writer new.taken new.faults new.state.around new.asking) s old.asking.answers new.asking.answers new.state.writer result
 
 -- what a chain of pages answers under these answers to its steps
 abbrev pub chain_answers : Served → Status → (left : ℕ) → Page → List Param → OnFault → List Answer → State → Answered

@@ -11,6 +11,7 @@ use Rattle.page_meaning.specs.Respond.{answer_at, from_first_level, on_fault}
 use Rattle.page_meaning.specs.Response.{Answered}
 use Rattle.page_meaning.specs.State.{State}
 use Rattle.request_pages.specs.PageEnd.{reply_answer}
+use Rattle.request_pages.specs.Point.{Point, PointStands}
 use Rattle.request_pages.specs.Within.{GoesWithin}
 use Rattle.request_pages.specs.declared.reply.Reply.{Reply}
 use Rattle.request_pages.specs.declared.reply.Reply.TheVariants as reply
@@ -50,6 +51,18 @@ pub record Closed (answers : List Answer → State → Answered) (stands : State
   pub after : State
   pub stood : stands after
   pub ends : ClosedSo (λ future. answers (got ++ future) s) held after result
+
+-- the same from each state for which one point of the request stands, to another
+abbrev pub ClosesFrom : {E : Type 0} → (answers : List Answer → State → Answered) → (old new : Point) → Result Reply E → Type 0
+ClosesFrom answers old new result =
+    (origin : Origin) (s : State) → PointStands origin old s
+    → Closed answers (Reached origin new.state.scopes new.state.writer new.taken new.faults new.state.around new.asking) s old.asking.answers new.asking.answers new.state.writer result
+
+-- the same where nothing was committed
+abbrev pub ClosesUncommitted : {E : Type 0} → (answers : List Answer → State → Answered) → (old new : Point) → Result Reply E → Type 0
+ClosesUncommitted answers old new result =
+    (origin : Origin) (s : State) → PointStands origin old s → s.writer.pieces ≡ []
+    → Closed answers (Reached origin new.state.scopes new.state.writer new.taken new.faults new.state.around new.asking) s old.asking.answers new.asking.answers new.state.writer result
 
 -- what a fault is answered under these answers to its steps
 abbrev pub fault_answers : Served → Page → List Param → Raise → List Answer → State → Answered

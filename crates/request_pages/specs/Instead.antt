@@ -1,24 +1,28 @@
 -- What comes instead of a page whose run a fault ended.
-use Rattle.std.specs.Prelude.{◌≡◌, ℕ, List, ◌++◌, Some, None, codes, OnOk}
+use Rattle.std.specs.Prelude.{◌≡◌, ℕ, List, [], ◌++◌, Option, Some, None, codes, OnOk}
 use Rattle.std.specs.Arc.{arc_value}
 use Rattle.compiled_pages.specs.Made.{IsProgramOf}
 use Rattle.http_out.specs.Head.{plain_type}
 use Rattle.http_out.specs.declared.status.Status.TheVariants as status_is
 use Rattle.out_buffer.specs.Held.{Held}
+use Rattle.page_machine.specs.Run.{StandsFor}
 use Rattle.page_meaning.specs.Faults.{Raise, run_fault_line}
 use Rattle.page_meaning.specs.Page.{Page}
 use Rattle.page_meaning.specs.Respond.{error_path}
 use Rattle.page_meaning.specs.Response.{Answered}
 use Rattle.page_meaning.specs.State.{State}
 use Rattle.page_meaning.specs.Work.{fetched}
-use Rattle.request_pages.specs.Closed.{Closed}
+use Rattle.request_pages.specs.Closed.{Closed, Reached}
 use Rattle.request_pages.specs.declared.instead.Instead.{Instead}
 use Rattle.request_pages.specs.declared.instead.Instead.TheVariants as instead
 use Rattle.request_pages.specs.declared.reply.Reply.{Reply}
 use Rattle.request_pages.specs.declared.reply.Reply.TheVariants as reply
+use Rattle.run_world.specs.Origin.{Origin}
+use Rattle.run_world.specs.declared.around.Around.{Around}
 use Rattle.run_world.specs.declared.program.Program.{Program}
+use Rattle.scopes.specs.Scopes.{ScopeState}
 use Rattle.site_words.specs.Law.{Answer}
-use Rattle.site_words.specs.Running.{IsPageFile}
+use Rattle.site_words.specs.Running.{Asking, IsPageFile}
 use Rattle.source_tree.specs.Edits.{file_at}
 use Rattle.source_tree.specs.declared.file.File.{File}
 
@@ -42,6 +46,12 @@ InsteadSo answers tree page r stands reached s old new held (instead.Told answer
 -- what comes instead of a page, from the state in which a fault ended its run
 pub record ComesInstead (answers : List Answer → State → Answered) (tree : List File) (page : Page) (r : Raise) (stands reached : State → Type 0) (s : State) (old new : List Answer) (held : Held) (comes : Instead) : Type 0 where
   pub so : InsteadSo answers tree page r stands reached s old new held comes
+
+-- the same from each state for which the rest stands and in which nothing was committed
+abbrev pub FindsInstead : (answers : List Answer → State → Answered) → List File → Page → Raise → (old new : Around) → (before now : Asking) → Instead → Type 0
+FindsInstead answers tree page r old new before now comes =
+    (origin : Origin) (scopes : ScopeState) (held : Held) (taken : Option (List ℕ)) (faults : ℕ) (s : State) → StandsFor origin scopes held taken faults old before s → s.writer.pieces ≡ []
+    → ComesInstead answers tree page r (StandsFor origin scopes held taken faults new now) (Reached origin scopes held taken faults new now) s before.answers now.answers held comes
 
 -- this holds, unless memory ran out
 abbrev pub UnlessShort : Instead → Type 0 → Type 0

@@ -3,6 +3,7 @@ pub mod Headed
 pub mod PageEnd
 pub mod Played
 pub mod Within
+pub mod Point
 pub mod Chained
 pub mod Target
 pub mod Looked

@@ -8,10 +8,10 @@ ghost use Rattle.page_meaning.specs.Page.{Page};
 ghost use Rattle.page_meaning.specs.Respond.{is_hidden};
 ghost use Rattle.page_meaning.specs.State.{State};
 ghost use Rattle.run_pages.specs.Meant.{served_at};
-ghost use Rattle.request_pages.specs.Chained.{asking_over};
-ghost use Rattle.request_pages.specs.Closed.{Closed, Reached, first_answers, request_answers};
+ghost use Rattle.request_pages.specs.Closed.{ClosesFrom, ClosesUncommitted, first_answers, request_answers};
 ghost use Rattle.request_pages.specs.Headed.{IsHeaded};
 ghost use Rattle.request_pages.specs.Played.{IsFunded};
+ghost use Rattle.request_pages.specs.Point.{asking_over, point_of};
 ghost use Rattle.request_port.specs.Leading.{IsLast, Leads};
 ghost use Rattle.run_world.specs.Origin.{Origin};
 
@@ -52,15 +52,11 @@ pub fn answer<'a, Q: Port<Made>, L: Ledger, K: Sink>(
     requires stands { (origin : Origin) × (s : State) × StandsFor origin state.old.scopes state.old.writer
         (K.taken sink.old) (K.faults sink.old) state.old.around (asking_over Q.opening Q.pass Q.seen port.old)
         s × (s.writer.pieces ≡ []) }
-    ensures closed { (origin : Origin) (s : State) → StandsFor origin state.old.scopes state.old.writer
-        (K.taken sink.old) (K.faults sink.old) state.old.around (asking_over Q.opening Q.pass Q.seen port.old)
-        s → s.writer.pieces ≡ []
-        → Closed (request_answers (served_at port.old.tree.now incoming.entry.request.now
-        state.old.around) incoming.entry.request.now) (Reached origin state.new.scopes
-        state.new.writer (K.taken sink.new) (K.faults sink.new) state.new.around
-        (asking_over Q.opening Q.pass Q.seen port.new)) s
-        (asking_over Q.opening Q.pass Q.seen port.old).answers
-        (asking_over Q.opening Q.pass Q.seen port.new).answers state.new.writer result }
+    ensures closed { ClosesUncommitted
+        (request_answers (served_at port.old.tree.now incoming.entry.request.now state.old.around)
+        incoming.entry.request.now)
+        (point_of K.taken K.faults state.old sink.old (asking_over Q.opening Q.pass Q.seen port.old))
+        (point_of K.taken K.faults state.new sink.new (asking_over Q.opening Q.pass Q.seen port.new)) result }
     ensures headed { IsHeaded incoming.entry.close incoming.entry.shown state.new.around state.new.writer }
     ensures in_order { OnOk result (IsInOrder state.new.scopes state.new.around
         (asking_over Q.opening Q.pass Q.seen port.new)) }
@@ -104,15 +100,11 @@ fn first_page<'a, Q: Port<Made>, L: Ledger, K: Sink>(
         × StandsFor origin state.old.scopes state.old.writer (K.taken sink.old) (K.faults sink.old)
         state.old.around (asking_over Q.opening Q.pass Q.seen port.old) s }
     ensures closed { (path : List ℕ) → IsProgramOf (arc_value program) port.old.tree.now path →
-        (page : Page) → IsPageAt page port.old.tree.now path
-        → (origin : Origin) (s : State) → StandsFor origin state.old.scopes state.old.writer
-        (K.taken sink.old) (K.faults sink.old) state.old.around (asking_over Q.opening Q.pass Q.seen port.old) s
-        → Closed (first_answers (served_at port.old.tree.now incoming.entry.request.now
-        state.old.around) page incoming.entry.request.now.params) (Reached origin
-        state.new.scopes state.new.writer (K.taken sink.new) (K.faults sink.new) state.new.around
-        (asking_over Q.opening Q.pass Q.seen port.new)) s
-        (asking_over Q.opening Q.pass Q.seen port.old).answers
-        (asking_over Q.opening Q.pass Q.seen port.new).answers state.new.writer result }
+        (page : Page) → IsPageAt page port.old.tree.now path → ClosesFrom
+        (first_answers (served_at port.old.tree.now incoming.entry.request.now state.old.around) page
+        incoming.entry.request.now.params)
+        (point_of K.taken K.faults state.old sink.old (asking_over Q.opening Q.pass Q.seen port.old))
+        (point_of K.taken K.faults state.new sink.new (asking_over Q.opening Q.pass Q.seen port.new)) result }
     ensures headed { IsHeaded incoming.entry.close incoming.entry.shown state.new.around state.new.writer }
     ensures in_order { OnOk result (IsInOrder state.new.scopes state.new.around
         (asking_over Q.opening Q.pass Q.seen port.new)) }

@@ -7,9 +7,10 @@ ghost use Rattle.compiled_pages.specs.Pages.{needs_at};
 ghost use Rattle.page_meaning.specs.Page.{Page};
 ghost use Rattle.page_meaning.specs.State.{State};
 ghost use Rattle.run_pages.specs.Meant.{served_at};
-ghost use Rattle.request_pages.specs.Chained.{Chained, asking_over, chain_answers, params_of};
+ghost use Rattle.request_pages.specs.Chained.{ChainsFrom, chain_answers, params_of};
 ghost use Rattle.request_pages.specs.Headed.{IsHeaded};
 ghost use Rattle.request_pages.specs.Played.{IsFunded};
+ghost use Rattle.request_pages.specs.Point.{asking_over, point_of};
 ghost use Rattle.request_pages.specs.Target.{IsOther, IsTargetEnd, IsTargetReply};
 ghost use Rattle.request_port.specs.Leading.{IsLast, Leads};
 ghost use Rattle.run_stage.specs.Keeping.{HasCharged, KeepsSession};
@@ -80,16 +81,12 @@ pub(crate) fn run_chain<'a, Q: Port<Made>, L: Ledger, K: Sink>(
         × StandsFor origin state.old.scopes state.old.writer (K.taken sink.old) (K.faults sink.old)
         state.old.around (asking_over Q.opening Q.pass Q.seen port.old) s }
     ensures chained { (path : List ℕ) → IsProgramOf (arc_value chain.program) port.old.tree.now path →
-        (page : Page) → IsPageAt page port.old.tree.now path
-        → (origin : Origin) (s : State) → StandsFor origin state.old.scopes state.old.writer
-        (K.taken sink.old) (K.faults sink.old) state.old.around (asking_over Q.opening Q.pass Q.seen port.old) s
-        → Chained (chain_answers (served_at port.old.tree.now incoming.entry.request.now
-        state.old.around) chain.status (level_limit - state.old.around.depth) page
+        (page : Page) → IsPageAt page port.old.tree.now path → ChainsFrom
+        (chain_answers (served_at port.old.tree.now incoming.entry.request.now state.old.around)
+        chain.status (level_limit - state.old.around.depth) page
         (params_of incoming.entry.request.now chain.own)) incoming.entry.request.now port.old.tree.now
-        (StandsFor origin state.new.scopes state.new.writer (K.taken sink.new) (K.faults sink.new)
-        state.new.around (asking_over Q.opening Q.pass Q.seen port.new)) s
-        (asking_over Q.opening Q.pass Q.seen port.old).answers
-        (asking_over Q.opening Q.pass Q.seen port.new).answers state.new.writer result }
+        (point_of K.taken K.faults state.old sink.old (asking_over Q.opening Q.pass Q.seen port.old))
+        (point_of K.taken K.faults state.new sink.new (asking_over Q.opening Q.pass Q.seen port.new)) result }
     ensures headed { IsHeaded incoming.entry.close incoming.entry.shown state.new.around state.new.writer }
     ensures in_order { IsInOrder state.new.scopes state.new.around (asking_over Q.opening Q.pass Q.seen port.new) }
     ensures funded { IsFunded state.new.around (asking_over Q.opening Q.pass Q.seen port.new) }

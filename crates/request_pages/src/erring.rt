@@ -7,10 +7,11 @@ ghost use Rattle.compiled_pages.specs.Pages.{needs_at};
 ghost use Rattle.page_meaning.specs.Page.{Page};
 ghost use Rattle.page_meaning.specs.State.{State};
 ghost use Rattle.run_pages.specs.Meant.{served_at};
-ghost use Rattle.request_pages.specs.Chained.{asking_over, params_of};
-ghost use Rattle.request_pages.specs.Closed.{Closed, Reached, fault_answers};
+ghost use Rattle.request_pages.specs.Chained.{params_of};
+ghost use Rattle.request_pages.specs.Closed.{ClosesUncommitted, fault_answers};
 ghost use Rattle.request_pages.specs.Headed.{IsHeaded};
 ghost use Rattle.request_pages.specs.Played.{IsFunded};
+ghost use Rattle.request_pages.specs.Point.{asking_over, point_of};
 ghost use Rattle.request_port.specs.Leading.{IsLast, Leads};
 ghost use Rattle.run_world.specs.Origin.{Origin};
 ghost use Rattle.run_world.specs.Seats.{raise_of};
@@ -49,17 +50,11 @@ pub(crate) fn run_error<'a, Q: Port<Made>, L: Ledger, K: Sink>(
         × StandsFor origin state.old.scopes state.old.writer (K.taken sink.old) (K.faults sink.old)
         state.old.around (asking_over Q.opening Q.pass Q.seen port.old) s × (s.writer.pieces ≡ []) }
     ensures closed { (path : List ℕ) → IsProgramOf (arc_value failure.program) port.old.tree.now path →
-        (page : Page) → IsPageAt page port.old.tree.now path
-        → (origin : Origin) (s : State) → StandsFor origin state.old.scopes state.old.writer
-        (K.taken sink.old) (K.faults sink.old) state.old.around
-        (asking_over Q.opening Q.pass Q.seen port.old) s → s.writer.pieces ≡ []
-        → Closed (fault_answers (served_at port.old.tree.now incoming.entry.request.now
-        state.old.around) page (params_of incoming.entry.request.now failure.own)
-        (raise_of failure.raise))
-        (Reached origin state.new.scopes state.new.writer (K.taken sink.new) (K.faults sink.new)
-        state.new.around (asking_over Q.opening Q.pass Q.seen port.new)) s
-        (asking_over Q.opening Q.pass Q.seen port.old).answers
-        (asking_over Q.opening Q.pass Q.seen port.new).answers state.new.writer result }
+        (page : Page) → IsPageAt page port.old.tree.now path → ClosesUncommitted
+        (fault_answers (served_at port.old.tree.now incoming.entry.request.now state.old.around) page
+        (params_of incoming.entry.request.now failure.own) (raise_of failure.raise))
+        (point_of K.taken K.faults state.old sink.old (asking_over Q.opening Q.pass Q.seen port.old))
+        (point_of K.taken K.faults state.new sink.new (asking_over Q.opening Q.pass Q.seen port.new)) result }
     ensures headed { IsHeaded incoming.entry.close incoming.entry.shown state.new.around state.new.writer }
     ensures in_order { OnOk result (IsInOrder state.new.scopes state.new.around
         (asking_over Q.opening Q.pass Q.seen port.new)) }

@@ -1,21 +1,17 @@
 // What comes instead of a page whose run a fault ended before anything was committed.
-ghost use Rattle.std.specs.Prelude.{◌≡◌, ◌≤◌, ℕ, List, []};
+ghost use Rattle.std.specs.Prelude.{◌≡◌, ◌≤◌, ℕ, List};
 ghost use Rattle.std.specs.Arc.{arc_value};
-ghost use Rattle.std.specs.declared.option.Option.{Option};
 ghost use Rattle.http_in.specs.declared.params.Param.{Param};
-ghost use Rattle.out_buffer.specs.Held.{Held};
-ghost use Rattle.page_machine.specs.Run.{IsInOrder, StandsFor};
+ghost use Rattle.page_machine.specs.Run.{IsInOrder};
 ghost use Rattle.compiled_pages.specs.Made.{IsPageAt, IsProgramOf};
 ghost use Rattle.compiled_pages.specs.Pages.{needs_at, paged_at};
 ghost use Rattle.page_meaning.specs.Context.{Served};
 ghost use Rattle.page_meaning.specs.Page.{Page};
-ghost use Rattle.page_meaning.specs.State.{State};
-ghost use Rattle.request_pages.specs.Chained.{asking_over};
-ghost use Rattle.request_pages.specs.Closed.{Reached, fault_answers};
-ghost use Rattle.request_pages.specs.Instead.{ComesInstead, UnlessShort};
+ghost use Rattle.request_pages.specs.Closed.{fault_answers};
+ghost use Rattle.request_pages.specs.Instead.{FindsInstead, UnlessShort};
 ghost use Rattle.request_pages.specs.Played.{IsFunded};
+ghost use Rattle.request_pages.specs.Point.{asking_over};
 ghost use Rattle.request_port.specs.Leading.{Leads};
-ghost use Rattle.run_world.specs.Origin.{Origin};
 ghost use Rattle.run_world.specs.Seats.{raise_of};
 ghost use Rattle.scopes.specs.Scopes.{ScopeState};
 
@@ -54,17 +50,11 @@ pub(crate) fn find_instead<'a, Q: Port<Made>, L: Ledger>(
     requires charge { around.old.charge ≤ MAX_ASKED_CHARGE }
     requires funded { IsFunded around.old (asking_over Q.opening Q.pass Q.seen port.old) }
     ensures found { (path : List ℕ) → IsProgramOf (arc_value failure.now.program) port.old.tree.now path →
-        (page : Page) → IsPageAt page port.old.tree.now path
-        → (served : Served) → ((p : List ℕ) → served.pages p ≡ paged_at port.old.tree.now p) →
-        (params : List Param) (origin : Origin) (scopes : ScopeState) (held : Held)
-        (taken : Option (List ℕ)) (faults : ℕ) (s : State) → StandsFor origin scopes held taken faults
-        around.old (asking_over Q.opening Q.pass Q.seen port.old) s → s.writer.pieces ≡ []
-        → ComesInstead (fault_answers served page params (raise_of failure.now.raise)) port.old.tree.now
-        page (raise_of failure.now.raise) (StandsFor origin scopes held taken faults around.new
-        (asking_over Q.opening Q.pass Q.seen port.new)) (Reached origin scopes held taken faults
-        around.new (asking_over Q.opening Q.pass Q.seen port.new)) s
-        (asking_over Q.opening Q.pass Q.seen port.old).answers
-        (asking_over Q.opening Q.pass Q.seen port.new).answers held result }
+        (page : Page) → IsPageAt page port.old.tree.now path → (served : Served) →
+        ((p : List ℕ) → served.pages p ≡ paged_at port.old.tree.now p) → (params : List Param) → FindsInstead
+        (fault_answers served page params (raise_of failure.now.raise)) port.old.tree.now page
+        (raise_of failure.now.raise) around.old around.new (asking_over Q.opening Q.pass Q.seen port.old)
+        (asking_over Q.opening Q.pass Q.seen port.new) result }
     ensures in_order { (scopes : ScopeState) →
         IsInOrder scopes around.old (asking_over Q.opening Q.pass Q.seen port.old) →
         UnlessShort result (IsInOrder scopes around.new (asking_over Q.opening Q.pass Q.seen port.new)) }
