@@ -1,9 +1,11 @@
 //! The machine that runs the code of pages.
 #![tactic(auto)]
 
+mod asked_page;
 mod calls;
 mod pages;
 mod running;
 mod turn;
 
+pub use asked_page::AskedPage;
 pub use running::{RunEnd, run};

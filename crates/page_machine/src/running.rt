@@ -12,6 +12,7 @@ ghost use Rattle.run_stage.specs.Keeping.{HasCharged, KeepsResponse, KeepsSessio
 ghost use Rattle.run_world.specs.Origin.{Origin};
 ghost use Rattle.run_world.specs.Programs.{program_of};
 
+use crate::asked_page::AskedPage;
 use crate::pages::{PageStart, enter_page};
 use edges::Sink;
 use http_in::{Param, Request};
@@ -42,9 +43,7 @@ pub enum RunEnd {
 /// that of the target where the page ends by a forward.
 pub fn run<P: AppPort<Program>, K: Sink>(
     alloc: Global,
-    program: &Program,
-    request: &Request,
-    params: &[Param],
+    asked: AskedPage,
     scopes: &mut Scopes,
     writer: &mut Writer,
     sink: &mut K,
@@ -53,13 +52,13 @@ pub fn run<P: AppPort<Program>, K: Sink>(
 ) -> RunEnd
     requires in_order { IsInOrder scopes.old around.old (P.asking port.old) }
     requires promise { RUN_PROMISE ≤ around.old.charge + (P.asking port.old).left }
-    requires served { IsServed P.made P.faulty (P.tree port.old) request.now around.old }
+    requires served { IsServed P.made P.faulty (P.tree port.old) asked.request.now around.old }
     requires writer { (start : Option (List ℕ)) × (before : ℕ) × (written : Written) × Stands start
         before writer.old (K.taken sink.old) (K.faults sink.old) written }
-    ensures ran { (serving : Serving) → Serves P.made P.faulty (P.tree port.old) request.now around.old
+    ensures ran { (serving : Serving) → Serves P.made P.faulty (P.tree port.old) asked.entry.request.now around.old
         serving → (origin : Origin) (s : State) → StandsFor origin scopes.old writer.old (K.taken sink.old)
         (K.faults sink.old) around.old (P.asking port.old) s
-        → PageRan serving (program_of program.now) params.now (level_limit - around.old.depth)
+        → PageRan serving (program_of asked.entry.program.now) asked.entry.params.now (level_limit - around.old.depth)
         (StandsFor origin scopes.new writer.new (K.taken sink.new) (K.faults sink.new) around.new
         (P.asking port.new)) s (P.asking port.old).answers (P.asking port.new).answers around.new.depth result }
     ensures in_order { IsInOrder scopes.new around.new (P.asking port.new) }
@@ -81,11 +80,11 @@ pub fn run<P: AppPort<Program>, K: Sink>(
         port,
     };
     let start = PageStart {
-        program,
-        params,
+        program: asked.program,
+        params: asked.params,
         left,
     };
-    let end = run_with_exception(alloc, start, request, &exception, &mut stage);
+    let end = run_with_exception(alloc, start, asked.request, &exception, &mut stage);
     stage.around.exception = exception;
     end_run(end, stage.around)
 }

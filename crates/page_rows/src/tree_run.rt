@@ -19,7 +19,7 @@ use source_tree::Tree;
 use std::alloc::{AllocError, Global};
 use std::mem;
 use std::sync::ledger::{Blank, Ledger};
-use tree_pages::run_at;
+use tree_pages::{TreePage, run_at};
 use tree_site::TreeSite;
 
 // What is kept across page runs where this one begins. Of counts over their limits the limit is
@@ -72,12 +72,15 @@ pub fn run_page<N: Ledger>(
     let (depth, visits) = (surroundings.depth, surroundings.visits);
     let mut around = beginning(depth, visits, charge, session, exception);
     let mut steps = Steps::<Counting<N>>::counting(blank);
-    let end = run_at(
-        alloc,
+    let page = TreePage {
         tree,
         path,
-        &surroundings.request,
-        &surroundings.params,
+        request: &surroundings.request,
+        params: surroundings.params.as_slice(),
+    };
+    let end = run_at(
+        alloc,
+        page,
         &mut scopes,
         &mut writer,
         &mut sink,

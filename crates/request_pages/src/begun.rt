@@ -13,12 +13,11 @@ ghost use Rattle.run_stage.specs.Keeping.{HasCharged, KeepsResponse, KeepsSessio
 ghost use Rattle.run_world.specs.Origin.{Origin};
 
 use crate::body::Body;
-use crate::page_run::PageRun;
 use crate::reply::{PageEnd, Reply};
 use crate::request_state::RequestState;
 use edges::Sink;
 use http_out::Status;
-use page_machine::RunEnd;
+use page_machine::{AskedPage, RunEnd};
 use page_meaning::{depth, parts};
 use run_pages::run_program;
 use run_stage::RUN_PROMISE;
@@ -29,7 +28,7 @@ use std::alloc::{AllocError, Global};
 /// Runs a page whose run has begun, and whose Fetch was charged before.
 pub(crate) fn run_begun<P: AppPort<Program>, K: Sink>(
     alloc: Global,
-    run: PageRun,
+    asked: AskedPage,
     state: &mut RequestState,
     sink: &mut K,
     port: &mut P,
@@ -39,12 +38,12 @@ pub(crate) fn run_begun<P: AppPort<Program>, K: Sink>(
     requires promise { RUN_PROMISE ≤ state.old.around.charge + (P.asking port.old).left }
     requires writer { (start : Option (List ℕ)) × (before : ℕ) × (written : Wrote) × Stands start before
         state.old.writer (K.taken sink.old) (K.faults sink.old) written }
-    ensures ended { (path : List ℕ) → IsProgramOf run.entry.program.now (P.tree port.old) path →
+    ensures ended { (path : List ℕ) → IsProgramOf asked.entry.program.now (P.tree port.old) path →
         (page : Page) → IsPageAt page (P.tree port.old) path
         → (origin : Origin) (s : State) → StandsFor origin state.old.scopes state.old.writer
         (K.taken sink.old) (K.faults sink.old) state.old.around (P.asking port.old) s
-        → PageEnded (served_at (P.tree port.old) run.entry.request.now state.old.around) page
-        run.entry.params.now (level_limit - state.old.around.depth) (StandsFor origin
+        → PageEnded (served_at (P.tree port.old) asked.entry.request.now state.old.around) page
+        asked.entry.params.now (level_limit - state.old.around.depth) (StandsFor origin
         state.new.scopes state.new.writer (K.taken sink.new) (K.faults sink.new) state.new.around
         (P.asking port.new)) s (P.asking port.old).answers (P.asking port.new).answers
         state.new.around.depth state.new.writer result }
@@ -60,9 +59,7 @@ pub(crate) fn run_begun<P: AppPort<Program>, K: Sink>(
     parts();
     let end = run_program(
         alloc,
-        run.program,
-        run.request,
-        run.params,
+        asked,
         &mut state.scopes,
         &mut state.writer,
         sink,

@@ -20,7 +20,6 @@ ghost use Rattle.source_tree.specs.declared.file.File.{File};
 
 use crate::delivery::Delivery;
 use crate::incoming::Incoming;
-use crate::page_run::PageRun;
 use crate::reply::{PageEnd, Reply};
 use crate::request_state::RequestState;
 use crate::running::run_page;
@@ -29,6 +28,7 @@ use compiled_pages::Made;
 use edges::{Ledger, Sink};
 use http_in::{Param, Request};
 use http_out::Status;
+use page_machine::AskedPage;
 use pg_text::{Listed, Path};
 use request_port::RequestPort;
 use response_laws::responses;
@@ -99,7 +99,7 @@ pub(crate) fn run_chain<'a, Q: Port<Made>, L: Ledger, K: Sink>(
 {
     responses();
     let params = params_of(incoming.request, &chain.own);
-    let run = PageRun {
+    let asked = AskedPage {
         program: &*chain.program,
         request: incoming.request,
         params,
@@ -110,7 +110,7 @@ pub(crate) fn run_chain<'a, Q: Port<Made>, L: Ledger, K: Sink>(
         close: incoming.close,
         shown: incoming.shown,
     };
-    match run_page(alloc, run, delivery, state, sink, port) {
+    match run_page(alloc, asked, delivery, state, sink, port) {
         Err(AllocError) => Err(AllocError),
         Ok(PageEnd::Done(reply)) => Ok(ChainEnd::Done(reply)),
         Ok(PageEnd::Failed(raise)) => Ok(ChainEnd::Failed(failed(raise, chain))),

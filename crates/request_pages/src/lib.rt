@@ -10,7 +10,6 @@ mod erring;
 mod incoming;
 mod instead;
 mod looking;
-mod page_run;
 mod reply;
 mod request_state;
 mod running;

@@ -12,10 +12,10 @@ ghost use Rattle.run_world.specs.Origin.{Origin};
 
 use crate::begun::run_begun;
 use crate::delivery::Delivery;
-use crate::page_run::PageRun;
 use crate::reply::PageEnd;
 use crate::request_state::{RequestState, begin_page};
 use edges::Sink;
+use page_machine::AskedPage;
 use page_meaning::{depth, parts};
 use run_world::Program;
 use site_words::AppPort;
@@ -24,7 +24,7 @@ use std::alloc::{AllocError, Global};
 /// Runs a page from its beginning. Its Fetch was charged before, and nothing was committed.
 pub(crate) fn run_page<P: AppPort<Program>, K: Sink>(
     alloc: Global,
-    run: PageRun,
+    asked: AskedPage,
     delivery: Delivery,
     state: &mut RequestState,
     sink: &mut K,
@@ -36,15 +36,15 @@ pub(crate) fn run_page<P: AppPort<Program>, K: Sink>(
     requires in_order { IsInOrder state.old.scopes state.old.around (P.asking port.old) }
     requires funded { IsFunded state.old.around (P.asking port.old) }
     requires stands { (page : Page) × (path : List ℕ) × (origin : Origin) × (s : State) × IsProgramOf
-        run.program.now (P.tree port.old) path × IsPageAt page (P.tree port.old) path
+        asked.program.now (P.tree port.old) path × IsPageAt page (P.tree port.old) path
         × StandsFor origin state.old.scopes state.old.writer (K.taken sink.old) (K.faults sink.old)
         state.old.around (P.asking port.old) s }
-    ensures played { (path : List ℕ) → IsProgramOf run.entry.program.now (P.tree port.old) path →
+    ensures played { (path : List ℕ) → IsProgramOf asked.entry.program.now (P.tree port.old) path →
         (page : Page) → IsPageAt page (P.tree port.old) path
         → (origin : Origin) (s : State) → StandsFor origin state.old.scopes state.old.writer
         (K.taken sink.old) (K.faults sink.old) state.old.around (P.asking port.old) s
-        → Played (served_at (P.tree port.old) run.entry.request.now state.old.around) delivery.status page
-        run.entry.params.now (level_limit - state.old.around.depth) (StandsFor origin
+        → Played (served_at (P.tree port.old) asked.entry.request.now state.old.around) delivery.status page
+        asked.entry.params.now (level_limit - state.old.around.depth) (StandsFor origin
         state.new.scopes state.new.writer (K.taken sink.new) (K.faults sink.new) state.new.around
         (P.asking port.new)) s (P.asking port.old).answers (P.asking port.new).answers
         state.new.around.depth state.new.writer result }
@@ -59,8 +59,8 @@ pub(crate) fn run_page<P: AppPort<Program>, K: Sink>(
 {
     depth();
     parts();
-    let Ok(()) = begin_page(alloc, run.program, delivery, state) else {
+    let Ok(()) = begin_page(alloc, asked.program, delivery, state) else {
         return Err(AllocError);
     };
-    run_begun(alloc, run, state, sink, port)
+    run_begun(alloc, asked, state, sink, port)
 }

@@ -12,9 +12,8 @@ ghost use Rattle.run_world.specs.Origin.{Origin};
 
 use code_lowering::programs;
 use edges::Sink;
-use http_in::{Param, Request};
 use out_buffer::Writer;
-use page_machine::{RunEnd, run};
+use page_machine::{AskedPage, RunEnd, run};
 use run_stage::RUN_PROMISE;
 use run_world::{Around, Program};
 use scopes::Scopes;
@@ -25,9 +24,7 @@ use std::alloc::Global;
 /// its tree.
 pub fn run_program<P: AppPort<Program>, K: Sink>(
     alloc: Global,
-    program: &Program,
-    request: &Request,
-    params: &[Param],
+    asked: AskedPage,
     scopes: &mut Scopes,
     writer: &mut Writer,
     sink: &mut K,
@@ -39,14 +36,14 @@ pub fn run_program<P: AppPort<Program>, K: Sink>(
     requires promise { RUN_PROMISE ≤ around.old.charge + (P.asking port.old).left }
     requires writer { (start : Option (List ℕ)) × (before : ℕ) × (written : Written) × Stands start
         before writer.old (K.taken sink.old) (K.faults sink.old) written }
-    ensures meant { (path : List ℕ) → IsProgramOf program.now (P.tree port.old) path → (page : Page) →
-        IsPageAt page (P.tree port.old) path
+    ensures meant { (path : List ℕ) → IsProgramOf asked.entry.program.now (P.tree port.old) path →
+        (page : Page) → IsPageAt page (P.tree port.old) path
         → (origin : Origin) (s : State) → StandsFor origin scopes.old writer.old (K.taken sink.old)
         (K.faults sink.old) around.old (P.asking port.old) s
-        → PageMeant (served_at (P.tree port.old) request.now around.old) page params.now
-        (level_limit - around.old.depth) (StandsFor origin scopes.new writer.new (K.taken sink.new)
-        (K.faults sink.new) around.new (P.asking port.new)) s (P.asking port.old).answers
-        (P.asking port.new).answers around.new.depth result }
+        → PageMeant (served_at (P.tree port.old) asked.entry.request.now around.old) page
+        asked.entry.params.now (level_limit - around.old.depth) (StandsFor origin scopes.new writer.new
+        (K.taken sink.new) (K.faults sink.new) around.new (P.asking port.new)) s
+        (P.asking port.old).answers (P.asking port.new).answers around.new.depth result }
     ensures in_order { IsInOrder scopes.new around.new (P.asking port.new) }
     ensures charged { HasCharged around.old around.new (P.asking port.old) (P.asking port.new) }
     ensures depth { DepthSo around.old.depth around.new.depth result }
@@ -57,7 +54,5 @@ pub fn run_program<P: AppPort<Program>, K: Sink>(
     ensures leads { P.leads port.old port.new }
 {
     programs();
-    run(
-        alloc, program, request, params, scopes, writer, sink, around, port,
-    )
+    run(alloc, asked, scopes, writer, sink, around, port)
 }

@@ -4,6 +4,8 @@
 
 mod making;
 mod running;
+mod tree_page;
 
 pub use making::make;
 pub use running::{TreeEnd, run_at};
+pub use tree_page::TreePage;

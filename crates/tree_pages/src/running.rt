@@ -13,18 +13,17 @@ ghost use Rattle.tree_pages.specs.Came.{ComesSo, IsUntouched, KeepsDepth, StepsS
 ghost use Rattle.unit_source.specs.Files.{text_in};
 
 use crate::making::make;
+use crate::tree_page::TreePage;
 use compiled_pages::{Made, MadeBody};
 use edges::{Ledger, Sink, Steps};
-use http_in::{Param, Request};
 use out_buffer::Writer;
-use page_machine::RunEnd;
-use pg_text::{PageFault, Path};
+use page_machine::{AskedPage, RunEnd};
+use pg_text::PageFault;
 use run_pages::run_program;
 use run_stage::RUN_PROMISE;
 use run_world::{Around, Program};
 use scopes::Scopes;
 use site_words::AppPort;
-use source_tree::Tree;
 use std::alloc::Global;
 
 /// What comes of the page at a path: it has a fault, it ran, or memory ran out before it could
@@ -41,10 +40,7 @@ pub enum TreeEnd {
 /// needs, each once.
 pub fn run_at<P: AppPort<Program>, K: Sink, L: Ledger>(
     alloc: Global,
-    tree: &Tree,
-    path: &Path,
-    request: &Request,
-    params: &[Param],
+    asked: TreePage,
     scopes: &mut Scopes,
     writer: &mut Writer,
     sink: &mut K,
@@ -52,21 +48,21 @@ pub fn run_at<P: AppPort<Program>, K: Sink, L: Ledger>(
     port: &mut P,
     steps: &mut Steps<L>,
 ) -> TreeEnd
-    requires limits { IsWithinLimits tree.now }
-    requires stands { IsSome (text_in tree.now path.now) }
-    requires tree { P.tree port.old ≡ tree.now }
+    requires limits { IsWithinLimits asked.tree.now }
+    requires stands { IsSome (text_in asked.tree.now asked.path.now) }
+    requires tree { P.tree port.old ≡ asked.tree.now }
     requires tells { TellsPages P.made P.faulty }
     requires in_order { IsInOrder scopes.old around.old (P.asking port.old) }
     requires promise { RUN_PROMISE ≤ around.old.charge + (P.asking port.old).left }
     requires writer { (start : Option (List ℕ)) × (before : ℕ) × (written : Written) × Stands start
         before writer.old (K.taken sink.old) (K.faults sink.old) written }
-    ensures meant { ComesSo tree.now path.now (λ page end. (origin : Origin) (s : State) →
+    ensures meant { ComesSo asked.entry.tree.now asked.entry.path.now (λ page end. (origin : Origin) (s : State) →
         StandsFor origin scopes.old writer.old (K.taken sink.old) (K.faults sink.old) around.old (P.asking port.old) s
-        → PageMeant (served_at tree.now request.now around.old) page params.now
+        → PageMeant (served_at asked.entry.tree.now asked.entry.request.now around.old) page asked.entry.params.now
         (level_limit - around.old.depth) (StandsFor origin scopes.new writer.new (K.taken sink.new)
         (K.faults sink.new) around.new (P.asking port.new)) s (P.asking port.old).answers
         (P.asking port.new).answers around.new.depth end) result }
-    ensures steps { StepsSo tree.now path.now steps.old steps.new result }
+    ensures steps { StepsSo asked.entry.tree.now asked.entry.path.now steps.old steps.new result }
     ensures scopes { IsUntouched scopes.old scopes.new result }
     ensures writer { IsUntouched writer.old writer.new result }
     ensures sink { IsUntouched sink.old sink.new result }
@@ -78,10 +74,10 @@ pub fn run_at<P: AppPort<Program>, K: Sink, L: Ledger>(
     ensures session { KeepsSession around.old around.new }
     ensures response { KeepsResponse writer.old writer.new around.old around.new }
     ensures exception { around.new.exception ≡ around.old.exception }
-    ensures tree { P.tree port.new ≡ tree.now }
+    ensures tree { P.tree port.new ≡ asked.entry.tree.now }
     ensures leads { P.leads port.old port.new }
 {
-    let Ok(made) = make(alloc, tree, path, steps) else {
+    let Ok(made) = make(alloc, asked.tree, asked.path, steps) else {
         return TreeEnd::NoMemory;
     };
     let Made { deps: _deps, body } = made;
@@ -89,7 +85,10 @@ pub fn run_at<P: AppPort<Program>, K: Sink, L: Ledger>(
         MadeBody::Program(program) => program,
         MadeBody::Fault(fault) => return TreeEnd::Faulty(fault),
     };
-    TreeEnd::Ran(run_program(
-        alloc, &program, request, params, scopes, writer, sink, around, port,
-    ))
+    let page = AskedPage {
+        program: &program,
+        request: asked.request,
+        params: asked.params,
+    };
+    TreeEnd::Ran(run_program(alloc, page, scopes, writer, sink, around, port))
 }

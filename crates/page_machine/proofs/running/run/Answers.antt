@@ -42,7 +42,7 @@ returns-clause-ran g c = λ serving serves origin s stands.
     let sink = c.sink-1.given.1 (sym r.same.sink) in
     let kept = c.around-1.given.1 (sym r.same.around) ∙ c.end_run.ensures.around in
     let port = c.port-1.given.1 (sym r.same.port) in
-    page_ran serving (program_of c.args.program.now) c.args.params.now c.saturating_sub-left.result _ _ _ s _ _ _ c.run_with_exception-end.result around.depth _ c.end_run.result
+    page_ran serving (program_of c.args.asked.program.now) c.args.asked.params.now c.saturating_sub-left.result _ _ _ s _ _ _ c.run_with_exception-end.result around.depth _ c.end_run.result
     (λ t reached. stands_back g.K.Sink.taken g.K.Sink.faults g.P.AppPort.asking origin w.scopes.now _ w.writer.now _ w.sink.now _ _ _ w.port.now _ t scopes writer sink kept port
     (stands_aside origin w.scopes.now w.writer.now (g.K.Sink.taken w.sink.now) (g.K.Sink.faults w.sink.now) w.around.now (g.P.AppPort.asking w.port.now) t _ _ (given_back _ w origin t reached)))
     c.saturating_sub-left.ensures (ap (λ x. (g.P.AppPort.asking x).answers) port) c.end_run.ensures.end (ap (λ (a : Around). a.depth) kept ∙ ap (λ d. depth_behind d c.run_with_exception-end.result) r.depth) run

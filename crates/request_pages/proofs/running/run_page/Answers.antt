@@ -13,7 +13,7 @@ pub begin_page-requires-clause-buffered : goal.begin_page-requires-clause-buffer
 begin_page-requires-clause-buffered g c =
     let (page, path, origin, s, made, is, stands) = c.requires.stands in
     let tree = g.P.AppPort.tree c.args.port.now in
-    subst (λ (x : PageSettings). ForSome x.buffer (λ size. 0 < size)) (sym (settings_same c.args.run.program.now tree path page made is)) (page_above tree path page is)
+    subst (λ (x : PageSettings). ForSome x.buffer (λ size. 0 < size)) (sym (settings_same c.args.asked.program.now tree path page made is)) (page_above tree path page is)
 
 pub returns-in_default-clause-played : goal.returns-in_default-clause-played
 returns-in_default-clause-played g c = λ path made page is origin s stands.
@@ -27,13 +27,13 @@ returns-in_default-clause-played g c = λ path made page is origin s stands.
 pub run_begun-requires-clause-writer : goal.run_begun-requires-clause-writer
 run_begun-requires-clause-writer g c =
     let (page, path, origin, s, made, is, stands) = c.requires.stands in
-    let begun = c.in-Ok.ensures.stands origin (g.K.Sink.taken c.args.sink.now) (g.K.Sink.faults c.args.sink.now) (g.P.AppPort.asking c.args.port.now) s page (settings_same c.args.run.program.now (g.P.AppPort.tree c.args.port.now) path page made is) stands in
+    let begun = c.in-Ok.ensures.stands origin (g.K.Sink.taken c.args.sink.now) (g.K.Sink.faults c.args.sink.now) (g.P.AppPort.asking c.args.port.now) s page (settings_same c.args.asked.program.now (g.P.AppPort.tree c.args.port.now) path page made is) stands in
     (origin.start, origin.before, _, begun.writer)
 
 pub returns-clause-played : goal.returns-clause-played
 returns-clause-played g c = λ path made page is origin s stands.
     let tree = g.P.AppPort.tree c.args.port.now in
-    let settings = settings_same c.args.run.program.now tree path page made is in
+    let settings = settings_same c.args.asked.program.now tree path page made is in
     let begun = c.in-Ok.ensures.stands origin (g.K.Sink.taken c.args.sink.now) (g.K.Sink.faults c.args.sink.now) (g.P.AppPort.asking c.args.port.now) s page settings stands in
     let head = c.run_begun.ensures.response.head in
     let st = ap (λ h. h.status) head ∙ (after_status c.begin_page.new.state.writer.head _ _ _ ∙ ap (λ h. h.status) c.in-Ok.ensures.head) in
@@ -46,4 +46,4 @@ returns-in_default-clause-headed g c = subst (λ (x : RequestState). IsHeaded c.
 pub returns-clause-headed : goal.returns-clause-headed
 returns-clause-headed g c =
     headed_on c.args.delivery.close c.args.delivery.shown c.begin_page.new.state.around c.run_begun.new.state.around c.begin_page.new.state.writer c.run_begun.new.state.writer c.run_begun.ensures.response c.run_begun.ensures.session
-    (record { status = c.args.delivery.status; content_type = Some c.args.run.program.now.settings.content_type; head = c.in-Ok.ensures.head; shown_is = c.in-Ok.ensures.shown })
+    (record { status = c.args.delivery.status; content_type = Some c.args.asked.program.now.settings.content_type; head = c.in-Ok.ensures.head; shown_is = c.in-Ok.ensures.shown })

@@ -1,9 +1,10 @@
 use http_in::{Param, Request};
 use run_world::Program;
 
-/// The run of a page: its program, the request for which it runs, and its parameters.
+/// A page as it is asked for: its program, the request for which it runs, and the parameters of
+/// this run.
 #[derive(Clone, Copy)]
-pub(crate) struct PageRun<'a> {
+pub struct AskedPage<'a> {
     pub program: &'a Program,
     pub request: &'a Request,
     pub params: &'a [Param],
