@@ -6,7 +6,7 @@ use Rattle.http_out.specs.declared.status.Status.TheVariants as status
 use Rattle.out_buffer.specs.Held.{Held}
 use Rattle.page_machine.specs.declared.running.RunEnd.{RunEnd}
 use Rattle.page_machine.specs.declared.running.RunEnd.TheVariants as ends
-use Rattle.page_machine.specs.Run.{level_limit}
+use Rattle.page_machine.specs.Run.{StandsFor, level_limit}
 use Rattle.page_meaning.specs.Context.{Served}
 use Rattle.page_meaning.specs.Growth.{Grows, state_of}
 use Rattle.page_meaning.specs.Page.{Page}
@@ -15,10 +15,12 @@ use Rattle.page_meaning.specs.Response.{Answered, head_of, responds, rest_of}
 use Rattle.page_meaning.specs.State.{State}
 use Rattle.page_meaning.specs.Went.{Did}
 use Rattle.run_pages.specs.Meant.{page_mean}
+use Rattle.request_pages.specs.Point.{Point, PointStands}
 use Rattle.request_pages.specs.declared.reply.PageEnd.{PageEnd}
 use Rattle.request_pages.specs.declared.reply.PageEnd.TheVariants as page_end
 use Rattle.request_pages.specs.declared.reply.Reply.{Reply}
 use Rattle.request_pages.specs.declared.reply.Reply.TheVariants as reply
+use Rattle.run_world.specs.Origin.{Origin}
 use Rattle.run_world.specs.Part.{given}
 use Rattle.run_world.specs.Seats.{raise_of}
 use Rattle.site_words.specs.Law.{Answer}
@@ -62,6 +64,12 @@ pub record PageEnded (served : Served) (page : Page) (params : List Param) (left
   pub after : State
   pub stood : stands after
   pub ends : PageEndsSo (λ future. page_mean served left page params (given (got ++ future) s)) page params left depth held after result
+
+-- the same from each state for which one point of the request stands, to another
+abbrev pub EndsFrom : {E : Type 0} → Served → Page → List Param → (left : ℕ) → (old new : Point) → Result PageEnd E → Type 0
+EndsFrom served page params left old new result =
+    (origin : Origin) (s : State) → PointStands origin old s
+    → PageEnded served page params left (StandsFor origin new.state.scopes new.state.writer new.taken new.faults new.state.around new.asking) s old.asking.answers new.asking.answers new.state.around.depth new.state.writer result
 
 -- how a run ended, as its caller takes it: a fault behind a commit breaks the response off
 abbrev pub EndsBy : {E : Type 0} → (committed : Bool) → RunEnd → Result PageEnd E → Type 0

@@ -3,6 +3,7 @@ use Rattle.std.specs.Prelude.{◌≡◌, ◌+◌, ◌≤◌, ℕ, List, ◌++◌
 use Rattle.http_in.specs.declared.params.Param.{Param}
 use Rattle.http_out.specs.declared.status.Status.{Status}
 use Rattle.out_buffer.specs.Held.{Held}
+use Rattle.page_machine.specs.Run.{StandsFor}
 use Rattle.page_answers.specs.Dropped.{HeadsSo}
 use Rattle.page_meaning.specs.Context.{Served}
 use Rattle.page_meaning.specs.Growth.{Grows, state_of}
@@ -12,9 +13,11 @@ use Rattle.page_meaning.specs.Response.{Answered}
 use Rattle.page_meaning.specs.State.{State}
 use Rattle.page_meaning.specs.Went.{Did}
 use Rattle.request_pages.specs.PageEnd.{IsOpen, TargetSo, page_end_answer}
+use Rattle.request_pages.specs.Point.{Point, PointStands}
 use Rattle.request_pages.specs.Within.{sent_head}
 use Rattle.request_pages.specs.declared.reply.PageEnd.{PageEnd}
 use Rattle.run_stage.specs.declared.limits.TheConstants.{RUN_PROMISE}
+use Rattle.run_world.specs.Origin.{Origin}
 use Rattle.run_world.specs.Part.{given}
 use Rattle.run_world.specs.declared.around.Around.{Around}
 use Rattle.site_words.specs.Law.{Answer}
@@ -45,3 +48,9 @@ pub record Played (served : Served) (status : Status) (page : Page) (params : Li
   pub after : State
   pub stood : stands after
   pub ends : PlayedSo (λ future. first_run served left page params (given (got ++ future) s)) status page params left depth held after result
+
+-- the same from each state for which one point of the request stands, to another
+abbrev pub PlaysFrom : {E : Type 0} → Served → Status → Page → List Param → (left : ℕ) → (old new : Point) → Result PageEnd E → Type 0
+PlaysFrom served status page params left old new result =
+    (origin : Origin) (s : State) → PointStands origin old s
+    → Played served status page params left (StandsFor origin new.state.scopes new.state.writer new.taken new.faults new.state.around new.asking) s old.asking.answers new.asking.answers new.state.around.depth new.state.writer result

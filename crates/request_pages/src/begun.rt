@@ -3,14 +3,13 @@ ghost use Rattle.std.specs.Prelude.{◌≡◌, ◌+◌, ◌-◌, ◌≤◌, ℕ,
 ghost use Rattle.std.specs.declared.option.Option.{Option};
 ghost use Rattle.out_buffer.specs.Held.{Stands};
 ghost use Rattle.out_buffer.specs.Writer.{Writer as Wrote};
-ghost use Rattle.page_machine.specs.Run.{IsInOrder, StandsFor, level_limit};
+ghost use Rattle.page_machine.specs.Run.{IsInOrder, level_limit};
 ghost use Rattle.compiled_pages.specs.Made.{IsPageAt, IsProgramOf, TellsPages};
 ghost use Rattle.page_meaning.specs.Page.{Page};
-ghost use Rattle.page_meaning.specs.State.{State};
 ghost use Rattle.run_pages.specs.Meant.{served_at};
-ghost use Rattle.request_pages.specs.PageEnd.{EndsBy, PageEnded};
+ghost use Rattle.request_pages.specs.PageEnd.{EndsBy, EndsFrom};
+ghost use Rattle.request_pages.specs.Point.{point_of};
 ghost use Rattle.run_stage.specs.Keeping.{HasCharged, KeepsResponse, KeepsSession};
-ghost use Rattle.run_world.specs.Origin.{Origin};
 
 use crate::body::Body;
 use crate::reply::{PageEnd, Reply};
@@ -39,14 +38,11 @@ pub(crate) fn run_begun<P: AppPort<Program>, K: Sink>(
     requires writer { (start : Option (List ℕ)) × (before : ℕ) × (written : Wrote) × Stands start before
         state.old.writer (K.taken sink.old) (K.faults sink.old) written }
     ensures ended { (path : List ℕ) → IsProgramOf asked.entry.program.now (P.tree port.old) path →
-        (page : Page) → IsPageAt page (P.tree port.old) path
-        → (origin : Origin) (s : State) → StandsFor origin state.old.scopes state.old.writer
-        (K.taken sink.old) (K.faults sink.old) state.old.around (P.asking port.old) s
-        → PageEnded (served_at (P.tree port.old) asked.entry.request.now state.old.around) page
-        asked.entry.params.now (level_limit - state.old.around.depth) (StandsFor origin
-        state.new.scopes state.new.writer (K.taken sink.new) (K.faults sink.new) state.new.around
-        (P.asking port.new)) s (P.asking port.old).answers (P.asking port.new).answers
-        state.new.around.depth state.new.writer result }
+        (page : Page) → IsPageAt page (P.tree port.old) path → EndsFrom
+        (served_at (P.tree port.old) asked.entry.request.now state.old.around) page asked.entry.params.now
+        (level_limit - state.old.around.depth)
+        (point_of K.taken K.faults state.old sink.old (P.asking port.old))
+        (point_of K.taken K.faults state.new sink.new (P.asking port.new)) result }
     ensures in_order { IsInOrder state.new.scopes state.new.around (P.asking port.new) }
     ensures charged { HasCharged state.old.around state.new.around (P.asking port.old) (P.asking port.new) }
     ensures session { KeepsSession state.old.around state.new.around }

@@ -6,7 +6,8 @@ ghost use Rattle.page_meaning.specs.Page.{Page};
 ghost use Rattle.page_meaning.specs.State.{State};
 ghost use Rattle.run_pages.specs.Meant.{served_at};
 ghost use Rattle.request_pages.specs.Headed.{IsHeaded};
-ghost use Rattle.request_pages.specs.Played.{IsFunded, Played};
+ghost use Rattle.request_pages.specs.Played.{IsFunded, PlaysFrom};
+ghost use Rattle.request_pages.specs.Point.{point_of};
 ghost use Rattle.run_stage.specs.Keeping.{HasCharged, KeepsSession};
 ghost use Rattle.run_world.specs.Origin.{Origin};
 
@@ -40,14 +41,11 @@ pub(crate) fn run_page<P: AppPort<Program>, K: Sink>(
         × StandsFor origin state.old.scopes state.old.writer (K.taken sink.old) (K.faults sink.old)
         state.old.around (P.asking port.old) s }
     ensures played { (path : List ℕ) → IsProgramOf asked.entry.program.now (P.tree port.old) path →
-        (page : Page) → IsPageAt page (P.tree port.old) path
-        → (origin : Origin) (s : State) → StandsFor origin state.old.scopes state.old.writer
-        (K.taken sink.old) (K.faults sink.old) state.old.around (P.asking port.old) s
-        → Played (served_at (P.tree port.old) asked.entry.request.now state.old.around) delivery.status page
-        asked.entry.params.now (level_limit - state.old.around.depth) (StandsFor origin
-        state.new.scopes state.new.writer (K.taken sink.new) (K.faults sink.new) state.new.around
-        (P.asking port.new)) s (P.asking port.old).answers (P.asking port.new).answers
-        state.new.around.depth state.new.writer result }
+        (page : Page) → IsPageAt page (P.tree port.old) path → PlaysFrom
+        (served_at (P.tree port.old) asked.entry.request.now state.old.around) delivery.status page
+        asked.entry.params.now (level_limit - state.old.around.depth)
+        (point_of K.taken K.faults state.old sink.old (P.asking port.old))
+        (point_of K.taken K.faults state.new sink.new (P.asking port.new)) result }
     ensures headed { IsHeaded delivery.close delivery.shown state.new.around state.new.writer }
     ensures in_order { IsInOrder state.new.scopes state.new.around (P.asking port.new) }
     ensures funded { IsFunded state.new.around (P.asking port.new) }
