@@ -1,3 +1,2 @@
 pub mod ApartLemmas
 pub mod Loops
-pub mod StartLemmas
