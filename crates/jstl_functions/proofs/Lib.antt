@@ -1,5 +1,4 @@
 pub mod Contents
-pub mod Joins
 pub mod Low
 pub mod Places
 pub mod Replaces
