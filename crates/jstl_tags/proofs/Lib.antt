@@ -1,4 +1,3 @@
-pub mod AroundLemmas
 pub mod NameLemmas
 pub mod NamesFaults
 pub mod PartLemmas
