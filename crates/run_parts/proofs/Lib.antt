@@ -4,5 +4,4 @@ pub mod Lookups
 pub mod ObjectLemmas
 pub mod Operates
 pub mod PropertySets
-pub mod ValueSet
 pub mod Visits
