@@ -6,7 +6,6 @@ pub mod PictureLemmas
 pub mod SoloLemmas
 pub mod Lasts
 pub mod ReplyLemmas
-pub mod Items
 pub mod SiteCross
 pub mod Resting
 pub mod Packing
