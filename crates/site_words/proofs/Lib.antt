@@ -9,8 +9,6 @@ pub mod Numbers
 pub mod Good
 pub mod Sound
 pub mod Gifts
-pub mod Charge
 pub mod Apart
-pub mod Counts
 pub mod RunTree
 pub mod WordsCross
