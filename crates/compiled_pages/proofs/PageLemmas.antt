@@ -7,9 +7,9 @@ use Rattle.compiled_pages.specs.Made.{IsFaultOf, IsPageAt, TellsPages}
 use Rattle.compiled_pages.specs.Pages.{found_as, page_at, page_read, paged_at, unit_in}
 use Rattle.compiled_pages.specs.Stored.{stored_at}
 use Rattle.code_lowering.specs.Programs as lowering
-use Rattle.page_meaning.specs.Context.{Paged, absent, plain, bad, good}
-use Rattle.page_meaning.specs.Page.{Page}
-use Rattle.page_table.specs.Program as table
+use Rattle.unit_meaning.specs.Context.{Paged, absent, plain, bad, good}
+use Rattle.unit_meaning.specs.Page.{Page}
+use Rattle.run_world.specs.Program as table
 use Rattle.pg_text.specs.declared.place.PageFault.{PageFault}
 use Rattle.run_world.specs.Programs.{stored_of}
 use Rattle.run_world.specs.declared.program.Program.{Program}

@@ -6,7 +6,7 @@ use Rattle.compiled_pages.specs.Pages.{unit_in, page_at, needs_at}
 use Rattle.compiled_pages.specs.declared.made.Made.{Made}
 use Rattle.compiled_pages.specs.declared.made.MadeBody.{MadeBody}
 use Rattle.compiled_pages.specs.declared.made.MadeBody.TheVariants as kept
-use Rattle.page_meaning.specs.Page.{Page}
+use Rattle.unit_meaning.specs.Page.{Page}
 use Rattle.unit_meaning.specs.Shape.{page_of}
 use Rattle.pg_text.specs.declared.place.PageFault.{PageFault}
 use Rattle.run_world.specs.Programs.{program_of}

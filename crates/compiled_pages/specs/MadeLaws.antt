@@ -9,7 +9,7 @@ use Rattle.compiled_pages.specs.Pages.{needs_at, page_at, page_read, unit_in, un
 use Rattle.compiled_pages.specs.declared.made.Made.{Made}
 use Rattle.compiled_pages.specs.declared.made.MadeBody.{MadeBody}
 use Rattle.compiled_pages.specs.declared.made.MadeBody.TheVariants as kept
-use Rattle.page_meaning.specs.Page.{Page}
+use Rattle.unit_meaning.specs.Page.{Page}
 use Rattle.unit_meaning.specs.Shape.{page_of}
 use Rattle.pg_text.specs.declared.place.PageFault.{PageFault}
 use Rattle.site_words.specs.Trees.{OneHistory, agrees}

@@ -1,8 +1,8 @@
 -- What stands at each path of a tree: the unit of a page, and the page as its meaning reads it.
 use Rattle.std.specs.Prelude.{ℕ, Bool, true, false, List, [], Option, Some, None, Result, Ok, Err}
 use Rattle.std.specs.Option.{option_map}
-use Rattle.page_meaning.specs.Context.{Paged, absent, plain, bad, good}
-use Rattle.page_meaning.specs.Page.{Page}
+use Rattle.unit_meaning.specs.Context.{Paged, absent, plain, bad, good}
+use Rattle.unit_meaning.specs.Page.{Page}
 use Rattle.unit_meaning.specs.Shape.{page_of}
 use Rattle.pg_text.specs.declared.place.PageFault.{PageFault}
 use Rattle.site_words.specs.Running.{is_page}

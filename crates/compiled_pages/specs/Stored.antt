@@ -1,7 +1,7 @@
 -- What stands at each path of a tree, with a page as its program.
 use Rattle.std.specs.Prelude.{ℕ, List}
 use Rattle.code_lowering.specs.Programs.{stored_of}
-use Rattle.page_table.specs.Program.{Stored}
+use Rattle.run_world.specs.Program.{Stored}
 use Rattle.source_tree.specs.declared.file.File.{File}
 use Rattle.compiled_pages.specs.Pages.{paged_at}
 

@@ -5,7 +5,7 @@ use Rattle.pass_course.proofs.CourseLemmas.{counted_on, done_counts}
 use Rattle.pass_course.proofs.UnderLemmas.{under_on}
 use Rattle.pass_course.specs.Course.{HasDone}
 use Rattle.pass_course.specs.Under.{Under}
-use Rattle.request_port.specs.Asked.{asked_after, asked_in, told_after, told_in}
+use Rattle.request_pages.specs.Asked.{asked_after, asked_in, told_after, told_in}
 use Rattle.site_words.proofs.Items.{fold-both}
 use Rattle.site_words.specs.Law.{Answer, own}
 use Rattle.site_words.specs.PageSteps as asks

@@ -4,7 +4,7 @@ use Rattle.std.specs.Prelude.{◌&&◌, nat_le, nat_lt, slice_get}
 use Rattle.edges.specs.declared.acted.Acted.TheVariants.{Did}
 use Rattle.pass_course.proofs.CourseLemmas.{done_acts, done_counts}
 use Rattle.pass_course.proofs.UnderLemmas.{done_run}
-use Rattle.request_port.specs.Asked.{asked_after, told_after}
+use Rattle.request_pages.specs.Asked.{asked_after, told_after}
 use Rattle.dispatch.specs.Opened.{IsOpened}
 use Rattle.site_words.proofs.Good.{sessions_good}
 use Rattle.site_words.proofs.Items.{and_left, and_right, get_last, le_of}

@@ -16,7 +16,7 @@ use Rattle.out_buffer.specs.Held.{Held, Stands, fresh}
 use Rattle.out_buffer.specs.Writer.{empty_writer}
 use Rattle.page_answers.specs.Standing.{found}
 use Rattle.page_answers.specs.Turns.{Turn, all_bytes, all_calls, answers_of, are_whole_but_last, is_whole, steps_of}
-use Rattle.page_machine.specs.Run.{IsInOrder, StandsFor}
+use Rattle.request_pages.specs.Run.{IsInOrder, StandsFor}
 use Rattle.compiled_pages.specs.Pages.{needs_at}
 use Rattle.page_meaning.specs.Respond.{beginning}
 use Rattle.page_meaning.specs.Response.{Answered}
@@ -29,8 +29,8 @@ use Rattle.request_pages.specs.Played.{IsFunded, session_claim}
 use Rattle.request_pages.specs.Within.{GoesWithin}
 use Rattle.request_pages.specs.declared.request_state.RequestState.{RequestState}
 use Rattle.request_pages.specs.declared.reply.Reply.{Reply}
-use Rattle.request_port.proofs.AskedLemmas.{asking_at}
-use Rattle.request_port.specs.Asked.{asked_in, asking_of, told_in}
+use Rattle.request_pages.proofs.AskedLemmas.{asking_at}
+use Rattle.request_pages.specs.Asked.{asked_in, asking_of, told_in}
 use Rattle.run_stage.specs.Keeping.{session_weight}
 use Rattle.run_world.specs.Origin.{Origin}
 use Rattle.run_world.specs.declared.around.Around.{Around}

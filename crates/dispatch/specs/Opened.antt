@@ -1,7 +1,7 @@
 -- A request that has just begun, as its port has it.
 use Rattle.std.specs.Prelude.{◌≡◌, ◌≤◌, ℕ, List, [], Option}
 use Rattle.pass_course.specs.Under.{Under}
-use Rattle.request_port.specs.Asked.{asked_in, told_in}
+use Rattle.request_pages.specs.Asked.{asked_in, told_in}
 use Rattle.site_words.specs.Law.{own}
 use Rattle.site_words.specs.declared.words.Entry.{Entry}
 use Rattle.site_words.specs.declared.words.Opening.{Opening}

@@ -5,7 +5,7 @@ use Rattle.page_acts.specs.declared.addressing.Addressing.{Addressing}
 use Rattle.page_acts.specs.declared.addressing.Addressing.TheVariants as addressing
 use Rattle.page_acts.specs.declared.enclosing.Enclosing.{Enclosing}
 use Rattle.page_acts.specs.declared.enclosing.Enclosing.TheVariants as enclosing
-use Rattle.page_meaning.specs.Page.{Attributes, Nodes, Params, place_of}
+use Rattle.unit_meaning.specs.Page.{Attributes, Nodes, Params, place_of}
 use Rattle.pg_text.specs.declared.place.Place.{Place}
 
 pub enclosing_place : (a : Enclosing) (list : Attributes) (body : Nodes) (place : Place) → place_of (enclosing_node a list body place) ≡ place

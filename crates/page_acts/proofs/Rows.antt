@@ -1,7 +1,7 @@
 -- The acts, attributes, params and branches of an act, as they stand in memory and as a list.
 use Rattle.std.proofs.Common.{◌≡◌, refl, ap, rules}
 use mathlib.Core.Former.{Count}
-use Rattle.page_meaning.specs.Page.{more_nodes}
+use Rattle.unit_meaning.specs.Page.{more_nodes}
 use Rattle.page_acts.specs.Views.{act_of, acts_of, acts_row, attribute_before, attributes_of, attributes_row, branch_before, branches_of, branches_row, params_of, params_row}
 use Rattle.page_acts.specs.declared.acts.Act.{Row_of-Act, end_of-Act, more_of-Act, items-the_row-Act, Row_of-ActAttribute, end_of-ActAttribute, more_of-ActAttribute, items-the_row-ActAttribute, Row_of-ActParam, end_of-ActParam, more_of-ActParam, items-the_row-ActParam, Row_of-ActBranch, end_of-ActBranch, more_of-ActBranch, items-the_row-ActBranch}
 use Rattle.page_acts.specs.declared.acts.Act.TheViews.{the_lemmas}

@@ -14,7 +14,7 @@ use Rattle.page_acts.specs.declared.enclosing.Enclosing.TheVariants as enclosing
 use Rattle.page_acts.specs.declared.named.Property.{Property as PropertyMade}
 use Rattle.page_acts.specs.declared.named.Property.TheVariants.{Every, One}
 use Rattle.page_acts.specs.declared.named.Variable.{Variable as VariableMade}
-use Rattle.page_meaning.specs.Page.{Variable, Property, every, one, Node, template, shown, out, set, set_entry, remove, catch, when_true, choose, each, each_token, import, url, redirect, include, forward, use_bean, get_property, set_property, group, do_body, invoke, call, Nodes, no_nodes, more_nodes, Attributes, no_attributes, written, given, Params, no_params, param, Branches, no_branches, when, otherwise, Body, no_body, given_body}
+use Rattle.unit_meaning.specs.Page.{Variable, Property, every, one, Node, template, shown, out, set, set_entry, remove, catch, when_true, choose, each, each_token, import, url, redirect, include, forward, use_bean, get_property, set_property, group, do_body, invoke, call, Nodes, no_nodes, more_nodes, Attributes, no_attributes, written, given, Params, no_params, param, Branches, no_branches, when, otherwise, Body, no_body, given_body}
 use Rattle.pg_text.specs.declared.place.Place.{Place}
 use Rattle.unit_meaning.specs.Named.{part_of}
 use Rattle.unit_nodes.specs.Views.{part_of as part_view}

@@ -1,6 +1,6 @@
 ghost use Rattle.std.specs.Prelude.{◌≡◌};
 ghost use Rattle.page_acts.specs.Views.{act_of};
-ghost use Rattle.page_meaning.specs.Page.{place_of};
+ghost use Rattle.unit_meaning.specs.Page.{place_of};
 
 use crate::addressing::Addressing;
 use crate::enclosing::Enclosing;

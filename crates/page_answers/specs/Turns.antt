@@ -11,9 +11,9 @@ use Rattle.site_words.specs.declared.words.Reply.{Reply}
 use Rattle.site_words.specs.declared.words.Reply.TheVariants as reply
 use Rattle.source_tree.specs.declared.file.File.{File}
 use Rattle.unit_source.specs.Files.{text_in}
-use Rattle.unit_words.specs.Needs.{bytes_of}
+use Rattle.compiled_pages.specs.Needs.{bytes_of}
 use Rattle.compiled_pages.specs.Pages.{unit_in}
-use Rattle.unit_words.specs.Unit.{Unit}
+use Rattle.compiled_pages.specs.Unit.{Unit}
 
 -- a step that was done: one on the application's attributes with what it was told; a session that
 -- was made; a page of which what is kept was taken; one that was made anew and offered, by whether

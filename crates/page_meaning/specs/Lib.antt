@@ -1,3 +1,4 @@
+pub use Rattle.tag_decl.specs.declared.declaration.TagDecl
 pub mod Addresses
 pub mod Attributes
 pub mod Beans

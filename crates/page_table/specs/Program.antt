@@ -5,7 +5,7 @@ use Rattle.std.specs.Str.{bytes_eq}
 use Rattle.http_in.specs.declared.request.Request.{Request}
 use Rattle.pg_text.specs.declared.place.PageFault.{PageFault}
 use Rattle.pg_value.specs.declared.settings.PageSettings.{PageSettings}
-use Rattle.tag_decl.specs.declared.declaration.TagDecl.{TagDecl}
+use Rattle.page_meaning.specs.TagDecl.{TagDecl}
 use Rattle.page_code.specs.declared.code.Cell.{Cell}
 use Rattle.page_meaning.specs.Context as meaning
 use Rattle.page_meaning.specs.Faults.{Raise}

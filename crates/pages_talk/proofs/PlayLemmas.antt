@@ -4,7 +4,7 @@ use Rattle.conversation.specs.declared.ended.Ended.TheVariants.{NoMemory}
 use Rattle.edges.proofs.Own.{front_same}
 use Rattle.edges.proofs.ToldBytes.{appends_none, consumes_none}
 use Rattle.edges.specs.Clock.{Moments}
-use Rattle.page_answers.specs.Standing.{standing_of}
+use Rattle.talk_words.specs.Standing.{standing_of}
 use Rattle.site_words.specs.declared.words.Opening.{Opening}
 use Rattle.talk_words.specs.Connection.{stand_of}
 use Rattle.pages_talk.specs.Play.{HasTalked}

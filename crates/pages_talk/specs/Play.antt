@@ -5,7 +5,7 @@ use Rattle.edges.specs.Clock.{Moments}
 use Rattle.conversation.specs.Conversation.{Tells}
 use Rattle.conversation.specs.declared.ended.Ended.{Ended}
 use Rattle.conversation.specs.declared.ended.Ended.TheVariants.{Done, Refused, ReadFault, WriteFault, NoMemory}
-use Rattle.page_answers.specs.Standing.{standing_of}
+use Rattle.talk_words.specs.Standing.{standing_of}
 use Rattle.compiled_pages.specs.Pages.{needs_at}
 use Rattle.site_core.specs.Lived.{first_opening}
 use Rattle.site_words.specs.Seed.{seed_of}

@@ -40,7 +40,7 @@ impl<P, C, L> PortDesk<P, C, L> {
 }
 
 impl<P: Port<Made>, C: Clock, L: Ledger> Desk for PortDesk<P, C, L> {
-    ghost use Rattle.page_answers.specs.Standing.{standing_of};
+    ghost use Rattle.talk_words.specs.Standing.{standing_of};
     ghost use Rattle.compiled_pages.specs.Pages.{needs_at};
     ghost use Rattle.pass_course.specs.Course.{IsIdle};
     ghost use Rattle.talk_words.specs.Connection.{Connection, Stand, connection_of, stand_of};

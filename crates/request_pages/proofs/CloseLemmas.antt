@@ -6,7 +6,7 @@ use Rattle.http_in.specs.declared.request.Request.{Request}
 use Rattle.http_out.specs.declared.status.Status.{Status}
 use Rattle.http_out.specs.declared.status.Status.TheVariants as status_is
 use Rattle.out_buffer.specs.Held.{Held}
-use Rattle.page_machine.specs.Run.{StandsFor}
+use Rattle.run_pages.specs.Run.{StandsFor}
 use Rattle.compiled_pages.proofs.PageLemmas.{page_there}
 use Rattle.compiled_pages.specs.Made.{IsPageAt, IsProgramOf}
 use Rattle.compiled_pages.specs.Pages.{found_as, paged_at}

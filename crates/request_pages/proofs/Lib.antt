@@ -1,3 +1,4 @@
+pub use Rattle.request_port.proofs.AskedLemmas
 pub mod PageEndLemmas
 pub mod HeadLemmas
 pub mod PlayedLemmas

@@ -1,7 +1,7 @@
 -- What a look at a path leaves of the promise and of the state.
 use Rattle.std.proofs.Common.{◌≡◌, ◌+◌, ◌*◌, ◌≤◌, ℕ, true, false, List, [], ◌∷◌, ◌++◌, length, Option, Some, None, refl, sym, ap, ◌∙◌, if◌then◌else◌, Bool, append_assoc, append-nil, arith}
 use Rattle.out_buffer.specs.Held.{Held}
-use Rattle.page_machine.specs.Run.{IsInOrder, StandsFor}
+use Rattle.run_pages.specs.Run.{IsInOrder, StandsFor}
 use Rattle.page_meaning.specs.State.{State}
 use Rattle.page_meaning.specs.Work.{fetched}
 use Rattle.pg_text.specs.declared.place.PageFault.{PageFault}

@@ -5,8 +5,8 @@ use Rattle.http_in.specs.declared.params.Param.{Param}
 use Rattle.http_out.specs.declared.status.Status.{Status}
 use Rattle.out_buffer.specs.Held.{Held}
 use Rattle.out_buffer.specs.Writer.{has_committed, has_pieces}
-use Rattle.page_machine.specs.declared.running.RunEnd.{RunEnd}
-use Rattle.page_machine.specs.declared.running.RunEnd.TheVariants as ends
+use Rattle.run_pages.specs.RunEnd.{RunEnd}
+use Rattle.run_pages.specs.RunEnd.TheVariants as ends
 use Rattle.page_meaning.proofs.Growing.{uncommitted}
 use Rattle.page_meaning.specs.Context.{Served}
 use Rattle.page_meaning.specs.Growth.{Leaves}

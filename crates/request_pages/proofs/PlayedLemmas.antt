@@ -7,10 +7,10 @@ use Rattle.http_out.specs.declared.status.Status.{Status}
 use Rattle.out_buffer.specs.Streamed.{HasTaken, so_far}
 use Rattle.out_buffer.specs.Writer.{Writer, empty_writer}
 use Rattle.out_buffer.specs.Held.{Held, Stands, fresh}
-use Rattle.page_machine.specs.Run.{StandsFor}
+use Rattle.run_pages.specs.Run.{StandsFor}
 use Rattle.compiled_pages.specs.Made.{IsPageAt, IsProgramOf}
-use Rattle.page_answers.proofs.HeadLemmas.{no_head}
-use Rattle.page_answers.specs.Dropped.{HeadsSo}
+use Rattle.request_port.proofs.HeadLemmas.{no_head}
+use Rattle.request_port.specs.Dropped.{HeadsSo}
 use Rattle.page_meaning.proofs.Growing.{uncommitted, ordered_on}
 use Rattle.page_meaning.specs.Context.{Served}
 use Rattle.page_meaning.specs.Growth.{state_of, IsOrdered}

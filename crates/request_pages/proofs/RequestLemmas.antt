@@ -5,7 +5,7 @@ use Rattle.http_in.specs.declared.params.Param.{Param}
 use Rattle.http_in.specs.declared.request.Request.{Request}
 use Rattle.http_out.specs.declared.status.Status.TheVariants as status_is
 use Rattle.out_buffer.specs.Held.{Held}
-use Rattle.page_machine.specs.Run.{StandsFor}
+use Rattle.run_pages.specs.Run.{StandsFor}
 use Rattle.compiled_pages.specs.Pages.{found_as, paged_at}
 use Rattle.page_meaning.proofs.Growing.{asks, both}
 use Rattle.page_meaning.specs.Context.{Paged, Served, absent, bad, good, plain}

@@ -6,8 +6,8 @@ use Rattle.http_in.specs.declared.params.Param.{Param}
 use Rattle.http_out.specs.declared.head.Head.{Head}
 use Rattle.http_out.specs.declared.status.Status.{Status}
 use Rattle.out_buffer.specs.Writer.{has_committed, has_pieces}
-use Rattle.page_answers.proofs.HeadLemmas.{no_head}
-use Rattle.page_answers.specs.Dropped.{HeadsSo}
+use Rattle.request_port.proofs.HeadLemmas.{no_head}
+use Rattle.request_port.specs.Dropped.{HeadsSo}
 use Rattle.page_meaning.proofs.Growing.{uncommitted}
 use Rattle.page_meaning.specs.Faults.{Raise}
 use Rattle.page_meaning.specs.Growth.{Grows, Leaves, state_of}

@@ -6,7 +6,7 @@ use Rattle.http_in.specs.declared.request.Request.{Request}
 use Rattle.http_out.specs.declared.status.Status.{Status}
 use Rattle.out_buffer.specs.Held.{Held}
 use Rattle.compiled_pages.specs.Made.{IsPageAt, IsProgramOf}
-use Rattle.page_machine.specs.Run.{StandsFor}
+use Rattle.run_pages.specs.Run.{StandsFor}
 use Rattle.page_meaning.specs.Context.{Served}
 use Rattle.page_meaning.specs.Page.{Page}
 use Rattle.page_meaning.specs.Respond.{OnFault}

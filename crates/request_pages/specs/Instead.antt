@@ -5,7 +5,7 @@ use Rattle.compiled_pages.specs.Made.{IsProgramOf}
 use Rattle.http_out.specs.Head.{plain_type}
 use Rattle.http_out.specs.declared.status.Status.TheVariants as status_is
 use Rattle.out_buffer.specs.Held.{Held}
-use Rattle.page_machine.specs.Run.{StandsFor}
+use Rattle.run_pages.specs.Run.{StandsFor}
 use Rattle.page_meaning.specs.Faults.{Raise, run_fault_line}
 use Rattle.page_meaning.specs.Page.{Page}
 use Rattle.page_meaning.specs.Respond.{error_path}

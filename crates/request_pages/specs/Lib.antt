@@ -1,3 +1,6 @@
+pub use Rattle.run_pages.specs.Run
+pub use Rattle.request_port.specs.Asked
+pub use Rattle.run_pages.specs.Meant
 pub mod Body
 pub mod Headed
 pub mod PageEnd

@@ -4,9 +4,9 @@ use Rattle.http_in.specs.declared.params.Param.{Param}
 use Rattle.http_out.specs.declared.status.Status.{Status}
 use Rattle.http_out.specs.declared.status.Status.TheVariants as status
 use Rattle.out_buffer.specs.Held.{Held}
-use Rattle.page_machine.specs.declared.running.RunEnd.{RunEnd}
-use Rattle.page_machine.specs.declared.running.RunEnd.TheVariants as ends
-use Rattle.page_machine.specs.Run.{StandsFor, level_limit}
+use Rattle.run_pages.specs.RunEnd.{RunEnd}
+use Rattle.run_pages.specs.RunEnd.TheVariants as ends
+use Rattle.run_pages.specs.Run.{StandsFor, level_limit}
 use Rattle.page_meaning.specs.Context.{Served}
 use Rattle.page_meaning.specs.Growth.{Grows, state_of}
 use Rattle.page_meaning.specs.Page.{Page}

@@ -3,8 +3,8 @@ use Rattle.std.specs.Prelude.{◌≡◌, ◌+◌, ◌≤◌, ℕ, List, ◌++◌
 use Rattle.http_in.specs.declared.params.Param.{Param}
 use Rattle.http_out.specs.declared.status.Status.{Status}
 use Rattle.out_buffer.specs.Held.{Held}
-use Rattle.page_machine.specs.Run.{StandsFor}
-use Rattle.page_answers.specs.Dropped.{HeadsSo}
+use Rattle.run_pages.specs.Run.{StandsFor}
+use Rattle.request_port.specs.Dropped.{HeadsSo}
 use Rattle.page_meaning.specs.Context.{Served}
 use Rattle.page_meaning.specs.Growth.{Grows, state_of}
 use Rattle.page_meaning.specs.Page.{Page}

@@ -1,6 +1,6 @@
 -- How far a request has come.
 use Rattle.std.specs.Prelude.{ℕ, List, Option}
-use Rattle.page_machine.specs.Run.{StandsFor}
+use Rattle.run_pages.specs.Run.{StandsFor}
 use Rattle.page_meaning.specs.State.{State}
 use Rattle.request_pages.specs.declared.request_state.RequestState.{RequestState}
 use Rattle.request_port.specs.Asked.{asking_of}

@@ -1,7 +1,7 @@
 -- How far a request came for which memory ran out.
 use Rattle.std.specs.Prelude.{None}
 use Rattle.http_out.specs.declared.head.Head.{Head}
-use Rattle.page_answers.specs.Dropped.{HeadsSo}
+use Rattle.request_port.specs.Dropped.{HeadsSo}
 use Rattle.page_meaning.specs.Growth.{Grows}
 use Rattle.page_meaning.specs.Response.{Answered, end_state, head_of}
 use Rattle.page_meaning.specs.State.{State}

@@ -1,7 +1,7 @@
 // What is answered at the path of a request.
 ghost use Rattle.std.specs.Prelude.{◌≡◌, ◌≤◌, ℕ, List, [], false, None, OnOk};
 ghost use Rattle.std.specs.Arc.{arc_value};
-ghost use Rattle.page_machine.specs.Run.{IsInOrder, StandsFor};
+ghost use Rattle.run_pages.specs.Run.{IsInOrder, StandsFor};
 ghost use Rattle.compiled_pages.specs.Made.{IsPageAt, IsProgramOf};
 ghost use Rattle.compiled_pages.specs.Pages.{needs_at};
 ghost use Rattle.page_meaning.specs.Page.{Page};

@@ -1,7 +1,7 @@
 // A page with the targets of its forwards.
 ghost use Rattle.std.specs.Prelude.{◌≡◌, ◌-◌, ℕ, List, Some, false, IfOk};
 ghost use Rattle.std.specs.Arc.{arc_value};
-ghost use Rattle.page_machine.specs.Run.{IsInOrder, StandsFor, level_limit};
+ghost use Rattle.run_pages.specs.Run.{IsInOrder, StandsFor, level_limit};
 ghost use Rattle.compiled_pages.specs.Made.{IsFaultOf, IsPageAt, IsProgramOf};
 ghost use Rattle.compiled_pages.specs.Pages.{needs_at};
 ghost use Rattle.page_meaning.specs.Page.{Page};
@@ -28,10 +28,10 @@ use compiled_pages::Made;
 use edges::{Ledger, Sink};
 use http_in::{Param, Request};
 use http_out::Status;
-use page_machine::AskedPage;
 use pg_text::{Listed, Path};
 use request_port::RequestPort;
 use response_laws::responses;
+use run_pages::AskedPage;
 use run_world::{Program, Raise};
 use site_words::{Paged, Port};
 use std::alloc::{AllocError, Global};

@@ -2,7 +2,7 @@
 ghost use Rattle.std.specs.Prelude.{◌≡◌, ◌≤◌, ℕ, List};
 ghost use Rattle.std.specs.Arc.{arc_value};
 ghost use Rattle.http_in.specs.declared.params.Param.{Param};
-ghost use Rattle.page_machine.specs.Run.{IsInOrder};
+ghost use Rattle.run_pages.specs.Run.{IsInOrder};
 ghost use Rattle.compiled_pages.specs.Made.{IsPageAt, IsProgramOf};
 ghost use Rattle.compiled_pages.specs.Pages.{needs_at, paged_at};
 ghost use Rattle.page_meaning.specs.Context.{Served};

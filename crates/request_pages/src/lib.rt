@@ -19,4 +19,5 @@ pub use answering::answer;
 pub use body::Body;
 pub use incoming::Incoming;
 pub use reply::{PageEnd, Reply};
+pub use request_port::RequestPort;
 pub use request_state::{RequestState, new_id};

@@ -2,7 +2,7 @@
 ghost use Rattle.std.specs.Prelude.{◌≡◌, ◌+◌, ◌≤◌, ℕ, List, IfOk, OnOk};
 ghost use Rattle.std.specs.declared.option.Option.{Option};
 ghost use Rattle.out_buffer.specs.Held.{Held};
-ghost use Rattle.page_machine.specs.Run.{IsInOrder, StandsFor};
+ghost use Rattle.run_pages.specs.Run.{IsInOrder, StandsFor};
 ghost use Rattle.page_meaning.specs.Page.{Page};
 ghost use Rattle.page_meaning.specs.Respond.{error_path};
 ghost use Rattle.page_meaning.specs.State.{State};

@@ -1,7 +1,7 @@
 ghost use Rattle.std.specs.Prelude.{◌≡◌, ◌<◌, ℕ, List, false, Some, IfOk, OnOk, OnErr};
 ghost use Rattle.std.specs.Option.{ForSome};
 ghost use Rattle.std.specs.declared.option.Option.{Option};
-ghost use Rattle.page_machine.specs.Run.{StandsFor};
+ghost use Rattle.run_pages.specs.Run.{StandsFor};
 ghost use Rattle.page_meaning.specs.Page.{Page};
 ghost use Rattle.page_meaning.specs.Respond.{at_start};
 ghost use Rattle.page_meaning.specs.Response.{new_id};

@@ -1,6 +1,6 @@
 // The run of one page from its beginning.
 ghost use Rattle.std.specs.Prelude.{◌≡◌, ◌-◌, ℕ, List, false};
-ghost use Rattle.page_machine.specs.Run.{IsInOrder, StandsFor, level_limit};
+ghost use Rattle.run_pages.specs.Run.{IsInOrder, StandsFor, level_limit};
 ghost use Rattle.compiled_pages.specs.Made.{IsPageAt, IsProgramOf, TellsPages};
 ghost use Rattle.page_meaning.specs.Page.{Page};
 ghost use Rattle.page_meaning.specs.State.{State};
@@ -16,8 +16,8 @@ use crate::delivery::Delivery;
 use crate::reply::PageEnd;
 use crate::request_state::{RequestState, begin_page};
 use edges::Sink;
-use page_machine::AskedPage;
 use page_meaning::{depth, parts};
+use run_pages::AskedPage;
 use run_world::Program;
 use site_words::AppPort;
 use std::alloc::{AllocError, Global};

@@ -1,3 +1,4 @@
+pub use Rattle.page_answers.specs.Dropped
 pub mod Asked
 pub mod Finding
 pub mod Leading

@@ -6,4 +6,5 @@ mod laws;
 mod running;
 
 pub use laws::served;
+pub use page_machine::{AskedPage, RunEnd};
 pub use running::run_program;

@@ -6,7 +6,7 @@ use Rattle.page_meaning.specs.Includes.{ask_page, fetched_or_fault}
 use Rattle.page_meaning.specs.State.{State, with_asked}
 use Rattle.page_meaning.specs.Went.{Well, Raised, either}
 use Rattle.page_meaning.specs.Work.{charge_limit, fetched}
-use Rattle.page_table.specs.Program.{Serving, Stored, absent, plain, bad, good, paged_of, served_of}
+use Rattle.run_world.specs.Program.{Serving, Stored, absent, plain, bad, good, paged_of, served_of}
 use Rattle.pg_text.specs.declared.failure.Failure.TheVariants as failure
 use Rattle.pg_text.specs.declared.place.PageFault.{PageFault}
 use Rattle.pg_text.specs.declared.place.Place.{Place}
@@ -213,7 +213,7 @@ module _ {P K : Type 0} {taken : K → Option (List ℕ)} {faults : K → ℕ} {
       }
 
       -- a page stands there
-      pub page_doing : (page : Paged Program) (program : Rattle.page_table.specs.Program.Program) → stored_of page ≡ good program → IsPageFile path (file_at path (tree w.port.now)) → serving.stored path ≡ stored_of page
+      pub page_doing : (page : Paged Program) (program : Rattle.run_world.specs.Program.Program) → stored_of page ≡ good program → IsPageFile path (file_at path (tree w.port.now)) → serving.stored path ≡ stored_of page
           → Doing (Reached taken faults leads asking tree) (λ w. (asking w.port.now).answers) (λ (p : Paged Program). paged_of (stored_of p)) (λ place. ask_page (served_of serving) place path) w (asked_stage w port n) (Ok page)
       page_doing page program e file stored = record {
         by = λ first origin s r.

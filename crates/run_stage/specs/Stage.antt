@@ -10,7 +10,7 @@ use Rattle.run_stage.specs.declared.limits.TheConstants.{MAX_CHARGE, RUN_PROMISE
 use Rattle.page_meaning.specs.declared.limits.TheConstants.{VISIT_LIMIT}
 use Rattle.page_meaning.specs.Growth.{IsOrdered}
 use Rattle.page_meaning.specs.State.{State}
-use Rattle.page_table.specs.Program.{Stored, absent, plain, bad, good}
+use Rattle.run_world.specs.Program.{Stored, absent, plain, bad, good}
 use Rattle.pg_text.specs.declared.place.PageFault.{PageFault}
 use Rattle.scopes.specs.Limits.{max_session_weight}
 use Rattle.scopes.specs.Scopes.{Entries}

@@ -9,7 +9,7 @@ use Rattle.run_stage.specs.Keeping.{fresh_claim, head_after}
 use Rattle.run_world.specs.declared.program.Program.{Program}
 use Rattle.run_stage.specs.declared.stage.Stage.{Stage}
 use Rattle.page_meaning.specs.State.{State}
-use Rattle.page_table.specs.Program.{Stored}
+use Rattle.run_world.specs.Program.{Stored}
 use Rattle.pg_text.specs.declared.place.PageFault.{PageFault}
 use Rattle.site_words.specs.Running.{Asking}
 use Rattle.source_tree.specs.declared.file.File.{File}

@@ -1,3 +1,4 @@
+pub use Rattle.page_table.specs.Program
 pub mod Asking
 pub mod Known
 pub mod Origin

@@ -19,7 +19,7 @@ use Rattle.page_answers.specs.Answers.{IsAnswered, IsNotTaken, IsRefused, attrs_
 use Rattle.http_out.specs.Methods.{shows_body}
 use Rattle.page_answers.specs.Standing.{AtMoment, Standing, session_found, tree_at}
 use Rattle.page_answers.specs.Turns.{Turn, all_bytes, all_calls, answers_of, is_whole, steps_of}
-use Rattle.compiled_pages.specs.Pages.{paged_at}
+use Rattle.page_answers.specs.Pages.{paged_at}
 use Rattle.page_meaning.specs.Laws.{RequestsGoOn}
 use Rattle.page_meaning.specs.Respond.{respond}
 use Rattle.page_meaning.specs.Response.{Answered, closing, end_state, responds}

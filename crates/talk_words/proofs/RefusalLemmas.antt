@@ -8,8 +8,8 @@ use Rattle.page_answers.specs.Answers.{IsAnswered}
 use Rattle.http_out.specs.Methods.{shows_body}
 use Rattle.page_answers.specs.Standing.{Standing, session_found, tree_at}
 use Rattle.page_answers.specs.Turns.{answers_of, steps_of}
-use Rattle.compiled_pages.specs.Made.{IsFaultOf}
-use Rattle.compiled_pages.specs.Pages.{found_as, page_at, paged_at}
+use Rattle.page_answers.specs.Made.{IsFaultOf}
+use Rattle.page_answers.specs.Pages.{found_as, page_at, paged_at}
 use Rattle.page_meaning.specs.Context.{Paged, bad}
 use Rattle.page_meaning.specs.Faults.{page_fault_line}
 use Rattle.page_meaning.specs.Page.{Page}

@@ -1,3 +1,4 @@
+pub use Rattle.page_answers.specs.Standing
 pub mod Connection
 pub mod Grown
 pub mod Noted

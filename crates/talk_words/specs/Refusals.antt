@@ -7,8 +7,8 @@ use Rattle.page_answers.specs.Answers.{IsAnswered}
 use Rattle.http_out.specs.Methods.{shows_body}
 use Rattle.page_answers.specs.Standing.{Standing, tree_at}
 use Rattle.page_answers.specs.Turns.{steps_of}
-use Rattle.compiled_pages.specs.Made.{IsFaultOf}
-use Rattle.compiled_pages.specs.Pages.{paged_at}
+use Rattle.page_answers.specs.Made.{IsFaultOf}
+use Rattle.page_answers.specs.Pages.{paged_at}
 use Rattle.page_meaning.specs.Context.{bad}
 use Rattle.page_meaning.specs.Faults.{page_fault_line}
 use Rattle.page_meaning.specs.Respond.{is_hidden}

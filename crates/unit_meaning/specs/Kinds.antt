@@ -1,6 +1,6 @@
 -- What an action is among its kin.
 use Rattle.std.specs.Prelude.{ℕ, Bool, true, false, List, []}
-use Rattle.jstl_tags.specs.declared.core_name.CoreName.TheVariants as core
+use Rattle.unit_nodes.specs.CoreName.TheVariants as core
 use Rattle.unit_meaning.specs.Named.{core_statics, jsp_statics}
 use Rattle.unit_nodes.specs.Nodes as unit
 use Rattle.unit_nodes.specs.Nodes.{ActionKind}

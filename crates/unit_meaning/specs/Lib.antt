@@ -1,3 +1,5 @@
+pub use Rattle.page_meaning.specs.Page
+pub use Rattle.page_meaning.specs.Context
 pub mod Kinds
 pub mod Laws
 pub mod Named

@@ -1,8 +1,8 @@
 -- The page that a unit is: each action by its name, with what `jsp:attribute` and `jsp:body` give it in place.
 use Rattle.std.specs.Prelude.{ℕ, Bool, true, false, not, List, codes, map, Option, Some, None, if◌then◌else◌}
 use Rattle.std.specs.Str.{bytes_eq}
-use Rattle.jstl_tags.specs.declared.core_name.CoreName.{CoreName}
-use Rattle.jstl_tags.specs.declared.core_name.CoreName.TheVariants as core
+use Rattle.unit_nodes.specs.CoreName.{CoreName}
+use Rattle.unit_nodes.specs.CoreName.TheVariants as core
 use Rattle.page_meaning.specs.Page as page
 use Rattle.unit_meaning.specs.Kinds.{is_attribute, is_body, is_param, is_when, is_otherwise, statics_of}
 use Rattle.unit_meaning.specs.Named.{static_text, text_of_attribute, scope_named, variable_in, some_variable, target_in, property_in, written_before}

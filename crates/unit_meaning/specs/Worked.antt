@@ -1,7 +1,7 @@
 -- Worked shapes: what an action of a unit is as a node.
 use Rattle.std.specs.Prelude.{◌≡◌, ℕ, List, [], ◌∷◌, codes, true, false, Some, None}
 use Rattle.el_reader.specs.Tree as tree
-use Rattle.jstl_tags.specs.declared.core_name.CoreName.TheVariants as core
+use Rattle.unit_nodes.specs.CoreName.TheVariants as core
 use Rattle.page_meaning.specs.Page as page
 use Rattle.unit_meaning.specs.Shape.{nodes_of}
 use Rattle.pg_text.specs.declared.place.Place.{Place}

@@ -6,7 +6,7 @@ use Rattle.dispatch.specs.Started.{Start, started}
 use Rattle.page_answers.specs.Standing.{found}
 use Rattle.compiled_pages.specs.Pages.{needs_at}
 use Rattle.page_meaning.specs.Respond.{beginning}
-use Rattle.run_pages.specs.Meant.{served_at}
+use Rattle.request_pages.specs.Meant.{served_at}
 use Rattle.request_pages.specs.Closed.{request_answers}
 use Rattle.run_world.specs.Origin.{Origin}
 use Rattle.run_world.specs.declared.around.Around.{Around}

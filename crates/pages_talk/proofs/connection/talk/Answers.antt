@@ -1,5 +1,5 @@
 use Rattle.std.proofs.Common.{[]}
-use Rattle.page_answers.specs.Standing.{standing_of}
+use Rattle.talk_words.specs.Standing.{standing_of}
 use Rattle.compiled_pages.specs.Pages.{needs_at}
 use Rattle.talk_words.proofs.GrownLemmas.{one_history}
 use Rattle.talk_words.specs.Connection.{Connection, Stand, connection_of, stand_of}

@@ -1,5 +1,5 @@
 use Rattle.std.proofs.Common.{◌≡◌, ◌≤◌, ap, arith, subst, sym, ◌∙◌}
-use Rattle.page_machine.specs.Run.{StandsFor}
+use Rattle.run_pages.specs.Run.{StandsFor}
 use Rattle.request_pages.proofs.LookLemmas.{charged, found_stands, look_room}
 use Rattle.request_pages.proofs.looking.look.Goals as goal
 use Rattle.request_pages.proofs.looking.look.Goals.{in-Page, in-Bad, in-Plain, in-Absent}

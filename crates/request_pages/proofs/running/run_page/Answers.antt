@@ -1,6 +1,6 @@
 use Rattle.std.proofs.Common.{ap, subst, sym, ◌∙◌, Some, ◌<◌}
 use Rattle.std.specs.Option.{ForSome}
-use Rattle.page_machine.specs.Run.{StandsFor}
+use Rattle.run_pages.specs.Run.{StandsFor}
 use Rattle.request_pages.proofs.BufferLemmas.{page_above}
 use Rattle.request_pages.proofs.HeadLemmas.{headed_on}
 use Rattle.request_pages.proofs.PlayedLemmas.{after_status, after_type, none_committed, played_of, played_short, settings_same}

@@ -1,5 +1,5 @@
 use Rattle.std.proofs.Common.{sym, ◌∙◌}
-use Rattle.page_answers.specs.Standing.{Standing, standing_of}
+use Rattle.talk_words.specs.Standing.{Standing, standing_of}
 use Rattle.compiled_pages.specs.Pages.{needs_at}
 use Rattle.talk_words.proofs.ServedLemmas.{served_beside, served_grown, served_on}
 use Rattle.talk_words.specs.Connection.{Connection, Stand, connection_of, stand_of}
