@@ -12,6 +12,15 @@ use Rattle.pg_text.specs.declared.place.Place.{Place}
 abbrev pub no_place : Place
 no_place = record { file = []; byte = 0; line = 0; column = 0 }
 
+-- what stands where a code ends
+abbrev pub no_cell : Cell
+no_cell = cell empty_shape no_place instr.StartBody
+
+-- the cell of this number has this instruction and this place
+pub record IsCellAt (code : List Cell) (at : ℕ) (i : Instr) (p : Place) : Type 0 where
+  pub shape : Shape
+  pub there : slice_get code at ≡ Some (cell shape p i)
+
 -- the cell that a step is
 abbrev pub step_cell : List Instr → List Place → List Shape → Step → Cell
 step_cell is ps shs s = cell (get_or shs s.shape empty_shape) (get_or ps s.place no_place) (get_or is s.instr instr.StartBody)

@@ -4,7 +4,6 @@
 
 mod bean;
 mod call;
-mod cell_ref;
 mod code;
 mod counts;
 mod equal;
@@ -21,13 +20,12 @@ mod tables;
 
 pub use bean::Bean;
 pub use call::{CallBody, CallOut, Fragment, Leave, TagCall};
-pub use cell_ref::CellRef;
 pub use code::{Cell, Code};
 pub use counts::values_of_address;
 pub use instr::Instr;
 pub use name::{MAX_NAME_BYTES, Name};
 pub use op::Op;
 pub use operands::{Coercion, HeaderObject, Implicit, LoopKind, Over, PropertyMode, ScopedName};
-pub use packed::PackedCode;
+pub use packed::{CellPlace, CellRef, PackedCode};
 pub use shape::{Catches, Level, Shape};
 pub use shared::Shared;

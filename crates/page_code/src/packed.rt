@@ -1,7 +1,6 @@
-ghost use Rattle.std.specs.Prelude.{◌≡◌, length, slice_get, IfOk};
-ghost use Rattle.page_code.specs.Tables.{IsStepOf};
+ghost use Rattle.std.specs.Prelude.{◌≡◌, ◌<◌, get_or, length, IfOk};
+ghost use Rattle.page_code.specs.Tables.{IsCellAt, IsStepOf, no_cell};
 
-use crate::cell_ref::CellRef;
 use crate::code::Cell;
 use crate::instr::Instr;
 use crate::shape::Shape;
@@ -67,19 +66,60 @@ impl PackedCode {
         self.steps.len()
     }
 
-    /// The cell at a place in the code.
+    /// The cell of this number.
     #[inline(always)]
-    pub fn get(&self, at: usize) -> Option<CellRef<'_>>
-        ensures { result ≡ slice_get self.now at }
+    pub fn cell(&self, at: usize) -> CellRef<'_>
+        requires { at < length self.now }
+        ensures { IsCellAt self.now at result.instr.now result.place }
     {
-        let Some(step) = self.steps.get(at) else {
-            return None;
-        };
-        Some(CellRef {
-            instr: &self.instrs[step.instr as usize],
-            place: &self.places[step.place as usize],
-            shape: &self.shapes[step.shape as usize],
-        })
+        let instr = self.steps[at].instr as usize;
+        CellRef {
+            instr: &self.instrs[instr],
+            place: CellPlace { code: self, at },
+        }
+    }
+
+    // The place of the cell of this number.
+    fn place(&self, at: usize) -> &Place
+        requires { at < length self.now }
+        ensures { result.now ≡ (get_or self.now at no_cell).place }
+    {
+        let place = self.steps[at].place as usize;
+        &self.places[place]
+    }
+}
+
+/// A cell of a packed code: its instruction, and its place.
+#[derive(Drop)]
+pub struct CellRef<'a> {
+    pub instr: &'a Instr,
+    pub place: CellPlace<'a>,
+}
+
+/// The place of a cell, which is looked up where it is asked for. Contracts see the place.
+#[derive(Drop)]
+pub struct CellPlace<'a> {
+    code: &'a PackedCode,
+    at: usize,
+}
+
+impl<'a> Model for CellPlace<'a> {
+    ghost use Rattle.std.specs.Prelude.{◌<◌, get_or, length};
+    ghost use Rattle.page_code.specs.Tables.{no_cell};
+    ghost use Rattle.pg_text.specs.declared.place.Place.{Place};
+
+    ghost Value = { Place };
+
+    ghost view = { λ p. (get_or p.code.now p.at no_cell).place };
+
+    ghost invariant = { λ p. p.at < length p.code.now };
+}
+
+impl<'a> CellPlace<'a> {
+    pub fn get(&self) -> &'a Place
+        ensures { result.now ≡ self.now }
+    {
+        self.code.place(self.at)
     }
 }
 
