@@ -1,6 +1,8 @@
 -- A code by its steps and the tables of what they name.
 use Rattle.std.specs.Prelude.{◌≡◌, ◌<◌, ◌++◌, ℕ, List, [], map, get_or, length, Some, slice_get}
 use Rattle.page_code.specs.Shapes.{cell, empty_shape}
+use Rattle.page_code.specs.declared.call.CallBody.TheVariants as body
+use Rattle.page_code.specs.declared.call.TagCall.{TagCall}
 use Rattle.page_code.specs.declared.code.Cell.{Cell}
 use Rattle.page_code.specs.declared.instr.Instr.{Instr}
 use Rattle.page_code.specs.declared.instr.Instr.TheVariants as instr
@@ -28,6 +30,10 @@ step_cell is ps shs s = cell (get_or shs s.shape empty_shape) (get_or ps s.place
 -- the cells that steps are
 abbrev pub step_cells : List Instr → List Place → List Shape → List Step → List Cell
 step_cells is ps shs steps = map (step_cell is ps shs) steps
+
+-- the call of a tag file without attributes and without a body
+abbrev pub bare_call : List ℕ → TagCall
+bare_call path = record { path = path; names = []; body = body.Absent; fragments = [] }
 
 -- the numbers of a step stand in the tables
 pub record IsListed (is : List Instr) (ps : List Place) (shs : List Shape) (s : Step) : Type 0 where

@@ -1,7 +1,9 @@
 // Whether what cells consist of is equal. What is large or rare is said to differ, so that no
 // answer takes long: where two are equal they may be kept once, and needn't.
 ghost use Rattle.std.specs.Prelude.{◌≡◌, IsTrue};
+ghost use Rattle.page_code.specs.Tables.{bare_call};
 
+use crate::call::{CallBody, CallOut, TagCall};
 use crate::instr::Instr;
 use crate::op::Op;
 use crate::shape::{Level, Shape};
@@ -55,8 +57,35 @@ pub(crate) fn is_same_instr(a: &Instr, b: &Instr) -> bool
         Instr::Leave(a) => matches!(b, Instr::Leave(b) if *a == *b),
         Instr::Ensure { .. } => false,
         Instr::LoopStart(_) => false,
-        Instr::CallOut(_) => false,
+        Instr::CallOut(a) => matches!(b, Instr::CallOut(b) if is_same_call_out(a, b)),
     }
+}
+
+// Whether the calls are equal, where they are small.
+fn is_same_call_out(a: &CallOut, b: &CallOut) -> bool
+    ensures { IsTrue result → a.now ≡ b.now }
+{
+    match a {
+        CallOut::Tag(a) => matches!(b, CallOut::Tag(b) if is_same_call(a.get(), b.get())),
+        CallOut::Body => matches!(b, CallOut::Body),
+        CallOut::Fragment(_) => false,
+        CallOut::Include { .. } => false,
+        CallOut::Import => matches!(b, CallOut::Import),
+    }
+}
+
+// Whether the calls of tag files are equal, where they are bare.
+fn is_same_call(a: &TagCall, b: &TagCall) -> bool
+    ensures { IsTrue result → a.now ≡ b.now }
+{
+    is_bare(a) && is_bare(b) && a.path.as_bytes() == b.path.as_bytes()
+}
+
+// Whether a call has no attributes, and hands down nothing.
+fn is_bare(call: &TagCall) -> bool
+    ensures { IsTrue result → call.now ≡ bare_call call.now.path }
+{
+    call.names.is_empty() && call.fragments.is_empty() && matches!(call.body, CallBody::Absent)
 }
 
 // Whether the operations are equal, where they are small.
