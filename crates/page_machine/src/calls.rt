@@ -99,7 +99,7 @@ pub(crate) fn tag_call<'a, W: World>(
             let start = TagStart { call, tag, entries };
             enter_call(alloc, at, records, start, opened, world)
         }
-        Err(failed) => fail(alloc, failed, at.cell.place(), opened, world),
+        Err(failed) => fail(alloc, failed, &at.cell.place, opened, world),
     }
 }
 
@@ -141,7 +141,7 @@ fn enter_call<W: World>(
 {
     let TagStart { call, tag, entries } = start;
     let Some(left) = opened.left.checked_sub(1) else {
-        return throw(alloc, RunFault::TooDeep, at.cell.place(), opened, world);
+        return throw(alloc, RunFault::TooDeep, &at.cell.place, opened, world);
     };
     let frame = world.frame();
     let frames = world.scopes().frames();
@@ -175,7 +175,7 @@ fn enter_call<W: World>(
                 world.go_back(frames, frame);
                 Flow::Go(at.pc + 1 + size_of(call))
             }
-            Err(failed) => fail(alloc, failed, at.cell.place(), opened, world),
+            Err(failed) => fail(alloc, failed, &at.cell.place, opened, world),
         },
         End::Raised { fault, place } => {
             world.go_back(frames, frame);
@@ -230,10 +230,10 @@ pub(crate) fn given_call<W: World>(
             Given::Source(text) => write_source(alloc, at, call, text, opened, world),
             Given::Code(pc) => {
                 let Some(left) = opened.left.checked_sub(1) else {
-                    return throw(alloc, RunFault::TooDeep, at.cell.place(), opened, world);
+                    return throw(alloc, RunFault::TooDeep, &at.cell.place, opened, world);
                 };
                 if let Err(failed) = copy_out(alloc, call.exports, call.frame, world) {
-                    return fail(alloc, failed, at.cell.place(), opened, world);
+                    return fail(alloc, failed, &at.cell.place, opened, world);
                 }
                 let frame = world.frame();
                 let frames = world.scopes().frames();
@@ -279,13 +279,13 @@ fn write_source<W: World>(
     ensures left { opened.new.left ≡ opened.old.left }
 {
     let Some(_left) = opened.left.checked_sub(1) else {
-        return throw(alloc, RunFault::TooDeep, at.cell.place(), opened, world);
+        return throw(alloc, RunFault::TooDeep, &at.cell.place, opened, world);
     };
     if let Err(failed) = copy_out(alloc, call.exports, call.frame, world) {
-        return fail(alloc, failed, at.cell.place(), opened, world);
+        return fail(alloc, failed, &at.cell.place, opened, world);
     }
     match world.put(text.as_str()) {
         Ok(()) => Flow::Go(at.pc + 1),
-        Err(failed) => fail(alloc, failed, at.cell.place(), opened, world),
+        Err(failed) => fail(alloc, failed, &at.cell.place, opened, world),
     }
 }

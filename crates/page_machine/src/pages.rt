@@ -164,14 +164,14 @@ fn include<W: World>(
 {
     let target = match found {
         Ok(target) => target,
-        Err(failed) => return fail(alloc, failed, at.cell.place(), opened, world),
+        Err(failed) => return fail(alloc, failed, &at.cell.place, opened, world),
     };
     let Some(left) = opened.left.checked_sub(1) else {
-        return throw(alloc, RunFault::TooDeep, at.cell.place(), opened, world);
+        return throw(alloc, RunFault::TooDeep, &at.cell.place, opened, world);
     };
     let paged = match world.page(&target.path) {
         Ok(paged) => paged,
-        Err(failed) => return fail(alloc, failed, at.cell.place(), opened, world),
+        Err(failed) => return fail(alloc, failed, &at.cell.place, opened, world),
     };
     match paged {
         Paged::Page(program) => {
@@ -206,7 +206,7 @@ fn include_text<W: World>(
 {
     match world.put(text.as_str()) {
         Ok(()) => Flow::Go(at.pc + 1),
-        Err(failed) => fail(alloc, failed, at.cell.place(), opened, world),
+        Err(failed) => fail(alloc, failed, &at.cell.place, opened, world),
     }
 }
 
@@ -243,7 +243,7 @@ fn included_page<W: World>(
         }
         End::Raised { fault, .. } => {
             world.go_back(frames, frame);
-            throw(alloc, fault, at.cell.place(), opened, world)
+            throw(alloc, fault, &at.cell.place, opened, world)
         }
         End::Redirect(_) => {
             world.drop_bodies(bodies);

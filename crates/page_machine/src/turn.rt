@@ -1,7 +1,8 @@
 // The run of a code.
-ghost use Rattle.std.specs.Prelude.{◌≡◌, ◌+◌, ◌<◌, ◌^◌, IfSome, IsTrue, Some, length, slice_get};
+ghost use Rattle.std.specs.Prelude.{◌≡◌, ◌+◌, ◌<◌, ◌^◌, IfSome, IsTrue, length};
 ghost use Rattle.page_code.specs.Fits.{Carries};
 ghost use Rattle.page_code.specs.Shapes.{empty_shape};
+ghost use Rattle.page_code.specs.Tables.{IsCellAt};
 ghost use Rattle.page_code.specs.declared.instr.Instr.TheVariants as instr;
 ghost use Rattle.page_machine.specs.Turn.{CallBegins, CodeRuns, Ran, SeatHolds, StandsInCode, Stepped};
 ghost use Rattle.page_table.specs.Act.{called_out, move_of};
@@ -75,10 +76,13 @@ pub(crate) fn run_code<'a, W: World>(
         };
         match quick(alloc, seat, op, &mut opened, world) {
             Ok(()) => pc += 1,
-            Err(failed) => match fail(alloc, failed, cell.place(), &mut opened, world) {
-                Flow::Go(to) => pc = to,
-                Flow::Over(end) => return end,
-            },
+            Err(failed) => {
+                let place = cell.place;
+                match fail(alloc, failed, &place, &mut opened, world) {
+                    Flow::Go(to) => pc = to,
+                    Flow::Over(end) => return end,
+                }
+            }
         }
     }
 }
@@ -87,25 +91,22 @@ pub(crate) fn run_code<'a, W: World>(
 #[inline(always)]
 fn cell_of(code: &PackedCode, pc: usize) -> CellRef<'_>
     requires within { pc < length code.now }
-    ensures cell { slice_get code.now pc ≡ Some result }
+    ensures cell { IsCellAt code.now pc result.instr.now result.place }
     ensures counted { length code.now < 2 ^ 64 }
     ensures next { pc + 1 < 2 ^ 64 }
 {
     if pc >= code.len() {
         unreachable!()
     }
-    let Some(cell) = code.get(pc) else {
-        unreachable!()
-    };
-    cell
+    code.cell(pc)
 }
 
 // The frequent operation that a cell is, if it is one.
 #[inline(always)]
 fn frequent_of<'a>(cell: &CellRef<'a>) -> Option<&'a Op>
-    ensures { IfSome result (λ op. (cell.now.instr ≡ instr.Op op.now) × IsTrue (is_quick op.now)) }
+    ensures { IfSome result (λ op. (cell.now.instr.now ≡ instr.Op op.now) × IsTrue (is_quick op.now)) }
 {
-    match cell.instr() {
+    match cell.instr {
         Instr::Op(op) if is_quick(op) => Some(op),
         _ => None,
     }
@@ -126,7 +127,7 @@ fn turn<W: World>(
     requires known { Known W.reached W.stores at.now.served.now world.old }
     requires seat { SeatFits (seat_at at.now) }
     requires holds { SeatHolds (seat_at at.now) (length (W.variables world.old).frames) }
-    requires cell { slice_get (code_of (seat_at at.now)) at.now.pc ≡ Some at.now.cell }
+    requires cell { IsCellAt (code_of (seat_at at.now)) at.now.pc at.now.cell.instr.now at.now.cell.place }
     requires within { length (code_of (seat_at at.now)) < 2 ^ 64 }
     requires standing { StandsInCode (seat_at at.now) at.now.pc (W.kept world.old) (open_of opened.old) }
     ensures covered { W.covered world.new }
@@ -136,7 +137,7 @@ fn turn<W: World>(
         (open_of opened.new) result }
     ensures left { opened.new.left ≡ opened.old.left }
 {
-    match at.cell.instr() {
+    match at.cell.instr {
         Instr::CallOut(what) => call_out(alloc, at, records, what, opened, world),
         _ => step(alloc, at, records, opened, world),
     }

@@ -77,7 +77,7 @@ pub(crate) fn take_body<W: World>(alloc: Global, at: &At, opened: &mut Open, wor
             Ok(()) => Flow::Go(at.pc + 1),
             Err(_) => Flow::Over(End::NoMemory),
         },
-        Err(failed) => fail(alloc, failed, at.cell.place(), opened, world),
+        Err(failed) => fail(alloc, failed, &at.cell.place, opened, world),
     }
 }
 
@@ -270,6 +270,6 @@ pub(crate) fn ensure<W: World>(
     match make_bean(ensured.variable, ensured.bean, world) {
         Ok(true) => Flow::Go(at.pc + 1),
         Ok(false) => Flow::Go(at.pc + 1 + ensured.size),
-        Err(failed) => fail(alloc, failed, at.cell.place(), opened, world),
+        Err(failed) => fail(alloc, failed, &at.cell.place, opened, world),
     }
 }

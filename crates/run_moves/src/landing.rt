@@ -12,6 +12,7 @@ use crate::at::At;
 use crate::flow::{End, Flow};
 use crate::open::Open;
 use crate::raising::throw_at;
+use page_code::CellPlace;
 use pg_text::{Failure, Place};
 use pg_value::{RunFault, Value};
 use run_world::World;
@@ -22,7 +23,7 @@ use std::alloc::Global;
 pub fn fail<W: World>(
     alloc: Global,
     failed: Failure<RunFault>,
-    place: &Place,
+    place: &CellPlace,
     opened: &mut Open,
     world: &mut W,
 ) -> Flow
@@ -33,7 +34,7 @@ pub fn fail<W: World>(
     ensures short { failed ≡ failure.NoMemory → (result ≡ flow.Over end.NoMemory) × (world.new ≡ world.old) }
     ensures left { opened.new.left ≡ opened.old.left }
 {
-    fail_at(alloc, failed, place, opened, world)
+    fail_at(alloc, failed, place.get(), opened, world)
 }
 
 // The same of a fault that stands at a place of its own.
@@ -76,7 +77,7 @@ pub(crate) fn land<W: World>(
 {
     let made = match made {
         Ok(made) => made,
-        Err(failed) => return fail(alloc, failed, at.cell.place(), opened, world),
+        Err(failed) => return fail(alloc, failed, &at.cell.place, opened, world),
     };
     let Some(value) = made else {
         return Flow::Go(at.pc + 1);
@@ -106,6 +107,6 @@ pub(crate) fn land_done<W: World>(
 {
     match done {
         Ok(()) => Flow::Go(at.pc + 1),
-        Err(failed) => fail(alloc, failed, at.cell.place(), opened, world),
+        Err(failed) => fail(alloc, failed, &at.cell.place, opened, world),
     }
 }

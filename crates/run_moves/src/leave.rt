@@ -25,8 +25,8 @@ use crate::flow::{End, Flow};
 use crate::landing::fail;
 use crate::open::Open;
 use http_in::Param;
-use page_code::Leave;
-use pg_text::{Failure, Listed, Path, Place, Text};
+use page_code::{CellPlace, Leave};
+use pg_text::{Failure, Listed, Path, Text};
 use pg_value::{RunFault, Value};
 use run_parts::{target_params, target_path};
 use run_values::text_of;
@@ -60,13 +60,18 @@ pub(crate) fn leave<W: World>(
 {
     match how {
         Leave::End => Flow::Over(End::Normal),
-        Leave::Redirect => redirect_away(alloc, at.cell.place(), opened, world),
+        Leave::Redirect => redirect_away(alloc, &at.cell.place, opened, world),
         Leave::Forward(params) => forward_away(alloc, at, *params, opened, world),
     }
 }
 
 // Sends the client to the address on top.
-fn redirect_away<W: World>(alloc: Global, place: &Place, opened: &mut Open, world: &mut W) -> Flow
+fn redirect_away<W: World>(
+    alloc: Global,
+    place: &CellPlace,
+    opened: &mut Open,
+    world: &mut W,
+) -> Flow
     requires covered { W.covered world.old }
     requires filled { 1 ≤ length opened.old.stack }
     ensures covered { W.covered world.new }
@@ -110,7 +115,7 @@ fn forward_away<W: World>(
             let Forward { path, params, left } = goal;
             Flow::Over(End::Forward { path, params, left })
         }
-        Err(failed) => fail(alloc, failed, at.cell.place(), opened, world),
+        Err(failed) => fail(alloc, failed, &at.cell.place, opened, world),
     }
 }
 

@@ -138,7 +138,7 @@ fn set_value<W: World>(
     };
     let found = match find_property(setting.name, setting.property, world) {
         Ok(found) => found,
-        Err(failed) => return fail(alloc, failed, at.cell.place(), opened, world),
+        Err(failed) => return fail(alloc, failed, &at.cell.place, opened, world),
     };
     let made = match replaced(alloc, &found.old, &value) {
         Ok(made) => made,
@@ -146,6 +146,6 @@ fn set_value<W: World>(
     };
     match write_back(found, setting.property, made, setting.name, world) {
         Ok(()) => Flow::Go(at.pc + 1),
-        Err(failed) => fail(alloc, failed, at.cell.place(), opened, world),
+        Err(failed) => fail(alloc, failed, &at.cell.place, opened, world),
     }
 }

@@ -11,7 +11,7 @@ ghost use Rattle.run_world.specs.Part.{Changes};
 use crate::flow::{End, Flow};
 use crate::loops::Loops;
 use crate::open::Open;
-use page_code::Name;
+use page_code::{CellPlace, Name};
 use pg_text::Place;
 use pg_value::RunFault;
 use run_values::fault_record;
@@ -68,7 +68,7 @@ fn fall<W: World>(fault: RunFault, place: &Place, opened: &mut Open, world: &mut
 pub fn throw<W: World>(
     alloc: Global,
     fault: RunFault,
-    place: &Place,
+    place: &CellPlace,
     opened: &mut Open,
     world: &mut W,
 ) -> Flow
@@ -78,7 +78,7 @@ pub fn throw<W: World>(
         world.old world.new (open_of opened.new) result }
     ensures left { opened.new.left ≡ opened.old.left }
 {
-    throw_at(alloc, fault, place, opened, world)
+    throw_at(alloc, fault, place.get(), opened, world)
 }
 
 /// The same of a fault that stands at a place of its own.

@@ -54,7 +54,7 @@ pub(crate) fn loop_start<W: World>(
     opened.stack.drop_top(count);
     let looping = match made {
         Ok(looping) => looping,
-        Err(failed) => return fail(alloc, failed, at.cell.place(), opened, world),
+        Err(failed) => return fail(alloc, failed, &at.cell.place, opened, world),
     };
     match opened.loops.push(looping) {
         Ok(()) => Flow::Go(at.pc + 1),
@@ -126,7 +126,7 @@ pub(crate) fn loop_next<W: World>(
             opened.loops.advance();
             Flow::Go(at.pc - size)
         }
-        Err(failed) => fail(alloc, failed, at.cell.place(), opened, world),
+        Err(failed) => fail(alloc, failed, &at.cell.place, opened, world),
     }
 }
 

@@ -37,17 +37,17 @@ pub fn step<W: World>(
     requires records { IsRecordsAt at.now records.old }
     requires within { length (code_of (seat_at at.now)) < 2 ^ 64 }
     requires finds { Finds (length (code_of (seat_at at.now))) at.now.pc (W.kept world.old)
-        (open_of opened.old) at.now.cell.instr }
-    requires simple { IsSimple at.now.cell.instr }
+        (open_of opened.old) at.now.cell.instr.now }
+    requires simple { IsSimple at.now.cell.instr.now }
     ensures covered { W.covered world.new }
     ensures records { IsRecordsAt at.now records.new }
     ensures acted { ActedFor W.reached W.replies (ServesSo W.stores at.now.served.now) (λ serving s.
         act serving (seat_at at.now) at.now.cell.place at.now.pc s (open_of opened.old)
-        at.now.cell.instr) world.old world.new (open_of opened.new) result }
+        at.now.cell.instr.now) world.old world.new (open_of opened.new) result }
     ensures left { opened.new.left ≡ opened.old.left }
 {
     let pc = at.pc;
-    match at.cell.instr() {
+    match at.cell.instr {
         Instr::Op(op) => operation(alloc, at, records, op, opened, world),
         Instr::Take(above) => take(pc, *above, opened, world),
         Instr::StartBody => start_body(pc, opened, world),

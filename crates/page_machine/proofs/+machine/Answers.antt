@@ -1,6 +1,8 @@
 use Rattle.page_code.specs.Calls.{body_size, call_size, fragments_size}
 use Rattle.page_code.specs.Fits.{FragmentsBegin}
 use Rattle.page_code.specs.Ops.{address_with}
+use Rattle.page_code.specs.Shapes.{cell as made_cell}
+use Rattle.page_code.specs.Tables.{IsCellAt}
 use Rattle.page_code.specs.declared.call.CallOut.TheVariants as call
 use Rattle.page_code.specs.declared.code.Cell.{Cell}
 use Rattle.page_code.specs.declared.instr.Instr.TheVariants as instr
@@ -83,7 +85,11 @@ turn::run_code-turn-requires g t c κs within =
     let seat = seat_of c.args.start.seat.now in
     let inv = c.loop-op.invariant in
     let left : c.loop-op.opened.left ≡ c.args.start.left = inv.left in
-    let here = cell_at (code_of seat) c.code-code.result.now c.loop-op.pc c.cell_of-cell.result c.code-code.ensures c.cell_of-cell.ensures.cell in
+    let cell = made_cell c.cell_of-cell.ensures.cell.shape c.cell_of-cell.result.place c.cell_of-cell.result.instr.now in
+    let here : IsCellAt (code_of seat) c.loop-op.pc c.cell_of-cell.result.instr.now c.cell_of-cell.result.place = record {
+      shape = c.cell_of-cell.ensures.cell.shape;
+      there = cell_at (code_of seat) c.code-code.result.now c.loop-op.pc cell c.code-code.ensures c.cell_of-cell.ensures.cell.there;
+    } in
     let counted : length (code_of seat) < 2 ^ 64 = subst (λ (cells : List Cell). length cells < 2 ^ 64) c.code-code.ensures c.cell_of-cell.ensures.counted in
     search rules
 
@@ -124,8 +130,8 @@ pub turn::run_code-quick-requires : goal.turn::run_code-quick-requires
 turn::run_code-quick-requires g t c =
     let seat = seat_of c.args.start.seat.now in
     let o = open_of c.loop-op.opened in
-    let cell = c.cell_of-cell.result in
-    let here = cell_at (code_of seat) c.code-code.result.now c.loop-op.pc cell c.code-code.ensures c.cell_of-cell.ensures.cell in
+    let cell = made_cell c.cell_of-cell.ensures.cell.shape c.cell_of-cell.result.place c.cell_of-cell.result.instr.now in
+    let here = cell_at (code_of seat) c.code-code.result.now c.loop-op.pc cell c.code-code.ensures c.cell_of-cell.ensures.cell.there in
     let inv = c.loop-op.invariant in
     let finds = subst (Finds (length (code_of seat)) c.loop-op.pc (g.W.World.kept c.loop-op.world) o) c.in-Some.ensures.0
     (finds_at g.met.W.World.tells c.args.served.now seat c.requires.seat c.loop-op.pc o c.loop-op.world inv.known inv.standing cell here) in
@@ -136,8 +142,8 @@ turn::run_code-loop-op-preserved-in-Ok g t c =
     let seat = seat_of c.args.start.seat.now in
     let o = open_of c.loop-op.opened in
     let o2 = open_of c.quick.new.opened in
-    let cell = c.cell_of-cell.result in
-    let here = cell_at (code_of seat) c.code-code.result.now c.loop-op.pc cell c.code-code.ensures c.cell_of-cell.ensures.cell in
+    let cell = made_cell c.cell_of-cell.ensures.cell.shape c.cell_of-cell.result.place c.cell_of-cell.result.instr.now in
+    let here = cell_at (code_of seat) c.code-code.result.now c.loop-op.pc cell c.code-code.ensures c.cell_of-cell.ensures.cell.there in
     let inv = c.loop-op.invariant in
     let laws = g.met.W.World in
     let kept = behind_turn laws.stores_on laws.again laws.tells c.args.served.now seat c.requires.seat c.loop-op.pc (c.loop-op.pc + 1) o o2 c.loop-op.world c.quick.new.world inv.known
@@ -158,8 +164,8 @@ turn::run_code-loop-op-smaller-in-Ok g t c =
     let seat = seat_of c.args.start.seat.now in
     let o = open_of c.loop-op.opened in
     let o2 = open_of c.quick.new.opened in
-    let cell = c.cell_of-cell.result in
-    let here = cell_at (code_of seat) c.code-code.result.now c.loop-op.pc cell c.code-code.ensures c.cell_of-cell.ensures.cell in
+    let cell = made_cell c.cell_of-cell.ensures.cell.shape c.cell_of-cell.result.place c.cell_of-cell.result.instr.now in
+    let here = cell_at (code_of seat) c.code-code.result.now c.loop-op.pc cell c.code-code.ensures c.cell_of-cell.ensures.cell.there in
     let inv = c.loop-op.invariant in
     let laws = g.met.W.World in
     loop_nearer laws.stores_on laws.again laws.tells c.args.served.now seat c.requires.seat c.loop-op.pc (c.loop-op.pc + 1) o o2 c.loop-op.world c.quick.new.world inv.known
@@ -172,8 +178,8 @@ turn::run_code-loop-op-preserved g t c =
     let mid = open_of c.quick.new.opened in
     let o2 = open_of c.fail.new.opened in
     let to = c.in-Go-fail.to in
-    let cell = c.cell_of-cell.result in
-    let here = cell_at (code_of seat) c.code-code.result.now c.loop-op.pc cell c.code-code.ensures c.cell_of-cell.ensures.cell in
+    let cell = made_cell c.cell_of-cell.ensures.cell.shape c.cell_of-cell.result.place c.cell_of-cell.result.instr.now in
+    let here = cell_at (code_of seat) c.code-code.result.now c.loop-op.pc cell c.code-code.ensures c.cell_of-cell.ensures.cell.there in
     let inv = c.loop-op.invariant in
     let laws = g.met.W.World in
     let kept = behind_turn laws.stores_on laws.again laws.tells c.args.served.now seat c.requires.seat c.loop-op.pc to o o2 c.loop-op.world c.fail.new.world inv.known
@@ -197,8 +203,8 @@ turn::run_code-loop-op-smaller g t c =
     let mid = open_of c.quick.new.opened in
     let o2 = open_of c.fail.new.opened in
     let to = c.in-Go-fail.to in
-    let cell = c.cell_of-cell.result in
-    let here = cell_at (code_of seat) c.code-code.result.now c.loop-op.pc cell c.code-code.ensures c.cell_of-cell.ensures.cell in
+    let cell = made_cell c.cell_of-cell.ensures.cell.shape c.cell_of-cell.result.place c.cell_of-cell.result.instr.now in
+    let here = cell_at (code_of seat) c.code-code.result.now c.loop-op.pc cell c.code-code.ensures c.cell_of-cell.ensures.cell.there in
     let inv = c.loop-op.invariant in
     let laws = g.met.W.World in
     loop_nearer laws.stores_on laws.again laws.tells c.args.served.now seat c.requires.seat c.loop-op.pc to o o2 c.loop-op.world c.fail.new.world inv.known
@@ -212,8 +218,8 @@ turn::run_code-returns-in-Over-fail-clause-ran g t c =
     let mid = open_of c.quick.new.opened in
     let o2 = open_of c.fail.new.opened in
     let end = c.in-Over-fail.end in
-    let cell = c.cell_of-cell.result in
-    let here = cell_at (code_of seat) c.code-code.result.now c.loop-op.pc cell c.code-code.ensures c.cell_of-cell.ensures.cell in
+    let cell = made_cell c.cell_of-cell.ensures.cell.shape c.cell_of-cell.result.place c.cell_of-cell.result.instr.now in
+    let here = cell_at (code_of seat) c.code-code.result.now c.loop-op.pc cell c.code-code.ensures c.cell_of-cell.ensures.cell.there in
     let laws = g.met.W.World in
     over_with laws.stores_on laws.again c.args.served.now seat c.args.start.pc c.args.start.left c.args.world.now c.loop-op.world c.loop-op.pc o c.requires.known c.loop-op.invariant.so_far c.fail.new.world o2 end
     (fell_off seat c.loop-op.pc o cell c.in-Some.op.now here c.in-Some.ensures.0 c.loop-op.world c.quick.new.world mid c.in-Err.failed c.fail.new.world o2 (flows.Over end) c.in-Err.ensures.lands
@@ -225,26 +231,26 @@ pub turn::turn-call_out-requires : goal.turn::turn-call_out-requires
 turn::turn-call_out-requires g t c κs within =
     let seat = seat_at c.args.at.now in
     let o = open_of c.args.opened.now in
-    let cell = c.args.at.now.cell in
-    let begins = begins_at seat c.requires.seat c.args.at.now.pc cell c.in-CallOut.what c.requires.cell c.in-CallOut.is in
+    let cell = made_cell c.requires.cell.shape c.args.at.now.cell.place c.args.at.now.cell.instr.now in
+    let begins = begins_at seat c.requires.seat c.args.at.now.pc cell c.in-CallOut.what c.requires.cell.there c.in-CallOut.is in
     let finds = subst (Finds (length (code_of seat)) c.args.at.now.pc (g.W.World.kept c.args.world.now) o) c.in-CallOut.is
-    (finds_at g.met.W.World.tells c.args.at.now.served.now seat c.requires.seat c.args.at.now.pc o c.args.world.now c.requires.known c.requires.standing cell c.requires.cell) in
+    (finds_at g.met.W.World.tells c.args.at.now.served.now seat c.requires.seat c.args.at.now.pc o c.args.world.now c.requires.known c.requires.standing cell c.requires.cell.there) in
     search rules
 
 pub turn::turn-returns-in-CallOut-clause-stepped : goal.turn::turn-returns-in-CallOut-clause-stepped
 turn::turn-returns-in-CallOut-clause-stepped g t c =
     let seat = seat_at c.args.at.now in
     let o = open_of c.args.opened.now in
-    let cell = c.args.at.now.cell in
+    let cell = made_cell c.requires.cell.shape c.args.at.now.cell.place c.args.at.now.cell.instr.now in
     stepped_as seat (λ serving s. move_of serving seat c.args.at.now.pc s o) (λ serving s. called_out serving seat cell.place (c.args.at.now.pc + 1) c.in-CallOut.what s o) c.args.world.now c.call_out.new.world
-    (open_of c.call_out.new.opened) c.call_out.result (λ serving h s. move_is serving seat c.args.at.now.pc s o cell (instr.CallOut c.in-CallOut.what) c.requires.cell c.in-CallOut.is) c.call_out.ensures.stepped
+    (open_of c.call_out.new.opened) c.call_out.result (λ serving h s. move_is serving seat c.args.at.now.pc s o cell (instr.CallOut c.in-CallOut.what) c.requires.cell.there c.in-CallOut.is) c.call_out.ensures.stepped
 
 pub turn::turn-step-requires : goal.turn::turn-step-requires
 turn::turn-step-requires g t c =
     let seat = seat_at c.args.at.now in
     let o = open_of c.args.opened.now in
-    let cell = c.args.at.now.cell in
-    let finds = finds_at g.met.W.World.tells c.args.at.now.served.now seat c.requires.seat c.args.at.now.pc o c.args.world.now c.requires.known c.requires.standing cell c.requires.cell in
+    let cell = made_cell c.requires.cell.shape c.args.at.now.cell.place c.args.at.now.cell.instr.now in
+    let finds = finds_at g.met.W.World.tells c.args.at.now.served.now seat c.requires.seat c.args.at.now.pc o c.args.world.now c.requires.known c.requires.standing cell c.requires.cell.there in
     let simple = simple_of cell.instr c.in_default.not-CallOut in
     search rules
 
@@ -252,11 +258,11 @@ pub turn::turn-returns-in_default-clause-stepped : goal.turn::turn-returns-in_de
 turn::turn-returns-in_default-clause-stepped g t c =
     let seat = seat_at c.args.at.now in
     let o = open_of c.args.opened.now in
-    let cell = c.args.at.now.cell in
+    let cell = made_cell c.requires.cell.shape c.args.at.now.cell.place c.args.at.now.cell.instr.now in
     acted_stepped seat (λ serving s. move_of serving seat c.args.at.now.pc s o) c.args.world.now c.step.new.world (open_of c.step.new.opened) c.step.result
     (λ serving h.
     acted_as (λ s. move_of serving seat c.args.at.now.pc s o) (λ s. act serving seat cell.place c.args.at.now.pc s o cell.instr) c.args.world.now c.step.new.world (open_of c.step.new.opened) c.step.result
-    (λ s. move_is serving seat c.args.at.now.pc s o cell cell.instr c.requires.cell refl) (c.step.ensures.acted.for serving h))
+    (λ s. move_is serving seat c.args.at.now.pc s o cell cell.instr c.requires.cell.there refl) (c.step.ensures.acted.for serving h))
 
 -- a call
 

@@ -13,7 +13,7 @@ use Rattle.page_table.specs.Seat.{code_of}
 
 pub returns-in-Op-clause-acted : goal.returns-in-Op-clause-acted
 returns-in-Op-clause-acted g c =
-    act_for (seat_at c.args.at.now) c.args.at.now.cell.place c.args.at.now.pc (open_of c.args.opened.now) c.args.at.now.cell.instr (instr.Op c.in-Op.op) c.args.world.now c.operation.new.world (open_of c.operation.new.opened) c.operation.result c.in-Op.is c.operation.ensures.acted
+    act_for (seat_at c.args.at.now) c.args.at.now.cell.place c.args.at.now.pc (open_of c.args.opened.now) c.args.at.now.cell.instr.now (instr.Op c.in-Op.op) c.args.world.now c.operation.new.world (open_of c.operation.new.opened) c.operation.result c.in-Op.is c.operation.ensures.acted
 
 pub operation-requires : goal.operation-requires
 operation-requires g c =
@@ -22,7 +22,7 @@ operation-requires g c =
 
 pub returns-in-Take-clause-acted : goal.returns-in-Take-clause-acted
 returns-in-Take-clause-acted g c =
-    act_plain (seat_at c.args.at.now) c.args.at.now.cell.place c.args.at.now.pc (open_of c.args.opened.now) c.args.at.now.cell.instr (instr.Take c.in-Take.above) c.args.world.now c.take.new.world (open_of c.take.new.opened) c.take.result c.in-Take.is
+    act_plain (seat_at c.args.at.now) c.args.at.now.cell.place c.args.at.now.pc (open_of c.args.opened.now) c.args.at.now.cell.instr.now (instr.Take c.in-Take.above) c.args.world.now c.take.new.world (open_of c.take.new.opened) c.take.result c.in-Take.is
     (λ serving. c.take.ensures.acted)
 
 pub take-requires : goal.take-requires
@@ -32,7 +32,7 @@ take-requires g c =
 
 pub returns-in-StartBody-clause-acted : goal.returns-in-StartBody-clause-acted
 returns-in-StartBody-clause-acted g c =
-    act_plain (seat_at c.args.at.now) c.args.at.now.cell.place c.args.at.now.pc (open_of c.args.opened.now) c.args.at.now.cell.instr (instr.StartBody) c.args.world.now c.start_body.new.world (open_of c.start_body.new.opened) c.start_body.result c.in-StartBody.is
+    act_plain (seat_at c.args.at.now) c.args.at.now.cell.place c.args.at.now.pc (open_of c.args.opened.now) c.args.at.now.cell.instr.now (instr.StartBody) c.args.world.now c.start_body.new.world (open_of c.start_body.new.opened) c.start_body.result c.in-StartBody.is
     (λ serving. c.start_body.ensures.acted)
 
 pub start_body-requires : goal.start_body-requires
@@ -42,7 +42,7 @@ start_body-requires g c =
 
 pub returns-in-TakeBody-clause-acted : goal.returns-in-TakeBody-clause-acted
 returns-in-TakeBody-clause-acted g c =
-    act_plain (seat_at c.args.at.now) c.args.at.now.cell.place c.args.at.now.pc (open_of c.args.opened.now) c.args.at.now.cell.instr (instr.TakeBody) c.args.world.now c.take_body.new.world (open_of c.take_body.new.opened) c.take_body.result c.in-TakeBody.is
+    act_plain (seat_at c.args.at.now) c.args.at.now.cell.place c.args.at.now.pc (open_of c.args.opened.now) c.args.at.now.cell.instr.now (instr.TakeBody) c.args.world.now c.take_body.new.world (open_of c.take_body.new.opened) c.take_body.result c.in-TakeBody.is
     (λ serving. c.take_body.ensures.acted)
 
 pub take_body-requires : goal.take_body-requires
@@ -52,7 +52,7 @@ take_body-requires g c =
 
 pub returns-in-JumpIf-clause-acted : goal.returns-in-JumpIf-clause-acted
 returns-in-JumpIf-clause-acted g c =
-    act_plain (seat_at c.args.at.now) c.args.at.now.cell.place c.args.at.now.pc (open_of c.args.opened.now) c.args.at.now.cell.instr (instr.JumpIf c.in-JumpIf.holds c.in-JumpIf.size) c.args.world.now c.jump_if.new.world (open_of c.jump_if.new.opened) c.jump_if.result c.in-JumpIf.is
+    act_plain (seat_at c.args.at.now) c.args.at.now.cell.place c.args.at.now.pc (open_of c.args.opened.now) c.args.at.now.cell.instr.now (instr.JumpIf c.in-JumpIf.holds c.in-JumpIf.size) c.args.world.now c.jump_if.new.world (open_of c.jump_if.new.opened) c.jump_if.result c.in-JumpIf.is
     (λ serving. c.jump_if.ensures.acted)
 
 pub jump_if-requires : goal.jump_if-requires
@@ -62,7 +62,7 @@ jump_if-requires g c =
 
 pub returns-in-JumpNull-clause-acted : goal.returns-in-JumpNull-clause-acted
 returns-in-JumpNull-clause-acted g c =
-    act_plain (seat_at c.args.at.now) c.args.at.now.cell.place c.args.at.now.pc (open_of c.args.opened.now) c.args.at.now.cell.instr (instr.JumpNull c.in-JumpNull.size) c.args.world.now c.jump_null.new.world (open_of c.jump_null.new.opened) c.jump_null.result c.in-JumpNull.is
+    act_plain (seat_at c.args.at.now) c.args.at.now.cell.place c.args.at.now.pc (open_of c.args.opened.now) c.args.at.now.cell.instr.now (instr.JumpNull c.in-JumpNull.size) c.args.world.now c.jump_null.new.world (open_of c.jump_null.new.opened) c.jump_null.result c.in-JumpNull.is
     (λ serving. c.jump_null.ensures.acted)
 
 pub jump_null-requires : goal.jump_null-requires
@@ -72,7 +72,7 @@ jump_null-requires g c =
 
 pub returns-in-Ensure-clause-acted : goal.returns-in-Ensure-clause-acted
 returns-in-Ensure-clause-acted g c =
-    act_plain (seat_at c.args.at.now) c.args.at.now.cell.place c.args.at.now.pc (open_of c.args.opened.now) c.args.at.now.cell.instr (instr.Ensure c.in-Ensure.variable c.in-Ensure.bean c.in-Ensure.size) c.args.world.now c.ensure.new.world (open_of c.ensure.new.opened) c.ensure.result c.in-Ensure.is
+    act_plain (seat_at c.args.at.now) c.args.at.now.cell.place c.args.at.now.pc (open_of c.args.opened.now) c.args.at.now.cell.instr.now (instr.Ensure c.in-Ensure.variable c.in-Ensure.bean c.in-Ensure.size) c.args.world.now c.ensure.new.world (open_of c.ensure.new.opened) c.ensure.result c.in-Ensure.is
     (λ serving. subst
     (λ bean. Acted g.W.World.reached g.W.World.replies (λ s. act serving (seat_at c.args.at.now) c.args.at.now.cell.place c.args.at.now.pc s (open_of c.args.opened.now) (instr.Ensure c.in-Ensure.variable bean c.in-Ensure.size)) c.args.world.now c.ensure.new.world (open_of c.ensure.new.opened) c.ensure.result)
     c.get.ensures c.ensure.ensures.acted)
@@ -84,7 +84,7 @@ ensure-requires g c =
 
 pub returns-in-LoopStart-clause-acted : goal.returns-in-LoopStart-clause-acted
 returns-in-LoopStart-clause-acted g c =
-    act_plain (seat_at c.args.at.now) c.args.at.now.cell.place c.args.at.now.pc (open_of c.args.opened.now) c.args.at.now.cell.instr (instr.LoopStart c.in-LoopStart.kind) c.args.world.now c.loop_start.new.world (open_of c.loop_start.new.opened) c.loop_start.result c.in-LoopStart.is
+    act_plain (seat_at c.args.at.now) c.args.at.now.cell.place c.args.at.now.pc (open_of c.args.opened.now) c.args.at.now.cell.instr.now (instr.LoopStart c.in-LoopStart.kind) c.args.world.now c.loop_start.new.world (open_of c.loop_start.new.opened) c.loop_start.result c.in-LoopStart.is
     (λ serving. subst
     (λ kind. Acted g.W.World.reached g.W.World.replies (λ s. act serving (seat_at c.args.at.now) c.args.at.now.cell.place c.args.at.now.pc s (open_of c.args.opened.now) (instr.LoopStart kind)) c.args.world.now c.loop_start.new.world (open_of c.loop_start.new.opened) c.loop_start.result)
     c.get-in-LoopStart.ensures c.loop_start.ensures.acted)
@@ -100,7 +100,7 @@ loop_start-requires g c =
 
 pub returns-in-LoopNext-clause-acted : goal.returns-in-LoopNext-clause-acted
 returns-in-LoopNext-clause-acted g c =
-    act_plain (seat_at c.args.at.now) c.args.at.now.cell.place c.args.at.now.pc (open_of c.args.opened.now) c.args.at.now.cell.instr (instr.LoopNext c.in-LoopNext.size) c.args.world.now c.loop_next.new.world (open_of c.loop_next.new.opened) c.loop_next.result c.in-LoopNext.is
+    act_plain (seat_at c.args.at.now) c.args.at.now.cell.place c.args.at.now.pc (open_of c.args.opened.now) c.args.at.now.cell.instr.now (instr.LoopNext c.in-LoopNext.size) c.args.world.now c.loop_next.new.world (open_of c.loop_next.new.opened) c.loop_next.result c.in-LoopNext.is
     (λ serving. c.loop_next.ensures.acted)
 
 pub loop_next-requires : goal.loop_next-requires
@@ -110,7 +110,7 @@ loop_next-requires g c =
 
 pub returns-in-CatchStart-clause-acted : goal.returns-in-CatchStart-clause-acted
 returns-in-CatchStart-clause-acted g c =
-    act_plain (seat_at c.args.at.now) c.args.at.now.cell.place c.args.at.now.pc (open_of c.args.opened.now) c.args.at.now.cell.instr (instr.CatchStart c.in-CatchStart.size) c.args.world.now c.catch_start.new.world (open_of c.catch_start.new.opened) c.catch_start.result c.in-CatchStart.is
+    act_plain (seat_at c.args.at.now) c.args.at.now.cell.place c.args.at.now.pc (open_of c.args.opened.now) c.args.at.now.cell.instr.now (instr.CatchStart c.in-CatchStart.size) c.args.world.now c.catch_start.new.world (open_of c.catch_start.new.opened) c.catch_start.result c.in-CatchStart.is
     (λ serving. c.catch_start.ensures.acted)
 
 pub catch_start-requires : goal.catch_start-requires
@@ -120,7 +120,7 @@ catch_start-requires g c =
 
 pub returns-in-CatchEnd-clause-acted : goal.returns-in-CatchEnd-clause-acted
 returns-in-CatchEnd-clause-acted g c =
-    act_plain (seat_at c.args.at.now) c.args.at.now.cell.place c.args.at.now.pc (open_of c.args.opened.now) c.args.at.now.cell.instr (instr.CatchEnd) c.args.world.now c.catch_end.new.world (open_of c.catch_end.new.opened) c.catch_end.result c.in-CatchEnd.is
+    act_plain (seat_at c.args.at.now) c.args.at.now.cell.place c.args.at.now.pc (open_of c.args.opened.now) c.args.at.now.cell.instr.now (instr.CatchEnd) c.args.world.now c.catch_end.new.world (open_of c.catch_end.new.opened) c.catch_end.result c.in-CatchEnd.is
     (λ serving. c.catch_end.ensures.acted)
 
 pub catch_end-requires : goal.catch_end-requires
@@ -130,7 +130,7 @@ catch_end-requires g c =
 
 pub returns-in-Leave-clause-acted : goal.returns-in-Leave-clause-acted
 returns-in-Leave-clause-acted g c =
-    act_for (seat_at c.args.at.now) c.args.at.now.cell.place c.args.at.now.pc (open_of c.args.opened.now) c.args.at.now.cell.instr (instr.Leave c.in-Leave.how) c.args.world.now c.leave.new.world (open_of c.leave.new.opened) c.leave.result c.in-Leave.is c.leave.ensures.acted
+    act_for (seat_at c.args.at.now) c.args.at.now.cell.place c.args.at.now.pc (open_of c.args.opened.now) c.args.at.now.cell.instr.now (instr.Leave c.in-Leave.how) c.args.world.now c.leave.new.world (open_of c.leave.new.opened) c.leave.result c.in-Leave.is c.leave.ensures.acted
 
 pub leave-requires : goal.leave-requires
 leave-requires g c =
@@ -139,6 +139,6 @@ leave-requires g c =
 
 pub returns-in-Jump-clause-acted : goal.returns-in-Jump-clause-acted
 returns-in-Jump-clause-acted g c =
-    act_plain (seat_at c.args.at.now) c.args.at.now.cell.place c.args.at.now.pc (open_of c.args.opened.now) c.args.at.now.cell.instr (instr.Jump c.in-Jump.size) c.args.world.now c.args.world.now (open_of c.args.opened.now) _ c.in-Jump.is
+    act_plain (seat_at c.args.at.now) c.args.at.now.cell.place c.args.at.now.pc (open_of c.args.opened.now) c.args.at.now.cell.instr.now (instr.Jump c.in-Jump.size) c.args.world.now c.args.world.now (open_of c.args.opened.now) _ c.in-Jump.is
     (λ serving. acted_on (λ s. act serving (seat_at c.args.at.now) c.args.at.now.cell.place c.args.at.now.pc s (open_of c.args.opened.now) (instr.Jump c.in-Jump.size)) c.args.world.now (open_of c.args.opened.now)
     (c.args.at.now.pc + 1 + c.in-Jump.size) (λ s. refl))
