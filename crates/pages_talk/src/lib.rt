@@ -12,6 +12,7 @@ pub use command::play;
 pub use connection::talk;
 pub use conversation::Ended;
 pub use desk::PortDesk;
+pub use dispatch::{refusal_line, respond};
 pub use editing::tell_editor;
 pub use starting::start_alone;
 pub use talk_words::{

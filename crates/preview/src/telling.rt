@@ -11,11 +11,10 @@ ghost use Rattle.talk_words.specs.Said.{told_text};
 
 use crate::incoming::Incoming;
 use conversation::{Outcome, shows_body};
-use dispatch::refusal_line;
 use edges::Sink;
 use editor::{EditorAnswer, EditorFault, fault_text};
 use http_out::Status;
-use pages_talk::tell_editor;
+use pages_talk::{refusal_line, tell_editor};
 use site_words::Refusal;
 use source_tree::TreeFault;
 use std::alloc::{AllocError, Global};
