@@ -4,14 +4,13 @@ use Rattle.unit_source.specs.declared.placed.PlacedNode.{PlacedNode}
 use Rattle.unit_source.specs.InPlace.{InPlace, done, leaf, element, broken, included, followed}
 use Rattle.unit_source.specs.Placed.{in_place, node_in_place}
 use Rattle.unit_source.specs.ReadSteps.{Found, Filled, filled_by, leaf_filled, filled, filled_behind}
-use Rattle.unit_source.specs.Whole.{known}
 use Rattle.unit_source.proofs.PlacedLemmas.{followed_assoc}
 
 -- nodes that are filled, and then others
 pub filled_followed : (a b : InPlace) (found : List Found) → filled (followed a b) found ≡ filled_behind (filled a found).nodes (filled b (filled a found).left)
 filled_followed done b found = refl
 filled_followed (leaf kind place next) b found = ap (leaf_filled (leaf kind place)) (filled_followed next b found)
-filled_followed (element opened body next) b found = ap (leaf_filled (element (known (filled body found).nodes opened) (filled body found).nodes)) (filled_followed next b (filled body found).left)
+filled_followed (element opened body next) b found = ap (leaf_filled (element opened (filled body found).nodes)) (filled_followed next b (filled body found).left)
 filled_followed (broken fault next) b found = ap (leaf_filled (broken fault)) (filled_followed next b found)
 filled_followed (included d entry body next) b [] = ap (leaf_filled (included d entry body)) (filled_followed next b [])
 filled_followed (included d entry body next) b (f ∷ found) = ap (leaf_filled (included d f.entry f.nodes)) (filled_followed next b found)

@@ -10,4 +10,3 @@ pub mod PlacedLemmas
 pub mod PlacingLemmas
 pub mod SpliceLemmas
 pub mod StepLemmas
-pub mod WholeLemmas

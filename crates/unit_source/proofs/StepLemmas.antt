@@ -15,7 +15,6 @@ use Rattle.unit_source.specs.Placed.{in_place, node_in_place}
 use Rattle.unit_source.specs.ReadSplice.{Gone, gone, behind_file, found_of, step_of, taken_of}
 use Rattle.unit_source.specs.ReadSteps.{Step, registers, includes, steps_of, Found, Taken, found_in, taken, both_taken, filled_by, leaf_filled, filled}
 use Rattle.unit_source.specs.Splice.{Going, Inner, Spliced, deeper, nodes_read, registered, with_prefixes}
-use Rattle.unit_source.specs.Whole.{known}
 use Rattle.unit_source.proofs.PlacedLemmas.{element_placed, include_placed}
 
 -- the steps of nodes, one after the other
@@ -164,8 +163,8 @@ is_taken read brought around (element opened body next) more going =
         → IsTaken (element opened body next) (taken read brought steps going) last (nodes_read read brought around (element opened body next) going)
     in_element {steps} is one two = record {
       fill = ap (λ s. filled (element opened body next) (taken read brought s going).found) is
-          ∙ ap (λ f. leaf_filled (element (known f.nodes opened) f.nodes) (filled next f.left)) one.fill
-          ∙ ap (leaf_filled (element (known inner.nodes opened) inner.nodes)) two.fill;
+          ∙ ap (λ f. leaf_filled (element opened f.nodes) (filled next f.left)) one.fill
+          ∙ ap (leaf_filled (element opened inner.nodes)) two.fill;
       names = ap (λ s. (taken read brought s going).names) is ∙ one.names ∙ ap (λ n. inner.names ++ n) two.names ∙ sym (append_assoc inner.names later.names last.names);
       going = ap (λ s. (taken read brought s going).going) is ∙ one.going ∙ two.going;
     }

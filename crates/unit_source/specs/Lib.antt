@@ -12,4 +12,3 @@ pub mod ReadSteps
 pub mod Root
 pub mod Splice
 pub mod Volume
-pub mod Whole

@@ -6,7 +6,6 @@ use Rattle.page_directives.specs.Directive.{Directive}
 use Rattle.unit_source.specs.declared.entry.Entry.{Entry}
 use Rattle.unit_source.specs.InPlace.{InPlace, done, leaf, element, broken, included, followed}
 use Rattle.unit_source.specs.Splice.{Going, Inner, deeper, registered, with_prefixes}
-use Rattle.unit_source.specs.Whole.{known}
 
 -- what changes how it goes on: prefixes that are registered, or an include directive within so many open elements
 pub data Step : Type 0 where
@@ -64,7 +63,7 @@ leaf_filled before later = filled_by (before later.nodes) later.left
 abbrev pub filled : InPlace → List Found → Filled
 filled done found = filled_by done found
 filled (leaf kind place next) found = leaf_filled (leaf kind place) (filled next found)
-filled (element opened body next) found = let inner = filled body found in leaf_filled (element (known inner.nodes opened) inner.nodes) (filled next inner.left)
+filled (element opened body next) found = let inner = filled body found in leaf_filled (element opened inner.nodes) (filled next inner.left)
 filled (broken fault next) found = leaf_filled (broken fault) (filled next found)
 filled (included d entry body next) [] = leaf_filled (included d entry body) (filled next [])
 filled (included d entry body next) (f ∷ found) = leaf_filled (included d f.entry f.nodes) (filled next found)

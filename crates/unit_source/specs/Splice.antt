@@ -21,7 +21,6 @@ use Rattle.unit_source.specs.InPlace.{InPlace, done, leaf, element, broken, incl
 use Rattle.unit_source.specs.declared.progress.TheConstants.{MAX_NESTING}
 use Rattle.unit_source.specs.declared.volume.Volume.{Volume}
 use Rattle.unit_source.specs.Volume.{and_file, has_room, one_file, spent}
-use Rattle.unit_source.specs.Whole.{known}
 
 -- the prefixes that are registered so far, and the files and bytes of this page or tag file with its includes
 pub record Going : Type 0 where
@@ -111,7 +110,7 @@ abbrev pub leaf_then : Leaf → Place → Spliced → Spliced
 leaf_then kind place next = spliced (leaf kind place next.nodes) next.names next.going
 
 abbrev pub element_then : Opened → Spliced → Spliced → Spliced
-element_then opened inner next = spliced (element (known inner.nodes opened) inner.nodes next.nodes) (inner.names ++ next.names) next.going
+element_then opened inner next = spliced (element opened inner.nodes next.nodes) (inner.names ++ next.names) next.going
 
 abbrev pub broken_then : PageFault → Spliced → Spliced
 broken_then fault next = spliced (broken fault next.nodes) next.names next.going

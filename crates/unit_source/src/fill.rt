@@ -7,14 +7,12 @@ ghost use Rattle.unit_source.specs.ReadSteps.{filled};
 use crate::found::FoundNodes;
 use crate::placed::{PlacedInclude, PlacedNode, element_node, include_node};
 use crate::placing::add;
-use crate::whole::known;
 use std::alloc::{AllocError, Global};
 use std::collections::VecDeque;
 
 // The nodes with what was found at their include directives: `found` has an entry for each
 // directive here, in order, and what is taken goes from its front. Nodes that were included aren't
-// filled again. Where a file is lacking inside a body, its element's end counts as unread, so what
-// the element lacks isn't reported.
+// filled again.
 #[cycle(filling)]
 #[tactic(auto, using(crate::proofs::FillLemmas::next_filled, crate::proofs::PlacedLemmas::followed_done))]
 pub(crate) fn fill_nodes(
@@ -51,8 +49,7 @@ fn fill_node(
     match node {
         PlacedNode::Element(element) => {
             let body = fill_nodes(alloc, element.body, found)?;
-            let head = known(element.head, &body);
-            Ok(element_node(head, body))
+            Ok(element_node(element.head, body))
         }
         PlacedNode::Included(include) => Ok(fill_include(include, found)),
         PlacedNode::Leaf(kind, place) => Ok(PlacedNode::Leaf(kind, place)),

@@ -24,7 +24,6 @@ mod source_file;
 mod splice;
 mod steps;
 mod volume;
-mod whole;
 mod within;
 
 pub use directive::WrittenDirective;
