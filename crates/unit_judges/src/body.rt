@@ -7,7 +7,6 @@ ghost use Rattle.jstl_tags.specs.Content.{inner, is_standard};
 ghost use Rattle.jstl_tags.specs.Standing.{leaf_standing, standing_in, standing_made, tag};
 ghost use Rattle.unit_source.specs.InPlace.{flat};
 ghost use Rattle.unit_source.specs.Placed.{in_place, node_in_place};
-ghost use Rattle.unit_words.specs.Elements.{has_open_body};
 
 use jstl_tags::{Standing, Standings};
 use page_pieces::Leaf;
@@ -128,31 +127,6 @@ fn push_inner_node<'n>(
         }
         PlacedNode::Included(include) => push_inner(&include.body, found),
         _ => Ok(()),
-    }
-}
-
-/// Whether a `jsp:body` that isn't whole stands directly among nodes in place.
-#[cycle(open)]
-pub(crate) fn has_open_body(nodes: &[PlacedNode]) -> bool
-    ensures { result ≡ has_open_body (flat (in_place nodes.now)) }
-{
-    for node in nodes {
-        if is_open_body(node) {
-            return true;
-        }
-    }
-    false
-}
-
-#[cycle(open)]
-#[tactic(auto, using(crate::proofs::OpenLemmas::element_open, crate::proofs::OpenLemmas::include_open))]
-fn is_open_body(node: &PlacedNode) -> bool
-    ensures { result ≡ has_open_body (flat (node_in_place node.now)) }
-{
-    match node {
-        PlacedNode::Element(element) => is_body(&element.head) && !is_whole(element.head.closing),
-        PlacedNode::Included(include) => has_open_body(&include.body),
-        PlacedNode::Leaf(_, _) | PlacedNode::Broken(_) => false,
     }
 }
 

@@ -11,18 +11,18 @@ ghost use Rattle.jstl_tags.specs.Content.{inner};
 ghost use Rattle.jstl_tags.specs.Standing.{IsBody, standing_in, standing_made};
 ghost use Rattle.unit_source.specs.InPlace.{flat};
 ghost use Rattle.unit_source.specs.Placed.{in_place};
-ghost use Rattle.unit_words.specs.Elements.{Here as Around, asked, attribute_faults};
+ghost use Rattle.unit_words.specs.Elements.{Here as Around, attribute_faults};
 ghost use Rattle.unit_words.specs.Elements.{element_faults, given_value_faults, kind_faults};
 ghost use Rattle.unit_words.specs.Elements.{own_faults, value_faults};
 ghost use Rattle.unit_judges.specs.Made.{around_made, here_made, kind_made};
 
 use crate::beginning::Beginning;
-use crate::body::{has_open_body, push_inner, standings_of};
+use crate::body::{push_inner, standings_of};
 use crate::calls::{call_faults, call_value_faults};
 use crate::kind::Kind;
 use crate::known::Known;
 use jstl_tags::{
-    Body, Given, Holds, Host, Row, Standing, Standings, Takes, child_faults, core_faults,
+    Body, Given, Host, Row, Standing, Standings, Takes, child_faults, core_faults,
     place_faults, row_faults, taken_faults, takes_of,
 };
 use page_directives::Faults;
@@ -32,7 +32,7 @@ use pg_text::TranslationFault;
 use std::alloc::{AllocError, Global};
 use tag_decl::TagDecl;
 use unit_nodes::JspName;
-use unit_source::{MAX_NESTING, PlacedNode};
+use unit_source::MAX_NESTING;
 
 // The fault of an attribute that `jsp:attribute` gives, by what it takes: a value that is text, or
 // one `${name}`, is written. One that is unknown or left out is refused at its action.
@@ -82,19 +82,6 @@ fn refused_faults(fault: TranslationFault, hosts: &[Host]) -> Faults
     Faults::one(fault).and(child_faults(hosts))
 }
 
-// A row as it is asked for over a body.
-fn asked(row: Row, body: &[PlacedNode]) -> Row
-    ensures { row_made result ≡ asked (flat (in_place body.now)) (row_made row) }
-{
-    match row.holds {
-        Holds::Branches if has_open_body(body) => Row {
-            holds: Holds::Anything,
-            ..row
-        },
-        _ => row,
-    }
-}
-
 // The faults of an element by its kind.
 fn kind_faults(known: Known, beginning: Beginning, hosts: &[Host], body: Body) -> Faults
     ensures { (here : Around) → IsBody body.entry (flat (in_place beginning.entry.element.now.body.items)) →
@@ -112,9 +99,7 @@ fn kind_faults(known: Known, beginning: Beginning, hosts: &[Host], body: Body) -
     } = beginning;
     let head = &element.head;
     match kind {
-        Kind::Core(tag, row) => {
-            core_faults(core, (*tag, asked(*row, &element.body)), hosts, head, body)
-        }
+        Kind::Core(tag, row) => core_faults(core, (*tag, *row), hosts, head, body),
         Kind::Standard(action, standard) => place_faults(in_tag, standard.stands, hosts).and(
             row_faults(core, standard, head, body).and(own_faults(*action, here.row, head, body)),
         ),

@@ -1,20 +1,18 @@
 -- The faults of an element at its beginning, and of the values of its attributes.
-use Rattle.std.specs.Prelude.{ℕ, ◌+◌, Bool, true, false, not, ◌&&◌, ◌||◌, List, [], ◌∷◌, ◌++◌, codes, Option, Some, None, nat_le, take, if◌then◌else◌}
+use Rattle.std.specs.Prelude.{ℕ, ◌+◌, Bool, false, ◌&&◌, List, [], ◌∷◌, ◌++◌, codes, Option, Some, None, nat_le, take, if◌then◌else◌}
 use Rattle.page_pieces.specs.declared.attribute.Attribute.{Attribute}
 use Rattle.page_pieces.specs.declared.piece.Tag.{Tag}
 use Rattle.page_pieces.specs.Settings.{contains_text, value_of}
-use Rattle.page_reader.specs.Trees.{Tree, Opened, done, leaf, element}
+use Rattle.page_reader.specs.Trees.{Tree, Opened}
 use Rattle.page_directives.specs.Directive.{row_of}
 use Rattle.page_directives.specs.Faults.{fault_if}
 use Rattle.tag_decl.specs.declared.declaration.TagDecl.{TagDecl}
 use Rattle.jstl_tags.specs.declared.rows.Takes.{Takes}
 use Rattle.jstl_tags.specs.declared.rows.Takes.TheVariants as takes
-use Rattle.jstl_tags.specs.declared.rows.Holds.{Holds}
-use Rattle.jstl_tags.specs.declared.rows.Holds.TheVariants as holds
 use Rattle.jstl_tags.specs.Rows.{Row}
-use Rattle.jstl_tags.specs.Content.{given_names, is_standard, takes_parts}
+use Rattle.jstl_tags.specs.Content.{given_names, takes_parts}
 use Rattle.jstl_tags.specs.Around.{Host, core_host, standard_host, call_host, other_host, Around}
-use Rattle.jstl_tags.specs.Check.{row_faults, core_faults, child_faults, is_whole, place_faults, taken_faults}
+use Rattle.jstl_tags.specs.Check.{row_faults, core_faults, child_faults, place_faults, taken_faults}
 use Rattle.unit_nodes.specs.declared.jsp_name.JspName.{JspName}
 use Rattle.unit_nodes.specs.declared.jsp_name.JspName.TheVariants as jsp
 use Rattle.unit_words.specs.Calls.{call_faults, call_value_faults}
@@ -73,24 +71,9 @@ own_faults jsp.SetProperty here opened body =
     let given = given_names opened.tag body in fault_if (contains_text (codes "value") given && contains_text (codes "param") given) fault.BadAttribute
 own_faults _ here opened body = []
 
--- a `jsp:body` that isn't whole stands among nodes
-abbrev pub has_open_body : Tree → Bool
-has_open_body done = false
-has_open_body (leaf kind place next) = has_open_body next
-has_open_body (element opened body next) = (is_standard (codes "body") opened.tag && not (is_whole opened.closing)) || has_open_body next
-
--- what a body may hold where it needn't hold a branch
-abbrev pub without_branches : Holds → Holds
-without_branches holds.Branches = holds.Anything
-without_branches other = other
-
--- where the `jsp:body` that is an element's body isn't whole, no branch is missed in it
-abbrev pub asked : Tree → Row → Row
-asked body row = if has_open_body body then record row { holds = without_branches row.holds } else row
-
 -- the faults of an element by its kind; `library` says which prefixes are the core library's
 abbrev pub kind_faults : (List ℕ → Bool) → (in_tag : Bool) → Option TagDecl → Kind → Here → Opened → Tree → List TranslationFault
-kind_faults library in_tag decl (core found) here opened body = core_faults library (found.0, asked body found.1) here.around opened body
+kind_faults library in_tag decl (core found) here opened body = core_faults library found here.around opened body
 kind_faults library in_tag decl (standard found) here opened body =
     place_faults in_tag found.1.stands here.around ++ (row_faults library found.1 opened body ++ own_faults found.0 here opened body)
 kind_faults library in_tag decl (call path) here opened body = child_faults here.around ++ call_faults decl opened body
