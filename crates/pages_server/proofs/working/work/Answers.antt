@@ -6,12 +6,12 @@ pub loop-init : goal.loop-init
 loop-init g c = record {
   fits = c.requires;
   number = refl;
-  worked = stays (g.H.Handler.handled c.args.handler.now) c.args.served.now.token;
+  worked = stays (g.H.Handler.handled c.args.endpoint.now.handler) c.args.served.now.token;
 }
 
 pub loop-preserved-in-Ok-Pair : goal.loop-preserved-in-Ok-Pair
 loop-preserved-in-Ok-Pair g c = record {
   fits = c.handle.ensures.fits;
   number = c.handle.ensures.number ∙ c.loop.invariant.number;
-  worked = leads_on (g.H.Handler.handled c.args.handler.now) c.args.served.now.token c.loop.served.token c.handle.new.token c.loop.invariant.worked c.handle.ensures.handled;
+  worked = leads_on (g.H.Handler.handled c.args.endpoint.now.handler) c.args.served.now.token c.loop.served.token c.handle.new.token c.loop.invariant.worked c.handle.ensures.handled;
 }

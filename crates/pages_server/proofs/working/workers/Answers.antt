@@ -13,8 +13,8 @@ returns-clause-numbers g c =
 
 pub returns-clause-worked : goal.returns-clause-worked
 returns-clause-worked g c =
-    zipped (λ old new. Leads (g.H.Handler.handled c.args.handler.now) old.token new.token) c.args.tokens.now c.for_each_mut.new.s (sym c.for_each_mut.auto.s)
+    zipped (λ old new. Leads (g.H.Handler.handled c.args.endpoint.now.handler) old.token new.token) c.args.tokens.now c.for_each_mut.new.s (sym c.for_each_mut.auto.s)
     (λ k d low.
     let changed = (c.for_each_mut.ensures k d low).1 in
-    subst (λ new. Leads (g.H.Handler.handled c.args.handler.now) (slice_index_or c.args.tokens.now k d).token new.token) changed.left
-    (subst (λ old. Leads (g.H.Handler.handled c.args.handler.now) old.token changed.after_call.now.token) changed.argument_is changed.call.3))
+    subst (λ new. Leads (g.H.Handler.handled c.args.endpoint.now.handler) (slice_index_or c.args.tokens.now k d).token new.token) changed.left
+    (subst (λ old. Leads (g.H.Handler.handled c.args.endpoint.now.handler) old.token changed.after_call.now.token) changed.argument_is changed.call.3))
