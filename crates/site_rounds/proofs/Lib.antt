@@ -1,4 +1,5 @@
 pub mod Cross
+pub mod Kinds
 pub mod Loops
 pub mod Parted
 pub mod Passes

@@ -6,6 +6,7 @@
 #![tactic(auto)]
 
 mod by_audience;
+mod endpoints;
 mod handler;
 mod rounds;
 mod service;

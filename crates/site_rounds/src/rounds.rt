@@ -10,14 +10,14 @@ ghost use Rattle.site_rounds.specs.Ready.{IsReady, numbers_of};
 ghost use Rattle.site_rounds.specs.Served.{IsLed, IsServed};
 
 use crate::by_audience::{parted, rooms};
-use crate::{PortHandler, Service, Talk};
+use crate::endpoints::{editors_of, previews_of, readers_of};
+use crate::{Service, Talk};
 use edges::{Accept, Clocks, Gate};
 use pages_server::{Served, three};
 use site_core::Site;
 use site_shared::{SharedPort, SharedSite, SitePasses, into_pass, start};
 use site_words::Compiled;
 use std::alloc::{AllocError, Global};
-use std::marker::PhantomData;
 use std::sync::Wait;
 use std::thread::Threads;
 
@@ -104,45 +104,25 @@ fn served<
         (is_some service.entry.listeners.now.previews) site.now.opening.passes pass.number history pass.seen)
         after.items) }
 {
-    let listeners = service.listeners;
     let mut after = Vec::with_capacity(alloc, passes.len())?;
-    let passes = parted(passes, usize::from(listeners.previews.is_some()))?;
+    let passes = parted(passes, usize::from(service.listeners.previews.is_some()))?;
     let mut workers = rooms(alloc, &passes)?;
     seat(rt, site, passes.readers, &mut workers.readers);
     seat(rt, site, passes.editors, &mut workers.editors);
     seat(rt, site, passes.previews, &mut workers.previews);
-    let for_readers = handler_of(site, &service.talks.readers, service.clocks);
-    let for_editors = handler_of(site, &service.talks.editors, service.clocks);
-    let for_previews = handler_of(site, &service.talks.previews, service.clocks);
-    // Where no drafts are shown, no worker is behind the third.
-    let third = listeners.previews.as_ref().unwrap_or(&listeners.editors);
+    let for_readers = readers_of(site, service);
+    let for_editors = editors_of(site, service);
+    let for_previews = previews_of(site, service);
     let (readers, editors, previews) = three(
         rt,
-        (&listeners.readers, &for_readers, workers.readers),
-        (&listeners.editors, &for_editors, workers.editors),
-        (third, &for_previews, workers.previews),
+        (&for_readers, workers.readers),
+        (&for_editors, workers.editors),
+        (&for_previews, workers.previews),
     );
     collect(site, readers, &mut after);
     collect(site, editors, &mut after);
     collect(site, previews, &mut after);
     Ok(after)
-}
-
-// What answers connections to this site by this talk.
-fn handler_of<'a, P: Compiled, G: Gate + Drop, R, T, W>(
-    site: &'a SharedSite<P, G>,
-    talk: &'a T,
-    clocks: &'a W,
-) -> PortHandler<'a, P, G, R, T, W>
-    ensures site { result.site.now ≡ site.now }
-    ensures talk { result.talk.now ≡ talk.now }
-{
-    PortHandler {
-        site,
-        talk,
-        clocks,
-        turns: PhantomData,
-    }
 }
 
 // A worker for each pass, whose round isn't over. There is room for them.

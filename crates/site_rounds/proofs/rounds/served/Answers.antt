@@ -61,22 +61,22 @@ three-readers-requires-sync-H g c κs within =
     record { shared = (handler_sync (record { mir = named 7; lft = _ }) _ _ _ _ _ g.P.Compiled p y s r t w).shared }
 
 pub three-readers-requires-clause-front_fits : goal.three-readers-requires-clause-front_fits
-three-readers-requires-clause-front_fits g c κs within = λ k d low. let ready = c.seat.ensures.ready k d low in at_home c.args.site.now _ _ _ _ c.handler_of-for_readers.ensures.site ready.0 ready.1.1
+three-readers-requires-clause-front_fits g c κs within = λ k d low. let ready = c.seat.ensures.ready k d low in at_home c.args.site.now _ _ _ _ c.readers_of-for_readers.ensures.site ready.0 ready.1.1
 
 pub three-readers-requires-clause-middle_fits : goal.three-readers-requires-clause-middle_fits
-three-readers-requires-clause-middle_fits g c κs within = λ k d low. let ready = c.seat-2.ensures.ready k d low in at_home c.args.site.now _ _ _ _ c.handler_of-for_editors.ensures.site ready.0 ready.1.1
+three-readers-requires-clause-middle_fits g c κs within = λ k d low. let ready = c.seat-2.ensures.ready k d low in at_home c.args.site.now _ _ _ _ c.editors_of-for_editors.ensures.site ready.0 ready.1.1
 
 pub three-readers-requires-clause-back_fits : goal.three-readers-requires-clause-back_fits
-three-readers-requires-clause-back_fits g c κs within = λ k d low. let ready = c.seat-3.ensures.ready k d low in at_home c.args.site.now _ _ _ _ c.handler_of-for_previews.ensures.site ready.0 ready.1.1
+three-readers-requires-clause-back_fits g c κs within = λ k d low. let ready = c.seat-3.ensures.ready k d low in at_home c.args.site.now _ _ _ _ c.previews_of-for_previews.ensures.site ready.0 ready.1.1
 
 pub collect-requires-clause-idle : goal.collect-requires-clause-idle
-collect-requires-clause-idle g c = λ k d low. from_home c.args.site.now _ _ _ _ c.handler_of-for_readers.ensures.site (c.three-readers.ensures.front_fits k d low)
+collect-requires-clause-idle g c = λ k d low. from_home c.args.site.now _ _ _ _ c.readers_of-for_readers.ensures.site (c.three-readers.ensures.front_fits k d low)
 
 pub collect-requires-2-clause-idle : goal.collect-requires-2-clause-idle
-collect-requires-2-clause-idle g c = λ k d low. from_home c.args.site.now _ _ _ _ c.handler_of-for_editors.ensures.site (c.three-readers.ensures.middle_fits k d low)
+collect-requires-2-clause-idle g c = λ k d low. from_home c.args.site.now _ _ _ _ c.editors_of-for_editors.ensures.site (c.three-readers.ensures.middle_fits k d low)
 
 pub collect-requires-3-clause-idle : goal.collect-requires-3-clause-idle
-collect-requires-3-clause-idle g c = λ k d low. from_home c.args.site.now _ _ _ _ c.handler_of-for_previews.ensures.site (c.three-readers.ensures.back_fits k d low)
+collect-requires-3-clause-idle g c = λ k d low. from_home c.args.site.now _ _ _ _ c.previews_of-for_previews.ensures.site (c.three-readers.ensures.back_fits k d low)
 
 pub collect-requires-clause-room : goal.collect-requires-clause-room
 collect-requires-clause-room g c =
@@ -128,11 +128,11 @@ returns-clause-led g c = λ history same.
     let front = c.in_ok-passes.passes.readers.items in
     let middle = c.in_ok-passes.passes.editors.items in
     let back = c.in_ok-passes.passes.previews.items in
-    let front_led = workers_led g.T.Talk.talked talks drafts n history talks.readers c.handler_of-for_readers.result.talk.now turns c.handler_of-for_readers.result.site.now (λ token. token.actor.pass) (λ worker. worker.token) c.seat.new.workers.items c.three-readers.result.0.items c.in_ok-passes.passes.readers.items c.handler_of-for_readers.ensures.talk c.handler_of-for_readers.ensures.site c.seat.ensures.passes
+    let front_led = workers_led g.T.Talk.talked talks drafts n history talks.readers c.readers_of-for_readers.result.handler.talk.now turns c.readers_of-for_readers.result.handler.site.now (λ token. token.actor.pass) (λ worker. worker.token) c.seat.new.workers.items c.three-readers.result.0.items c.in_ok-passes.passes.readers.items c.readers_of-for_readers.ensures.talk c.readers_of-for_readers.ensures.site c.seat.ensures.passes
     (front_begins talks drafts n _ _ history front middle parts.others back all c.requires.in_order same parts.others_are parts.previews_are parts.readers_are parts.editors_are (omega (arith, drafts_is, few_for_drafts drafts)) refl) c.three-readers.ensures.front_worked in
-    let middle_led = workers_led g.T.Talk.talked talks drafts n history talks.editors c.handler_of-for_editors.result.talk.now turns c.handler_of-for_editors.result.site.now (λ token. token.actor.pass) (λ worker. worker.token) c.seat-2.new.workers.items c.three-readers.result.1.items c.in_ok-passes.passes.editors.items c.handler_of-for_editors.ensures.talk c.handler_of-for_editors.ensures.site c.seat-2.ensures.passes
+    let middle_led = workers_led g.T.Talk.talked talks drafts n history talks.editors c.editors_of-for_editors.result.handler.talk.now turns c.editors_of-for_editors.result.handler.site.now (λ token. token.actor.pass) (λ worker. worker.token) c.seat-2.new.workers.items c.three-readers.result.1.items c.in_ok-passes.passes.editors.items c.editors_of-for_editors.ensures.talk c.editors_of-for_editors.ensures.site c.seat-2.ensures.passes
     (middle_begins talks drafts n _ _ history front middle parts.others back all c.requires.in_order same parts.others_are parts.previews_are parts.readers_are parts.editors_are (omega (arith, drafts_is, few_for_drafts drafts)) refl) c.three-readers.ensures.middle_worked in
-    let back_led = workers_led g.T.Talk.talked talks drafts n history talks.previews c.handler_of-for_previews.result.talk.now turns c.handler_of-for_previews.result.site.now (λ token. token.actor.pass) (λ worker. worker.token) c.seat-3.new.workers.items c.three-readers.result.2.items c.in_ok-passes.passes.previews.items c.handler_of-for_previews.ensures.talk c.handler_of-for_previews.ensures.site c.seat-3.ensures.passes
+    let back_led = workers_led g.T.Talk.talked talks drafts n history talks.previews c.previews_of-for_previews.result.handler.talk.now turns c.previews_of-for_previews.result.handler.site.now (λ token. token.actor.pass) (λ worker. worker.token) c.seat-3.new.workers.items c.three-readers.result.2.items c.in_ok-passes.passes.previews.items c.previews_of-for_previews.ensures.talk c.previews_of-for_previews.ensures.site c.seat-3.ensures.passes
     (back_begins talks drafts n _ _ history front middle parts.others back all c.requires.in_order same parts.others_are parts.previews_are parts.readers_are parts.editors_are (omega (arith, drafts_is, few_for_drafts drafts)) refl) c.three-readers.ensures.back_worked in
     gathered_all (λ p. IsLed (λ t. g.T.Talk.talked t turns.opening) talks drafts n p.number history p.seen)
     (map (λ worker. worker.token.actor.pass) c.three-readers.result.0.items) (map (λ worker. worker.token.actor.pass) c.three-readers.result.1.items) (map (λ worker. worker.token.actor.pass) c.three-readers.result.2.items)
