@@ -1,3 +1,4 @@
 pub mod Numbers
 pub mod Onward
+pub mod Rounds
 pub mod Talked

@@ -8,6 +8,7 @@ use Rattle.conversation.specs.declared.ended.Ended.{Ended}
 use Rattle.edges.specs.Clock.{Moments}
 use Rattle.page_answers.specs.Standing.{standing_of}
 use Rattle.preview_words.specs.Previewed.{HasPreviewed}
+use Rattle.site_rounds.specs.declared.rounds.Talks.{Talks}
 use Rattle.site_words.specs.declared.words.Entry.{Entry}
 use Rattle.site_words.specs.declared.words.Opening.{Opening}
 use Rattle.source_tree.specs.declared.edit.Edit.{Edit}
@@ -54,6 +55,10 @@ abbrev pub HasTalked : Audience → Opening → ℕ → List Entry → List Entr
 HasTalked Readers x pass old new = IsConversed Reader x pass old new
 HasTalked Editors x pass old new = IsConversed Both x pass old new
 HasTalked Previews x pass old new = IsPreviewing x pass old new
+
+-- for whom the connections of each port are
+abbrev pub audiences : Talks Audience
+audiences = record { readers = Readers; editors = Editors; previews = Previews }
 
 -- requests of a connection to several contexts were answered so, each over the port of its context, and each port is the same one still
 pub record IsConversedAmong {P H : Type 0} (names : List (List ℕ)) (role : Role) (opening : P → Opening) (pass : P → ℕ) (home : P → H) (seen : P → List Entry) (old new : List P) : Type 0 where

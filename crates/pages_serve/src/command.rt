@@ -3,13 +3,14 @@ ghost use Rattle.std.specs.Prelude.{string_bytes};
 ghost use Rattle.context_names.specs.Names.{names_in};
 ghost use Rattle.edges.specs.Faults.{Rose};
 ghost use Rattle.site_words.specs.Invariants.{AllRest};
+ghost use Rattle.pages_serve.specs.Rounds.{AreRounds, IsOfRounds};
 ghost use Rattle.serve_words.specs.Words.{count_of, settings_asked};
 
 use crate::next_round::onward;
 use crate::notice::announce;
+use crate::pages_round::serve_round;
 use crate::platform::Platform;
 use crate::several::serve_contexts;
-use crate::talks::talks_of;
 use crate::threads::can_run;
 use crate::unmarked::without_rounds;
 use compiled_pages::Made;
@@ -19,7 +20,7 @@ use edges::{Accept, Bind, Clocks, Failed, OpenGate, Sink};
 use pg_value::Attrs;
 use serve_words::{Asked, Settings, settings_asked};
 use site_core::{Site, SiteSettings, start};
-use site_rounds::{Listeners, Service, round};
+use site_rounds::Listeners;
 use site_words::JOURNAL_LIMIT;
 use source_tree::Tree;
 use std::alloc::{AllocError, Global};
@@ -45,6 +46,11 @@ pub fn serve<R: Threads + Wait + Sync, B: Bind, W: Clocks + Sync, J: Sink, K: Si
         ≡ notices.old) }
     ensures bound { result ≡ 7 → Rose (B.faults bind.old) (B.faults bind.new) }
     ensures statuses { result ≢ 1 → result ≢ 7 → result ≢ 8 → result ≡ 5 }
+
+    // What the journals have comes of rounds in which each pass did what connections do of those for
+    // whom it is.
+    ensures rounds { IsOfRounds (J.taken journals.old) (J.taken journals.new) (J.faults journals.old)
+        (J.faults journals.new) }
 {
     let Some(Asked { settings, contexts }) = settings_asked(words) else {
         return 1;
@@ -70,7 +76,9 @@ fn alone<R: Threads + Wait + Sync, A: Accept + Sync + Drop, W: Clocks + Sync, J:
     notices: &mut K,
 ) -> u8
     requires { settings.now.workers + count_of settings.now.preview_port ≤ 63 }
-    ensures { result ≡ 5 }
+    ensures status { result ≡ 5 }
+    ensures rounds { IsOfRounds (J.taken journals.old) (J.taken journals.new) (J.faults journals.old)
+        (J.faults journals.new) }
 {
     let Ok(site) = site_of(platform.alloc, settings) else {
         return 5;
@@ -113,18 +121,13 @@ fn rounds<R: Threads + Wait + Sync, A: Accept + Sync + Drop, W: Clocks + Sync, J
     journals: &mut J,
 ) -> u8
     requires { AllRest site.opening site.history }
-    ensures { result ≡ 5 }
+    ensures status { result ≡ 5 }
+    ensures rounds { AreRounds (is_some listeners.previews) site (J.taken journals.old) (J.taken journals.new)
+        (J.faults journals.old) (J.faults journals.new) }
 {
-    let Platform { rt, alloc, clocks } = platform;
-    let talks = talks_of(alloc);
-    for _ in rt.forever() {
-        let service = Service {
-            talks: &talks,
-            listeners: &listeners,
-            clocks,
-        };
-        match round(rt, alloc, site, OpenGate, service) {
-            Ok(after) => site = onward(alloc, after, journals),
+    for _ in platform.rt.forever() {
+        match serve_round(platform, site, OpenGate, &listeners) {
+            Ok(after) => site = onward(platform.alloc, after, journals),
             Err(AllocError) => return 5,
         }
         listeners.readers.renew();

@@ -50,25 +50,6 @@ impl<'a, R: Wait + Sync, W: Clocks> Handler for ContextPages<'a, R, W> {
     }
 }
 
-/// What answers connections to the sites of these names so.
-pub(crate) fn pages_for<'a, R, W>(
-    alloc: Global,
-    names: &'a ContextNames,
-    role: Role,
-    clocks: &'a W,
-) -> ContextPages<'a, R, W>
-    ensures names { result.names.now ≡ names.now }
-    ensures role { result.role ≡ role }
-{
-    ContextPages {
-        alloc,
-        names,
-        role,
-        clocks,
-        turns: PhantomData,
-    }
-}
-
 // Answers a connection, without a count of what its pages read. How it ended is nobody's concern.
 fn talk_uncounted<N: Ledger, R, W, P: Port<Made>, S: Source, K: Sink, C: Clock>(
     pages: &ContextPages<'_, R, W>,

@@ -6,10 +6,12 @@
 #![tactic(auto)]
 
 mod command;
+mod context_endpoints;
 mod context_pages;
 mod next_round;
 mod notice;
 mod pages;
+mod pages_round;
 mod platform;
 mod several;
 mod talks;
@@ -19,5 +21,6 @@ mod unmarked;
 pub use command::serve;
 pub use next_round::onward;
 pub use pages::{Audience, Pages};
+pub use pages_round::serve_round;
 pub use platform::Platform;
 pub use talks::talks_of;

@@ -4,7 +4,7 @@ ghost use Rattle.context_workers.specs.Seats.{AreSeated, HaveFewer};
 ghost use Rattle.pass_course.specs.Course.{IsIdle};
 ghost use Rattle.site_rounds.specs.Ready.{IsReady};
 
-use crate::context_pages::pages_for;
+use crate::context_endpoints::{editors_of, readers_of};
 use crate::platform::Platform;
 use crate::unmarked::Unmarked;
 use compiled_pages::Made;
@@ -13,7 +13,6 @@ use context_workers::{SharedSites, Worker, seat, share};
 use contexts::start;
 use edges::{Accept, Clocks, OpenGate};
 use pages_server::both;
-use pages_talk::Role;
 use serve_words::Settings;
 use site_rounds::Listeners;
 use site_shared::{SharedSite, SitePasses};
@@ -52,16 +51,13 @@ fn serve_shared<R: Threads + Wait + Sync, A: Accept + Sync, W: Clocks + Sync>(
     requires seated { AreSeated IsReady sites.now (map (λ own. own.items) passes.old) }
     requires enough { All (λ own. 1 + readers ≤ length own) (map (λ own. own.items) passes.old) }
 {
-    let Platform { rt, alloc, clocks } = platform;
+    let rt = platform.rt;
+    let alloc = platform.alloc;
     let editors = workers_of(rt, alloc, sites, passes, 1)?;
     let readers = workers_of(rt, alloc, sites, passes, readers)?;
-    let for_readers = pages_for(alloc, names, Role::Reader, clocks);
-    let for_editors = pages_for(alloc, names, Role::Both, clocks);
-    both(
-        rt,
-        (&listeners.readers, &for_readers, readers),
-        (&listeners.editors, &for_editors, editors),
-    );
+    let for_readers = readers_of(platform, names, listeners);
+    let for_editors = editors_of(platform, names, listeners);
+    both(rt, (&for_readers, readers), (&for_editors, editors));
     Ok(())
 }
 

@@ -1,3 +1,5 @@
+ghost use Rattle.std.specs.Prelude.{◌≡◌};
+
 use edges::{Accept, Accepted, Failed};
 use site_rounds::Listeners;
 
@@ -27,7 +29,10 @@ impl<A: Accept> Accept for Unmarked<A> {
 }
 
 /// These listeners, without rounds.
-pub(crate) fn without_rounds<A: Accept>(listeners: Listeners<A>) -> Listeners<Unmarked<A>> {
+pub(crate) fn without_rounds<A: Accept>(listeners: Listeners<A>) -> Listeners<Unmarked<A>>
+    ensures readers { result.readers.listener ≡ listeners.readers }
+    ensures editors { result.editors.listener ≡ listeners.editors }
+{
     Listeners {
         readers: Unmarked {
             listener: listeners.readers,

@@ -5,9 +5,9 @@ use crate::parted::Parted;
 use crate::wires::{HeldGate, Wire, WireAccept};
 use compiled_pages::Made;
 use edges::StillClock;
-use pages_serve::talks_of;
+use pages_serve::{Platform, serve_round};
 use site_core::Site;
-use site_rounds::{Listeners, Service, round};
+use site_rounds::Listeners;
 use std::alloc::Global;
 use std::sync::Wait;
 use std::sync::atomic::AtomicU64;
@@ -92,14 +92,13 @@ fn serve_once<R: Threads + Wait + Sync>(
             Some(WireAccept::new(rt, alloc, wires.previews))
         },
     };
-    let talks = talks_of(alloc);
     let clocks = StillClock { moment: 0 };
-    let service = Service {
-        talks: &talks,
-        listeners: &listeners,
+    let platform = Platform {
+        rt,
+        alloc,
         clocks: &clocks,
     };
-    match round(rt, alloc, site, gate, service) {
+    match serve_round(platform, site, gate, &listeners) {
         Ok(site) => Ok(site),
         Err(failure) => Err(Fail::from(failure)),
     }

@@ -1,10 +1,20 @@
-use denote.Exit.{yes}
-use denote.Param.Send.{arg_send, param_send}
-use Rattle.compiled_pages.proofs.MadeCross.{made_send, made_sync}
+use Rattle.std.proofs.Common.{refl}
+use Rattle.pages_server.proofs.Leading.{leads_on, stays}
+use Rattle.pages_serve.proofs.Rounds.{one_round}
 use Rattle.pages_serve.proofs.command.rounds.Goals as goal
 
-pub round-requires-send-P : goal.round-requires-send-P
-round-requires-send-P g c κs within = param_send 0 _ (arg_send _ yes _ made_send)
+pub loop-init : goal.loop-init
+loop-init g c = record {
+  rest = c.requires;
+  drafts = refl;
+  rounds = stays _ _;
+}
 
-pub round-requires-sync-P : goal.round-requires-sync-P
-round-requires-sync-P g c κs within = record { shared = made_sync.shared }
+pub loop-preserved : goal.loop-preserved
+loop-preserved g c = record {
+  rest = c.onward-site.ensures.rest;
+  drafts = c.loop.invariant.drafts;
+  rounds =
+      let round = c.in-Ok.ensures in
+      leads_on _ _ _ _ c.loop.invariant.rounds (one_round _ _ _ _ _ _ _ _ _ c.loop.invariant.drafts round.opening round.is_legal round.served c.onward-site.ensures.goes_on);
+}

@@ -31,8 +31,8 @@ both-requires-sync-H g c κs within =
 
 pub both-requires-clause-front_fits : goal.both-requires-clause-front_fits
 both-requires-clause-front_fits g c κs within = λ k d low.
-    (as_long (λ port. port.actor.site.now) _ c.args.sites.now (length c.args.names.now) (c.in_ok-readers.ensures.sites k d low) c.requires.many ∙ sym (ap length c.pages_for-for_readers.ensures.names), c.in_ok-readers.ensures.idle k d low)
+    (as_long (λ port. port.actor.site.now) _ c.args.sites.now (length c.args.names.now) (c.in_ok-readers.ensures.sites k d low) c.requires.many ∙ sym (ap length c.readers_of-for_readers.ensures.names), c.in_ok-readers.ensures.idle k d low)
 
 pub both-requires-clause-back_fits : goal.both-requires-clause-back_fits
 both-requires-clause-back_fits g c κs within = λ k d low.
-    (as_long (λ port. port.actor.site.now) _ c.args.sites.now (length c.args.names.now) (c.in_ok-editors.ensures.sites k d low) c.requires.many ∙ sym (ap length c.pages_for-for_editors.ensures.names), c.in_ok-editors.ensures.idle k d low)
+    (as_long (λ port. port.actor.site.now) _ c.args.sites.now (length c.args.names.now) (c.in_ok-editors.ensures.sites k d low) c.requires.many ∙ sym (ap length c.editors_of-for_editors.ensures.names), c.in_ok-editors.ensures.idle k d low)
