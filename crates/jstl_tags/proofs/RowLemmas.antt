@@ -1,6 +1,7 @@
 -- The faults of an action are those of what stands in its body.
 use Rattle.std.proofs.Common.{◌≡◌, ℕ, Bool, true, false, cond, List, [], ◌++◌, refl, sym, ap, ◌∙◌}
 use Rattle.std.specs.Prelude.{◌&&◌, not, codes}
+use Rattle.pg_text.specs.declared.translation_fault.TranslationFault.{TranslationFault}
 use Rattle.pg_text.specs.declared.translation_fault.TranslationFault.TheVariants as fault
 use Rattle.page_pieces.specs.declared.piece.Tag.{Tag}
 use Rattle.page_pieces.specs.Settings.{contains_text}
@@ -10,12 +11,12 @@ use Rattle.jstl_tags.specs.declared.core_name.CoreName.{CoreName}
 use Rattle.jstl_tags.specs.declared.core_name.CoreName.TheVariants as core
 use Rattle.jstl_tags.specs.declared.rows.Holds.{Holds}
 use Rattle.jstl_tags.specs.declared.rows.Holds.TheVariants as holds
-use Rattle.jstl_tags.specs.Check.{are_set_well, body_faults, given_faults, is_core, is_param, is_whole, own_faults, row_faults, split_faults}
-use Rattle.jstl_tags.specs.Content.{attribute_names, body_of, given_names, has_other, has_two, inner, is_empty, is_part, is_split, is_standard, takes_parts}
-use Rattle.jstl_tags.specs.ReadCheck.{action_by, body_in, holds_by, names_in, own_by, own_of, row_by, split_by, split_in}
+use Rattle.jstl_tags.specs.Check.{are_set_well, body_faults, given_faults, is_branch, is_core, is_param, is_whole, own_faults, parted_faults, row_faults, split_faults, stands_beside}
+use Rattle.jstl_tags.specs.Content.{attribute_names, body_of, given_names, has_element, has_other, has_two, inner, is_empty, is_part, is_split, is_standard, takes_parts}
+use Rattle.jstl_tags.specs.ReadCheck.{action_by, beside_by, body_in, holds_by, names_in, own_by, own_of, row_by, split_by, split_in}
 use Rattle.jstl_tags.specs.Rows.{Row}
 use Rattle.jstl_tags.specs.Standing.{Standing, standing_in}
-use Rattle.jstl_tags.specs.ReadStanding.{nothing_stands, other_stands}
+use Rattle.jstl_tags.specs.ReadStanding.{element_stands, nothing_stands, other_stands}
 use Rattle.jstl_tags.proofs.StandingLemmas.{element_is, empty_is, other_is, part_names_are, two_is}
 
 split_is : (t : Tag) (tree : Tree) → is_split t tree ≡ split_in t (standing_in tree)
@@ -31,12 +32,24 @@ within_is t tree = by_split (is_split t tree) ∙ ap (λ b. cond b (standing_in 
 names_are : (t : Tag) (tree : Tree) → given_names t tree ≡ names_in t (standing_in tree)
 names_are t tree = ap (λ names. attribute_names t.attributes ++ cond (takes_parts t) names []) (part_names_are tree)
 
-splits_are : (t : Tag) (tree : Tree) → split_faults t tree ≡ split_by (split_in t (standing_in tree)) (standing_in tree)
+parted_are : (beside : Bool) (t : Tag) (tree : Tree) → parted_faults beside t tree ≡ split_by (split_in t (standing_in tree)) beside (standing_in tree)
+parted_are beside t tree =
+    ap (λ b. cond b (fault_if beside fault.BadBody ++ fault_if (has_two (is_standard (codes "body")) tree) fault.BadNesting) []) (split_is t tree)
+    ∙ ap (λ b. cond (split_in t (standing_in tree)) (fault_if beside fault.BadBody ++ fault_if b fault.BadNesting) []) (two_is (is_standard (codes "body")) tree)
+
+splits_are : (t : Tag) (tree : Tree) → split_faults t tree ≡ split_by (split_in t (standing_in tree)) (other_stands is_part (standing_in tree)) (standing_in tree)
 unfolding split_faults
 splits_are t tree =
-    ap (λ b. cond b (fault_if (has_other is_part tree) fault.BadBody ++ fault_if (has_two (is_standard (codes "body")) tree) fault.BadNesting) []) (split_is t tree)
-    ∙ (ap (λ b. cond (split_in t (standing_in tree)) (fault_if b fault.BadBody ++ fault_if (has_two (is_standard (codes "body")) tree) fault.BadNesting) []) (other_is is_part tree)
-    ∙ ap (λ b. cond (split_in t (standing_in tree)) (fault_if (other_stands is_part (standing_in tree)) fault.BadBody ++ fault_if b fault.BadNesting) []) (two_is (is_standard (codes "body")) tree))
+    parted_are (has_other is_part tree) t tree ∙ ap (λ b. split_by (split_in t (standing_in tree)) b (standing_in tree)) (other_is is_part tree)
+
+beside_is : (library : List ℕ → Bool) (kind : Holds) (tree : Tree) → stands_beside library kind tree ≡ beside_by library kind (standing_in tree)
+beside_is library holds.Anything tree = other_is is_part tree
+beside_is library holds.Nothing tree = other_is is_part tree
+beside_is library holds.Params tree = other_is is_part tree
+beside_is library holds.Branches tree =
+    ap (λ b. cond b (has_other is_part tree) (has_element (is_branch library) tree)) (element_is (is_standard (codes "attribute")) tree)
+    ∙ (ap (λ b. cond (element_stands (is_standard (codes "attribute")) (standing_in tree)) b (has_element (is_branch library) tree)) (other_is is_part tree)
+    ∙ ap (λ b. cond (element_stands (is_standard (codes "attribute")) (standing_in tree)) (other_stands is_part (standing_in tree)) b) (element_is (is_branch library) tree))
 
 bodies_are : (library : List ℕ → Bool) (kind : Holds) (opened : Opened) (tree : Tree)
     → body_faults library kind opened tree ≡ holds_by library kind opened.closing (standing_in (body_of opened.tag tree))
@@ -48,15 +61,25 @@ bodies_are library holds.Branches opened tree = ap (λ b. fault_if (is_whole ope
 
 -- the faults of an action by its row
 pub rows_are : (library : List ℕ → Bool) (row : Row) (opened : Opened) (tree : Tree)
-    → row_faults library row opened tree ≡ row_by library row opened.closing (split_in opened.tag (standing_in tree)) (standing_in tree)
-    (body_in opened.tag (standing_in tree) (standing_in (inner tree))) (names_in opened.tag (standing_in tree))
+    → row_faults library row opened tree ≡ row_by library row opened.closing (split_in opened.tag (standing_in tree))
+    (beside_by library row.holds (standing_in tree)) (standing_in tree) (body_in opened.tag (standing_in tree) (standing_in (inner tree))) (names_in opened.tag (standing_in tree))
 unfolding row_faults
 rows_are library row opened tree =
-    ap (λ names. given_faults row opened.closing names ++ (split_faults opened.tag tree ++ body_faults library row.holds opened tree)) (names_are opened.tag tree)
-    ∙ (ap (λ faults. given_faults row opened.closing (names_in opened.tag (standing_in tree)) ++ (faults ++ body_faults library row.holds opened tree)) (splits_are opened.tag tree)
-    ∙ ap (λ faults. given_faults row opened.closing (names_in opened.tag (standing_in tree)) ++ (split_by (split_in opened.tag (standing_in tree)) (standing_in tree) ++ faults))
+    ap (λ names. given_faults row opened.closing names ++ (parted_faults (stands_beside library row.holds tree) opened.tag tree ++ held)) (names_are opened.tag tree)
+    ∙ (ap (λ faults. given_faults row opened.closing names ++ (faults ++ held))
+    (parted_are (stands_beside library row.holds tree) opened.tag tree ∙ ap (λ b. split_by split b (standing_in tree)) (beside_is library row.holds tree))
+    ∙ ap (λ faults. given_faults row opened.closing names ++ (split_by split (beside_by library row.holds (standing_in tree)) (standing_in tree) ++ faults))
     (bodies_are library row.holds opened tree
     ∙ ap (holds_by library row.holds opened.closing) (within_is opened.tag tree)))
+  where
+    split : Bool
+    split = split_in opened.tag (standing_in tree)
+
+    names : List (List ℕ)
+    names = names_in opened.tag (standing_in tree)
+
+    held : List TranslationFault
+    held = body_faults library row.holds opened tree
 
 -- an action's faults by its row are those by what stands in its body
 pub action_is : (library : List ℕ → Bool) (row : Row) (opened : Opened) (tree : Tree) (standing within : List Standing) → standing ≡ standing_in tree → within ≡ standing_in (inner tree)
@@ -103,20 +126,23 @@ bodiless_is t tree standing within e g =
     ∙ (ap nothing_stands (sym (within_is t tree)) ∙ sym (empty_is (body_of t tree))))
 
 -- the faults of what stands beside parts
-pub parts_are : (t : Tag) (tree : Tree) (standing : List Standing) (split : Bool) → standing ≡ standing_in tree → split ≡ split_in t standing
-    → split_by split standing ≡ split_faults t tree
-parts_are t tree standing split e g =
-    ap (λ b. split_by b standing) g ∙ (ap (λ s. split_by (split_in t s) s) e ∙ sym (splits_are t tree))
+pub parts_are : (t : Tag) (tree : Tree) (standing : List Standing) (split beside : Bool) → standing ≡ standing_in tree → split ≡ split_in t standing
+    → beside ≡ other_stands is_part standing → split_by split beside standing ≡ split_faults t tree
+parts_are t tree standing split beside e g h =
+    ap (λ b. split_by b beside standing) g
+    ∙ (ap (λ b. split_by (split_in t standing) b standing) h
+    ∙ (ap (λ s. split_by (split_in t s) (other_stands is_part s) s) e ∙ sym (splits_are t tree)))
 
 -- the names that are given
 pub given_is : (t : Tag) (tree : Tree) (standing : List Standing) → standing ≡ standing_in tree → names_in t standing ≡ given_names t tree
 given_is t tree standing e = ap (names_in t) e ∙ sym (names_are t tree)
 
 -- the parts of an action that its faults are judged by
-pub action_parts : (library : List ℕ → Bool) (row : Row) (opened : Opened) (standing within : List Standing) (split : Bool) (body : List Standing) (names : List (List ℕ))
-    → split ≡ split_in opened.tag standing → body ≡ body_in opened.tag standing within → names ≡ names_in opened.tag standing
-    → row_by library row opened.closing split standing body names ≡ action_by library row opened standing within
-action_parts library row opened standing within split body names e g h =
-    ap (λ b. row_by library row opened.closing b standing body names) e
-    ∙ (ap (λ ys. row_by library row opened.closing (split_in opened.tag standing) standing ys names) g
-    ∙ ap (row_by library row opened.closing (split_in opened.tag standing) standing (body_in opened.tag standing within)) h)
+pub action_parts : (library : List ℕ → Bool) (row : Row) (opened : Opened) (standing within : List Standing) (split beside : Bool) (body : List Standing) (names : List (List ℕ))
+    → split ≡ split_in opened.tag standing → beside ≡ beside_by library row.holds standing → body ≡ body_in opened.tag standing within → names ≡ names_in opened.tag standing
+    → row_by library row opened.closing split beside standing body names ≡ action_by library row opened standing within
+action_parts library row opened standing within split beside body names e f g h =
+    ap (λ b. row_by library row opened.closing b beside standing body names) e
+    ∙ (ap (λ b. row_by library row opened.closing (split_in opened.tag standing) b standing body names) f
+    ∙ (ap (λ ys. row_by library row opened.closing (split_in opened.tag standing) (beside_by library row.holds standing) standing ys names) g
+    ∙ ap (row_by library row opened.closing (split_in opened.tag standing) (beside_by library row.holds standing) standing (body_in opened.tag standing within)) h))

@@ -57,9 +57,13 @@ is_whole _ = true
 unfoldable pub given_faults : Row → Closing → List (List ℕ) → List TranslationFault
 given_faults row closing given = fault_if (repeats given) fault.BadAttribute ++ (names_faults row given ++ fault_if (is_whole closing && lacks row.required given) fault.BadAttribute)
 
--- beside `jsp:attribute` and `jsp:body` nothing else stands, and one `jsp:body` at most
+-- where parts give the attributes or the body: whether something is refused that stands beside them, and one `jsp:body` at most
+abbrev pub parted_faults : (beside : Bool) → Tag → Tree → List TranslationFault
+parted_faults beside tag body = if is_split tag body then fault_if beside fault.BadBody ++ fault_if (has_two (is_standard (codes "body")) body) fault.BadNesting else []
+
+-- beside `jsp:attribute` and `jsp:body` nothing else stands
 unfoldable pub split_faults : Tag → Tree → List TranslationFault
-split_faults tag body = if is_split tag body then fault_if (has_other is_part body) fault.BadBody ++ fault_if (has_two (is_standard (codes "body")) body) fault.BadNesting else []
+split_faults tag body = parted_faults (has_other is_part body) tag body
 
 -- a core tag of that name, where this says which prefixes are the core library's
 abbrev pub is_core : (List ℕ → Bool) → List ℕ → Tag → Bool
@@ -67,6 +71,15 @@ is_core library name tag = library tag.prefix && bytes_eq tag.name name
 
 abbrev pub is_param : (List ℕ → Bool) → Tag → Bool
 is_param library tag = is_standard (codes "param") tag || is_core library (codes "param") tag
+
+-- a branch of a choice
+abbrev pub is_branch : (List ℕ → Bool) → Tag → Bool
+is_branch library tag = is_core library (codes "when") tag || is_core library (codes "otherwise") tag
+
+-- what is refused beside parts: in a choice without `jsp:attribute` its branches, since all else has a fault at its own place; else anything
+abbrev pub stands_beside : (List ℕ → Bool) → Holds → Tree → Bool
+stands_beside library holds.Branches body = if has_element (is_standard (codes "attribute")) body then has_other is_part body else has_element (is_branch library) body
+stands_beside library _ body = has_other is_part body
 
 -- the faults of what a body holds
 unfoldable pub body_faults : (List ℕ → Bool) → Holds → Opened → Tree → List TranslationFault
@@ -78,7 +91,7 @@ body_faults library holds.Branches opened body = fault_if (is_whole opened.closi
 -- the faults of an action by its row
 unfoldable pub row_faults : (List ℕ → Bool) → Row → Opened → Tree → List TranslationFault
 row_faults library row opened body =
-    given_faults row opened.closing (given_names opened.tag body) ++ (split_faults opened.tag body ++ body_faults library row.holds opened body)
+    given_faults row opened.closing (given_names opened.tag body) ++ (parted_faults (stands_beside library row.holds body) opened.tag body ++ body_faults library row.holds opened body)
 
 -- the faults of an element that stands in a choice or in a text, and is no part of it
 abbrev pub child_faults : Around → List TranslationFault

@@ -11,16 +11,21 @@ use Rattle.jstl_tags.specs.declared.core_name.CoreName.{CoreName}
 use Rattle.jstl_tags.specs.declared.core_name.CoreName.TheVariants as core
 use Rattle.jstl_tags.specs.declared.rows.Holds.{Holds}
 use Rattle.jstl_tags.specs.declared.rows.Holds.TheVariants as holds
-use Rattle.jstl_tags.specs.Check.{are_set_well, given_faults, is_core, is_param, is_whole, lacks}
+use Rattle.jstl_tags.specs.Check.{are_set_well, given_faults, is_branch, is_core, is_param, is_whole, lacks}
 use Rattle.jstl_tags.specs.Content.{attribute_names, is_part, is_standard, takes_parts}
 use Rattle.jstl_tags.specs.Rows.{Row}
 use Rattle.jstl_tags.specs.Standing.{Standing, part_names_in}
 use Rattle.jstl_tags.specs.ReadStanding.{element_stands, nothing_stands, other_stands, two_stand}
 
--- beside parts nothing else stands, and one `jsp:body` at most
-abbrev pub split_by : (split : Bool) → List Standing → List TranslationFault
-split_by split standing =
-    if split then fault_if (other_stands is_part standing) fault.BadBody ++ fault_if (two_stand (is_standard (codes "body")) standing) fault.BadNesting else []
+-- where parts give the attributes or the body: whether something is refused that stands beside them, and one `jsp:body` at most
+abbrev pub split_by : (split beside : Bool) → List Standing → List TranslationFault
+split_by split beside standing = if split then fault_if beside fault.BadBody ++ fault_if (two_stand (is_standard (codes "body")) standing) fault.BadNesting else []
+
+-- what is refused beside parts
+abbrev pub beside_by : (List ℕ → Bool) → Holds → List Standing → Bool
+beside_by library holds.Branches standing =
+    if element_stands (is_standard (codes "attribute")) standing then other_stands is_part standing else element_stands (is_branch library) standing
+beside_by library _ standing = other_stands is_part standing
 
 -- the faults of what a body holds
 abbrev pub holds_by : (List ℕ → Bool) → Holds → Closing → (body : List Standing) → List TranslationFault
@@ -30,8 +35,8 @@ holds_by library holds.Params closing body = fault_if (other_stands (is_param li
 holds_by library holds.Branches closing body = fault_if (is_whole closing && not (element_stands (is_core library (codes "when")) body)) fault.BadBody
 
 -- the faults of an action by its row
-abbrev pub row_by : (List ℕ → Bool) → Row → Closing → (split : Bool) → (standing body : List Standing) → (given : List (List ℕ)) → List TranslationFault
-row_by library row closing split standing body given = given_faults row closing given ++ (split_by split standing ++ holds_by library row.holds closing body)
+abbrev pub row_by : (List ℕ → Bool) → Row → Closing → (split beside : Bool) → (standing body : List Standing) → (given : List (List ℕ)) → List TranslationFault
+row_by library row closing split beside standing body given = given_faults row closing given ++ (split_by split beside standing ++ holds_by library row.holds closing body)
 
 -- what a row doesn't say
 abbrev pub own_by : CoreName → Closing → (body : List Standing) → (given : List (List ℕ)) → List TranslationFault
@@ -58,7 +63,7 @@ names_in t standing = attribute_names t.attributes ++ (if takes_parts t then par
 -- the faults of an action by its row and what stands in its body
 abbrev pub action_by : (List ℕ → Bool) → Row → Opened → (standing within : List Standing) → List TranslationFault
 action_by library row opened standing within =
-    row_by library row opened.closing (split_in opened.tag standing) standing (body_in opened.tag standing within) (names_in opened.tag standing)
+    row_by library row opened.closing (split_in opened.tag standing) (beside_by library row.holds standing) standing (body_in opened.tag standing within) (names_in opened.tag standing)
 
 -- the faults of a core tag that its row doesn't say
 abbrev pub own_of : CoreName → Opened → (standing within : List Standing) → List TranslationFault

@@ -4,13 +4,14 @@ ghost use Rattle.page_reader.specs.Trees.{Tree};
 ghost use Rattle.page_directives.specs.Faults.{in_order};
 ghost use Rattle.jstl_tags.specs.Check.{are_set_well, core_faults, given_faults, is_whole};
 ghost use Rattle.jstl_tags.specs.Check.{row_faults, split_faults};
-ghost use Rattle.jstl_tags.specs.Content.{body_of, is_empty};
+ghost use Rattle.jstl_tags.specs.Content.{body_of, is_empty, is_part};
 ghost use Rattle.jstl_tags.specs.Elements.{opened_of};
 ghost use Rattle.jstl_tags.specs.Given.{names_made};
 ghost use Rattle.jstl_tags.specs.Hosts.{host_made};
-ghost use Rattle.jstl_tags.specs.ReadCheck.{action_by, body_in, holds_by, own_by, own_of, split_by};
-ghost use Rattle.jstl_tags.specs.ReadCheck.{split_in};
+ghost use Rattle.jstl_tags.specs.ReadCheck.{action_by, beside_by, body_in, holds_by, own_by, own_of};
+ghost use Rattle.jstl_tags.specs.ReadCheck.{split_by, split_in};
 ghost use Rattle.jstl_tags.specs.Rows.{row_made};
+ghost use Rattle.jstl_tags.specs.ReadStanding.{other_stands};
 ghost use Rattle.jstl_tags.specs.Standing.{IsBody, standing_made};
 
 use crate::content::{Sort, element_stands, nothing_stands, other_stands, two_stand};
@@ -47,16 +48,36 @@ fn given_faults(row: &Row, closing: Closing, given: Given) -> Faults
     ).and(Faults::one_if(lacking, TranslationFault::BadAttribute)))
 }
 
+// Whether something else stands there than parts, white space apart.
+fn others_stand(standing: &Standings) -> bool
+    ensures { result ≡ other_stands is_part (map standing_made standing.now) }
+{
+    other_stands(Sort::Part, standing.as_slice())
+}
+
+// Whether something is refused that stands beside parts. In a choice without `jsp:attribute` that
+// is a branch: all else has a fault at its own place.
+fn stands_beside(library: &Prefixes, holds: Holds, standing: &Standings) -> bool
+    ensures { result ≡ beside_by (λ prefix. contains_text prefix library.now) holds
+        (map standing_made standing.now) }
+{
+    match holds {
+        Holds::Branches if !element_stands(Sort::PartAttribute, standing.as_slice()) => {
+            element_stands(Sort::Branch(library), standing.as_slice())
+        }
+        _ => others_stand(standing),
+    }
+}
+
 // The faults of parts and what stands beside them.
-fn split_faults_by(split: bool, standing: &Standings) -> Faults
-    ensures { result ≡ in_order (split_by split (map standing_made standing.now)) }
+fn split_faults_by(split: bool, beside: bool, standing: &Standings) -> Faults
+    ensures { result ≡ in_order (split_by split beside (map standing_made standing.now)) }
 {
     if !split {
         return Faults::none();
     }
-    let other = other_stands(Sort::Part, standing.as_slice());
     let two = two_stand(Sort::PartBody, standing.as_slice());
-    Faults::one_if(other, TranslationFault::BadBody).and(Faults::one_if(
+    Faults::one_if(beside, TranslationFault::BadBody).and(Faults::one_if(
         two,
         TranslationFault::BadNesting,
     ))
@@ -149,12 +170,12 @@ fn action_faults(library: &Prefixes, row: &Row, element: &Element, body: Body) -
         (map standing_made body.entry.inner.now)) }
 {
     let split = is_split(element, body.standing);
+    let beside = stands_beside(library, row.holds, body.standing);
     let given = given_to(element, body.standing);
     let within = body_in(element, body);
     let closing = element.closing;
-    given_faults(row, closing, given).and(split_faults_by(split, body.standing).and(body_faults(
-        library, row.holds, closing, within,
-    )))
+    let held = body_faults(library, row.holds, closing, within);
+    given_faults(row, closing, given).and(split_faults_by(split, beside, body.standing).and(held))
 }
 
 // The faults of a core tag that its row doesn't say, by what stands in its body.
@@ -179,7 +200,8 @@ pub fn split_faults(element: &Element, body: Body) -> Faults
     ensures { (tree : Tree) → IsBody body.entry tree →
         result ≡ in_order (split_faults (opened_of element.now).tag tree) }
 {
-    split_faults_by(is_split(element, body.standing), body.standing)
+    let split = is_split(element, body.standing);
+    split_faults_by(split, others_stand(body.standing), body.standing)
 }
 
 /// The faults of an action with this body by its row. `library` are the prefixes of the core

@@ -12,10 +12,13 @@ use page_pieces::Prefixes;
 pub(crate) enum Sort<'a> {
     // `jsp:attribute` and `jsp:body`.
     Part,
+    PartAttribute,
     PartBody,
     // A param of either family.
     Param(&'a Prefixes),
     When(&'a Prefixes),
+    // A branch of a choice.
+    Branch(&'a Prefixes),
     No,
 }
 
@@ -28,11 +31,16 @@ fn is_of(sort: Sort, thing: Standing) -> bool
     };
     match sort {
         Sort::Part => prefix == "jsp" && name == "attribute" || prefix == "jsp" && name == "body",
+        Sort::PartAttribute => prefix == "jsp" && name == "attribute",
         Sort::PartBody => prefix == "jsp" && name == "body",
         Sort::Param(library) => {
             prefix == "jsp" && name == "param" || library.contains(prefix) && name == "param"
         }
         Sort::When(library) => library.contains(prefix) && name == "when",
+        Sort::Branch(library) => {
+            library.contains(prefix) && name == "when"
+                || library.contains(prefix) && name == "otherwise"
+        }
         Sort::No => false,
     }
 }

@@ -17,11 +17,12 @@ returns c =
     let row = row_made c.args.row.now in
     let closing = c.args.element.now.closing in
     let split = c.is_split-split.result in
+    let beside = c.stands_beside-beside.result in
     let standing = map standing_made c.args.body.standing.now in
     let inner = map standing_made c.args.body.inner.now in
     let within = map standing_made c.body_in-within.result.now in
     let names = names_made c.given_to-given.result in
     let held = holds_by library row.holds closing within in
-    c.and-2.ensures.of (given_faults row closing names) (split_by split standing ++ held) c.given_faults.ensures
-    (c.and.ensures.of (split_by split standing) held c.split_faults_by.ensures c.body_faults.ensures)
-    ∙ ap in_order (action_parts library row (opened_of c.args.element.now) standing inner split within names c.is_split-split.ensures c.body_in-within.ensures c.given_to-given.ensures.names)
+    c.and-2.ensures.of (given_faults row closing names) (split_by split beside standing ++ held) c.given_faults.ensures
+    (c.and.ensures.of (split_by split beside standing) held c.split_faults_by.ensures c.body_faults-held.ensures)
+    ∙ ap in_order (action_parts library row (opened_of c.args.element.now) standing inner split beside within names c.is_split-split.ensures c.stands_beside-beside.ensures c.body_in-within.ensures c.given_to-given.ensures.names)

@@ -9,4 +9,4 @@ use Rattle.jstl_tags.proofs.check.split_faults.Goals as goal
 pub returns : goal.returns
 returns c = λ tree is.
     c.split_faults_by.ensures
-    ∙ ap in_order (parts_are (opened_of c.args.element.now).tag tree (map standing_made c.args.body.standing.now) c.is_split.result is.0 c.is_split.ensures)
+    ∙ ap in_order (parts_are (opened_of c.args.element.now).tag tree (map standing_made c.args.body.standing.now) c.is_split-split.result c.others_stand.result is.0 c.is_split-split.ensures c.others_stand.ensures)
