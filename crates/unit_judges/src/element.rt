@@ -22,8 +22,8 @@ use crate::calls::{call_faults, call_value_faults};
 use crate::kind::Kind;
 use crate::known::Known;
 use jstl_tags::{
-    Body, Given, Host, Row, Standing, Standings, Takes, child_faults, core_faults,
-    place_faults, row_faults, taken_faults, takes_of,
+    Body, Given, Host, Row, Standing, Standings, Takes, child_faults, core_faults, place_faults,
+    row_faults, taken_faults, takes_of,
 };
 use page_directives::Faults;
 use page_pieces::Attribute;
