@@ -58,11 +58,11 @@ fn size_of(call: &TagCall) -> usize
 
 // Calls a tag file with the values of its attributes. A unit has each one that it calls.
 #[cycle(machine)]
-pub(crate) fn tag_call<'a, W: World>(
+pub(crate) fn tag_call<W: World>(
     alloc: Global,
-    at: &At<'a>,
+    at: &At,
     records: &mut RequestRecords,
-    call: &'a TagCall,
+    call: &TagCall,
     opened: &mut Open,
     world: &mut W,
 ) -> Flow
@@ -105,9 +105,9 @@ pub(crate) fn tag_call<'a, W: World>(
 
 // A call, the tag file that it calls, and the variables with which that one's frame begins.
 #[derive(Drop)]
-struct TagStart<'a> {
+struct TagStart<'a, 'b> {
     call: &'a TagCall,
-    tag: &'a TagProgram,
+    tag: &'b TagProgram,
     entries: Attrs,
 }
 

@@ -170,7 +170,7 @@ fn call_out<W: World>(
     ensures left { opened.new.left ≡ opened.old.left }
 {
     match what {
-        CallOut::Tag(call) => tag_call(alloc, &*at, records, call.get(), opened, world),
+        CallOut::Tag(call) => tag_call(alloc, at, records, call.get(), opened, world),
         CallOut::Body => given_call(alloc, at, records, None, opened, world),
         CallOut::Fragment(name) => given_call(alloc, at, records, Some(name), opened, world),
         CallOut::Include { flush, params } => {
