@@ -19,15 +19,16 @@ use std::thread::Threads;
 /// Serves one round of all listeners by the pages of a site, each as those for whom it is. Where
 /// memory runs out the site is dropped.
 pub fn serve_round<
+    'a,
     R: Threads + Wait + Sync,
     A: Accept + Sync,
     W: Clocks + Sync,
     G: Gate + Drop + Sync,
 >(
-    platform: Platform<'_, R, W>,
+    platform: Platform<'a, R, W>,
     site: Site<Made>,
     gate: G,
-    listeners: &Listeners<A>,
+    listeners: &'a Listeners<A>,
 ) -> Result<Site<Made>, AllocError>
     requires rest { AllRest site.opening site.history }
     ensures rest { IfOk result (λ after. AllRest after.opening after.history) }

@@ -39,12 +39,12 @@ pub(crate) fn serve_contexts<R: Threads + Wait + Sync, A: Accept + Sync, W: Cloc
 }
 
 // Serves shared sites of these names by so many workers to readers, and by one more to editors.
-fn serve_shared<R: Threads + Wait + Sync, A: Accept + Sync, W: Clocks + Sync>(
-    platform: Platform<'_, R, W>,
-    names: &ContextNames,
+fn serve_shared<'a, R: Threads + Wait + Sync, A: Accept + Sync, W: Clocks + Sync>(
+    platform: Platform<'a, R, W>,
+    names: &'a ContextNames,
     readers: u8,
-    listeners: &Listeners<Unmarked<A>>,
-    sites: &[SharedSite<Made, OpenGate>],
+    listeners: &'a Listeners<Unmarked<A>>,
+    sites: &'a [SharedSite<Made, OpenGate>],
     passes: &mut [SitePasses<Made>],
 ) -> Result<(), AllocError>
     requires many { length sites.now ≡ length names.now }

@@ -1,5 +1,5 @@
+pub mod ByKind
 pub mod Cross
-pub mod Kinds
 pub mod Loops
 pub mod Parted
 pub mod Passes

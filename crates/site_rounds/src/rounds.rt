@@ -81,6 +81,7 @@ pub fn round<
 // The passes once the round is over for each, in their order. All memory is taken first, so that it
 // can't run out once a worker is made.
 fn served<
+    'a,
     P: Compiled + Send + Sync,
     R: Threads + Wait + Sync,
     A: Accept + Sync,
@@ -88,11 +89,11 @@ fn served<
     G: Gate + Drop + Sync,
     T: Talk<P> + Sync,
 >(
-    rt: &R,
+    rt: &'a R,
     alloc: Global,
-    site: &SharedSite<P, G>,
+    site: &'a SharedSite<P, G>,
     passes: SitePasses<P>,
-    service: Service<'_, T, A, W>,
+    service: Service<'a, T, A, W>,
 ) -> Result<SitePasses<P>, AllocError>
     requires some { 0 < length passes.items }
     requires ready { All (IsReady site.now) passes.items }

@@ -5,7 +5,7 @@ use Rattle.std.proofs.lemmas.Result.{IfOk-weaker}
 use Rattle.compiled_pages.proofs.MadeCross.{made_send, made_sync}
 use Rattle.compiled_pages.specs.Pages.{needs_at}
 use Rattle.pages_serve.specs.Talked.{HasTalked, audiences}
-use Rattle.site_rounds.proofs.Kinds.{served_by_kind}
+use Rattle.site_rounds.proofs.ByKind.{served_by_kind}
 use Rattle.pages_serve.proofs.pages_round.serve_round.Goals as goal
 
 pub round-requires-send-P : goal.round-requires-send-P

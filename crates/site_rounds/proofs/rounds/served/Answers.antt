@@ -2,7 +2,7 @@ use mir.Syntax.{named}
 use mir.Val.{bool_byte}
 use denote.Exit.{yes}
 use denote.Param.Send.{arg_send, param_send}
-use Rattle.std.proofs.Common.{◌≡◌, ◌+◌, ◌-◌, length, map, ap, arith, is_some, refl}
+use Rattle.std.proofs.Common.{◌≡◌, length, map, ap, arith, is_some, refl}
 use Rattle.site_rounds.proofs.Loops.{as_many, longer_by}
 use Rattle.site_rounds.proofs.Cross.{handler_sync, port_send}
 use Rattle.site_rounds.proofs.Parted.{editors_all, parts_long, parts_whole, previews_all, readers_all}
