@@ -19,7 +19,8 @@ pub fn is_busy<A>(answer: &Acted<A, Refusal>) -> bool
     }
 }
 
-// The request that holds the session, where a request found it held.
+// The request that holds the session, where a request found it held: the bell at which the pass
+// sleeps. No clause speaks of it.
 pub fn holder_of<A>(answer: &Acted<A, Refusal>) -> Option<u64> {
     match answer {
         Acted::Refused(Refusal::Busy { holder }) => Some(*holder),

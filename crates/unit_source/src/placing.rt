@@ -33,7 +33,8 @@ pub(crate) fn file_nodes(
     }
 }
 
-// The nodes of a file in place, without white space alone where that is trimmed.
+// The nodes of a file in place, without white space alone where that is trimmed, unless the file is
+// one piece alone.
 #[tactic(auto, using(crate::proofs::PlacingLemmas::trims))]
 fn placed_file(alloc: Global, nodes: Vec<Node>, trim: bool) -> Result<Vec<PlacedNode>, AllocError>
     ensures { IfOk result (λ placed_nodes. in_place placed_nodes.items
