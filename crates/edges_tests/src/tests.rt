@@ -148,7 +148,9 @@ fn the_clock_of_the_system_tells_seconds_since_1970(rt: HostRuntime) {
 
 // A listener whose rounds are over at once.
 #[derive(Clone, Copy, Drop)]
-struct Quiet;
+struct Quiet {
+    port: u16,
+}
 
 impl Accept for Quiet {
     type From = MemSource;
@@ -175,12 +177,14 @@ impl Bind for Ports {
 
     ghost faults = { λ ports. ports.faults };
 
+    ghost bound_to = { λ on. on.port };
+
     fn bind(&mut self, port: u16, _round: Option<u32>) -> Result<Quiet, Failed> {
         if port == 0 {
             self.faults = self.faults.saturating_add(1);
             return Err(Failed);
         }
-        Ok(Quiet)
+        Ok(Quiet { port })
     }
 }
 

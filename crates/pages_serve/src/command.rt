@@ -1,4 +1,4 @@
-ghost use Rattle.std.specs.Prelude.{◌≡◌, ◌≢◌, ◌≤◌, ◌+◌, is_some, true, None, OnErr, IfOk, map};
+ghost use Rattle.std.specs.Prelude.{◌≡◌, ◌≢◌, ◌≤◌, ◌+◌, is_some, true, None, OnErr, IfOk, map, option_map};
 ghost use Rattle.std.specs.Prelude.{string_bytes};
 ghost use Rattle.context_names.specs.Names.{names_in};
 ghost use Rattle.edges.specs.Faults.{Rose};
@@ -136,9 +136,12 @@ fn rounds<R: Threads + Wait + Sync, A: Accept + Sync + Drop, W: Clocks + Sync, J
     unreachable!()
 }
 
-// All listeners.
+// All listeners, each bound to the port of its audience.
 fn listeners_of<B: Bind>(bind: &mut B, settings: &Settings) -> Result<Listeners<B::On>, Failed>
-    ensures { OnErr result (Rose (B.faults bind.old) (B.faults bind.new)) }
+    ensures cause { OnErr result (Rose (B.faults bind.old) (B.faults bind.new)) }
+    ensures readers { IfOk result (λ on. B.bound_to on.readers ≡ settings.now.port) }
+    ensures editors { IfOk result (λ on. B.bound_to on.editors ≡ settings.now.editor_port) }
+    ensures previews { IfOk result (λ on. option_map B.bound_to on.previews ≡ settings.now.preview_port) }
 {
     let rounds = settings.rounds;
     let readers = bind.bind(settings.port, rounds.map(|rounds| rounds.readers))?;

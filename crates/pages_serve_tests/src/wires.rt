@@ -193,6 +193,8 @@ impl Bind for NoBind {
 
     ghost faults = { λ bind. bind.faults };
 
+    ghost bound_to = { λ _. 0 };
+
     fn bind(&mut self, _port: u16, _round: Option<u32>) -> Result<NoAccept, Failed> {
         self.faults = self.faults.saturating_add(1);
         Err(Failed)

@@ -27,6 +27,9 @@ pub struct TcpAccept<'a, R: Clock> {
     pub(crate) alloc: Global,
     pub(crate) listener: TcpListener,
 
+    /// The port to which it was to be bound; 0 is any.
+    pub(crate) port: u16,
+
     /// How many numbers a round has.
     pub(crate) numbers: Option<u32>,
     pub(crate) drawn: AtomicU64,

@@ -1,4 +1,4 @@
-ghost use Rattle.std.specs.Prelude.{◌≡◌};
+ghost use Rattle.std.specs.Prelude.{◌≡◌, IfOk};
 
 use crate::accept::TcpAccept;
 use crate::round::{Place, Round, SharedRound, local};
@@ -36,7 +36,8 @@ impl<'a, R> TcpBind<'a, R> {
 impl<'a, R: Net<Listener = TcpListener, Stream = TcpStream> + Clock> TcpBind<'a, R> {
     // A listener on this port.
     fn listen(&mut self, port: u16, numbers: Option<u32>) -> io::Result<TcpAccept<'a, R>>
-        ensures { self.new.faults ≡ self.old.faults }
+        ensures faults { self.new.faults ≡ self.old.faults }
+        ensures port { IfOk result (λ on. on.port ≡ port) }
     {
         let listener = TcpListener::bind(self.rt, local(port))?;
         let (round, place) = self.next_round()?;
@@ -45,6 +46,7 @@ impl<'a, R: Net<Listener = TcpListener, Stream = TcpStream> + Clock> TcpBind<'a,
             rt: self.rt,
             alloc: self.alloc,
             listener,
+            port,
             numbers,
             drawn: AtomicU64::new(0),
             settled: AtomicU64::new(0),
@@ -71,6 +73,8 @@ impl<'a, R: Net<Listener = TcpListener, Stream = TcpStream> + Clock + Sync> Bind
     type On = TcpAccept<'a, R>;
 
     ghost faults = { λ bind. bind.faults };
+
+    ghost bound_to = { λ on. on.port };
 
     fn bind(&mut self, port: u16, round: Option<u32>) -> Result<TcpAccept<'a, R>, Failed> {
         match self.listen(port, round) {
