@@ -24,6 +24,8 @@ FILES, PAGES = 4_096, 1_000
 PUBLISHINGS = 50
 PAGE = '<%@ page session="false" %>Hi ${param.n}!'
 PAUSE_SECONDS = 0.02
+# A connection may bring 65,536 requests.
+MOST_REQUESTS = 60_000
 
 
 def read(port, target, is_over, results):
@@ -31,14 +33,17 @@ def read(port, target, is_over, results):
     in seconds."""
     taken = []
     message = request("GET", target)
-    with Connection(port) as connection:
-        while not is_over.is_set():
-            begun = time.perf_counter()
-            connection.send(message)
-            answer = connection.answer()
-            taken.append((begun, time.perf_counter() - begun))
-            if answer.status != 200:
-                raise RuntimeError(f"{answer!r}")
+    while not is_over.is_set():
+        with Connection(port) as connection:
+            for _ in range(MOST_REQUESTS):
+                if is_over.is_set():
+                    break
+                begun = time.perf_counter()
+                connection.send(message)
+                answer = connection.answer()
+                taken.append((begun, time.perf_counter() - begun))
+                if answer is None or answer.status != 200:
+                    raise RuntimeError(f"{answer!r}")
     results.put(taken)
 
 
