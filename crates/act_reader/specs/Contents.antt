@@ -38,7 +38,7 @@ before made rest = record {
   held = first_held (option_map held_view made.held) rest.held;
 }
 
--- whatever stands behind it, something was added at the end
+-- what was read, then this, then whatever comes behind
 abbrev pub Adds : (old new : ChildrenMade) → (Children → Children) → Type 0
 Adds old new added = (rest : Children) → before new rest ≡ before old (added rest)
 

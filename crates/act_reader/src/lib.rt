@@ -1,5 +1,5 @@
 //! The acts of a page: its unit read once, so that the names of attributes are looked at here
-//! alone.
+//! alone. An act is an action as its meaning reads it (`page_acts`).
 #![tactic(auto)]
 
 mod acts_of_core;

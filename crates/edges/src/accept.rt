@@ -28,6 +28,6 @@ pub trait Accept {
     ) -> Result<Accepted<Self::From, Self::Into, Self::Closing>, Failed>
         ensures { HasCause faults.old faults.new result };
 
-    /// Begins a new round.
+    /// Begins a new round. It is called once every worker has the mark; no clause speaks of it.
     fn renew(&mut self);
 }

@@ -40,7 +40,8 @@ impl Scan {
         }
     }
 
-    // The same where the head has begun, and no empty line begins before this place.
+    // The length of the head at the front, where it has begun and no empty line begins before this
+    // place.
     fn look_on(&mut self, bytes: &[u8], at: usize) -> Option<usize>
         requires { HasLooked (Scan.Head at) bytes.now }
         ensures value { result ≡ head_len bytes.now }

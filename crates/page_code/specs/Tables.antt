@@ -31,9 +31,9 @@ step_cell is ps shs s = cell (get_or shs s.shape empty_shape) (get_or ps s.place
 abbrev pub step_cells : List Instr → List Place → List Shape → List Step → List Cell
 step_cells is ps shs steps = map (step_cell is ps shs) steps
 
--- the call of a tag file without attributes and without a body
-abbrev pub bare_call : List ℕ → TagCall
-bare_call path = record { path = path; names = []; body = body.Absent; fragments = [] }
+-- the call of a tag file with these attributes, without a body
+abbrev pub bare_call : (path : List ℕ) (names : List (List ℕ)) → TagCall
+bare_call path names = record { path = path; names = names; body = body.Absent; fragments = [] }
 
 -- the numbers of a step stand in the tables
 pub record IsListed (is : List Instr) (ps : List Place) (shs : List Shape) (s : Step) : Type 0 where

@@ -7,7 +7,7 @@ use crate::call::{CallBody, CallOut, TagCall};
 use crate::instr::Instr;
 use crate::op::Op;
 use crate::shape::{Level, Shape};
-use pg_text::Place;
+use pg_text::{Place, Text};
 use pg_value::Value;
 
 // Whether the places are equal.
@@ -74,18 +74,38 @@ fn is_same_call_out(a: &CallOut, b: &CallOut) -> bool
     }
 }
 
-// Whether the calls of tag files are equal, where they are bare.
+// Whether the calls of tag files are equal, where they hand down nothing and have one attribute at
+// most.
 fn is_same_call(a: &TagCall, b: &TagCall) -> bool
     ensures { IsTrue result → a.now ≡ b.now }
 {
-    is_bare(a) && is_bare(b) && a.path.as_bytes() == b.path.as_bytes()
+    is_bare(a)
+        && is_bare(b)
+        && are_same_names(a.names.as_slice(), b.names.as_slice())
+        && a.path.as_bytes() == b.path.as_bytes()
 }
 
-// Whether a call has no attributes, and hands down nothing.
+// Whether a call hands down neither a body nor fragments.
 fn is_bare(call: &TagCall) -> bool
-    ensures { IsTrue result → call.now ≡ bare_call call.now.path }
+    ensures { IsTrue result → call.now ≡ bare_call call.now.path call.now.names }
 {
-    call.names.is_empty() && call.fragments.is_empty() && matches!(call.body, CallBody::Absent)
+    call.fragments.is_empty() && matches!(call.body, CallBody::Absent)
+}
+
+// Whether the names are equal, where there is one at most.
+fn are_same_names(a: &[Text], b: &[Text]) -> bool
+    ensures { IsTrue result → a.now ≡ b.now }
+{
+    let (Some((a, others)), Some((b, rest))) = (a.split_first(), b.split_first()) else {
+        return a.is_empty() && b.is_empty();
+    };
+    others.is_empty() && rest.is_empty() && is_same_name(a, b)
+}
+
+fn is_same_name(a: &Text, b: &Text) -> bool
+    ensures { IsTrue result → a.now ≡ b.now }
+{
+    a.as_bytes() == b.as_bytes()
 }
 
 // Whether the operations are equal, where they are small.

@@ -134,6 +134,7 @@ impl<'a, R: Net<Stream = TcpStream> + Clock + Sync> Accept for TcpAccept<'a, R> 
         }
     }
 
+    // The round is shared by two listeners: both are renewed before either accepts.
     fn renew(&mut self) {
         self.drawn = AtomicU64::new(0);
         self.settled = AtomicU64::new(0);
