@@ -14,7 +14,7 @@ loop-rest-init g c =
     let size : ℕ = c.args.size in
     let len : c.len-2.result ≡ length buffer = search rules in
     let piece : c.deref.result.now ≡ take size (buffer ++ bytes)
-    = c.deref.ensures.value ∙ c.in-Ok.ensures.items ∙ rw (c.in_ok-try_reserve.ensures.items, c.split_at.ensures.front, len) (first_piece buffer bytes size c.requires.within) in
+    = rw (c.deref.ensures.value, c.in-Ok.ensures.items, c.in_ok-try_reserve.ensures.items, c.split_at.ensures.front, len) (first_piece buffer bytes size c.requires.within) in
     record {
       count = 1;
       within = omega (arith, length-append buffer bytes, c.requires.over);

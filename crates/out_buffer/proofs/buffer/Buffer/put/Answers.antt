@@ -1,5 +1,4 @@
-use Rattle.std.proofs.Common.{◌<◌, ◌≤◌, ◌++◌, ℕ, List, length, refl, sym, ap, ◌∙◌, arith, length-append, Ok, Result, Option}
-use Rattle.pg_value.specs.declared.fault.RunFault.{RunFault}
+use Rattle.std.proofs.Common.{◌<◌, ◌≤◌, ◌++◌, ℕ, List, length, refl, ap, ◌∙◌, arith, length-append, Option}
 use Rattle.out_buffer.specs.ReadBuffer.{writer_at}
 use Rattle.out_buffer.specs.Writer.{Writer, flushed_over, piece_of, written}
 use Rattle.out_buffer.proofs.BufferLemmas.{fits, overflows}
@@ -21,7 +20,7 @@ returns-then-bytes-size-clause-comes g c = λ start before pieces count kept was
     let is_short : length total ≤ c.in-Some.size = omega (arith, length-append w.buffer bytes, within.1, c.len.ensures, c.if-bytes-size.true) in (
       after,
       ap (λ (size : Option ℕ). written size bytes w) c.in-Some.is ∙ fits c.in-Some.size total w is_short
-          ∙ ap (λ (items : List ℕ). let put : Result Writer RunFault = Ok (record w { buffer = items }) in put) (sym c.in_ok-keep.ensures.items),
+          ∙ rw c.in_ok-keep.ensures.items refl,
       (refl, was),
     )
 
@@ -36,5 +35,5 @@ returns-clause-comes g c = λ start before pieces count kept was.
     let is_long : size < length total = omega (arith, length-append w.buffer bytes, within.1, c.len.ensures, c.if-bytes-size.false) in (
       after,
       ap (λ (s : Option ℕ). written s bytes w) c.in-Some.is ∙ overflows size total w is_long c.if-not-self.false,
-      (ap (λ (items : List ℕ). record after { buffer = items }) (sym c.in_ok-overflow.ensures.ok), c.in_ok-overflow.ensures.sent start before pieces was),
+      (rw c.in_ok-overflow.ensures.ok refl, c.in_ok-overflow.ensures.sent start before pieces was),
     )

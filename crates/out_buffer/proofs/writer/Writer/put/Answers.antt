@@ -22,7 +22,8 @@ returns-in_err-place-clause-comes g c = λ start before writer was.
     let within : count ≤ 16777216 = omega (arith, c.self.invariant.1, c.if-text-self.false) in
     let fault = c.in_err-place.ensures.comes start before writer.pieces count (record { committed = held.committed; streamed = held.streamed }) in
     let p = err_from_is_err_and c.from_residual.result c.from_residual.ensures.1 in
-    rw (p.1, p.2) (fault_passes _ (put text writer) c.in_err-place.field-0.0 _ _ (ap (put text) held.holds ∙ put_placed text (writer_of (the_view inside) writer.pieces) within) fault)
+    let is = ap (put text) held.holds ∙ put_placed text (writer_of (the_view inside) writer.pieces) within in
+    rw (p.1, p.2) (search (fault_passes, is, fault))
 
 pub returns-clause-comes : goal.returns-clause-comes
 returns-clause-comes g c = λ start before writer was.
@@ -31,8 +32,9 @@ returns-clause-comes g c = λ start before writer was.
     let text : List ℕ = c.args.text.now in
     let count : ℕ = inside.count + length text in
     let within : count ≤ 16777216 = omega (arith, c.self.invariant.1, c.if-text-self.false) in
+    let is = ap (put text) held.holds ∙ put_placed text (writer_of (the_view inside) writer.pieces) within in
     let put_it = c.in_ok-place.ensures.comes start before writer.pieces count (record { committed = held.committed; streamed = held.streamed }) in (
       put_it.0,
-      ap (put text) held.holds ∙ put_placed text (writer_of (the_view inside) writer.pieces) within ∙ put_it.1,
+      search (is, put_it.1),
       record { holds = put_it.2.0; committed = put_it.2.1.committed; streamed = put_it.2.1.streamed },
     )
