@@ -1,7 +1,6 @@
 -- The lines and the record that tell a fault.
 use Rattle.std.specs.Prelude.{ℕ, List, ◌++◌, codes, decimal}
-use Rattle.pg_text.specs.Faults as page_fault
-use Rattle.pg_text.specs.declared.place.PageFault.{PageFault}
+pub use Rattle.fault_line.specs.FaultLine.{place_text, page_fault_line}
 use Rattle.pg_text.specs.declared.place.Place.{Place}
 use Rattle.pg_value.specs.Datum.{Datum, text, rec, no_entries, entry}
 use Rattle.pg_value.specs.RunFault.{name_of, number_of}
@@ -11,14 +10,6 @@ use Rattle.pg_value.specs.declared.fault.RunFault.{RunFault}
 pub record Raise : Type 0 where
   pub fault : RunFault
   pub place : Place
-
--- a place as `/a.jsp:1:7`
-abbrev pub place_text : Place → List ℕ
-place_text place = place.file ++ codes ":" ++ decimal place.line ++ codes ":" ++ decimal place.column
-
--- a page's fault as `E8 NoFile /p.jsp:1:1`
-abbrev pub page_fault_line : PageFault → List ℕ
-page_fault_line f = codes "E" ++ decimal (page_fault.number_of f.fault) ++ codes " " ++ page_fault.name_of f.fault ++ codes " " ++ place_text f.place
 
 -- a run's fault by its letter and number, as `X3`
 abbrev pub code_of : RunFault → List ℕ
