@@ -12,8 +12,13 @@ use crate::rule::TurnTable;
 use crate::{passes, seat, turn};
 use edges::Acted;
 use std::alloc::{AllocError, Global};
+use std::hint;
 use std::marker::Model;
-use std::sync::{Mutex, Wait};
+use std::sync::{Mutex, MutexGuard, Wait};
+
+/// How often a pass tries the door before it sleeps there. Most turns are shorter than so many
+/// pauses of a processor, and these shorter than a sleep with its wake-up.
+const TRIES: u32 = 100;
 
 /// An object on which passes take turns. Contracts see which turns they are, how many passes they
 /// have, and the opening of the object.
@@ -84,8 +89,20 @@ impl<O: Object> Turns<O> {
             (own O.pass_of pass.old.number pass.old.seen) op
             → IsDid result }
     {
-        let _inside = self.door.lock(rt);
+        let _inside = self.come_in(rt);
         turn::act(rt, &self.table, &mut pass.seat, pass.number, op)
+    }
+
+    // Comes through the door: at once where nobody is inside, else as soon as it is found open, or
+    // after a sleep.
+    fn come_in<R: Wait>(&self, rt: &R) -> MutexGuard<'_, ()> {
+        for _ in 0..TRIES {
+            if let Some(inside) = self.door.try_lock() {
+                return inside;
+            }
+            hint::spin_loop();
+        }
+        self.door.lock(rt)
     }
 
     /// The length of a front of the history that holds all that the pass had seen, and that it has
