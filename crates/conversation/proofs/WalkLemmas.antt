@@ -1,5 +1,5 @@
 -- How a connection goes on from request to request.
-use Rattle.std.proofs.Common.{◌≡◌, ◌≢◌, ◌<◌, ℕ, ◌+◌, Bool, true, false, List, [], ◌∷◌, ◌++◌, inl, inr, length, map, Option, Err, refl, sym, ap, subst, ◌∙◌, append_assoc, arith}
+use Rattle.std.proofs.Common.{◌≡◌, ◌≢◌, ◌≤◌, ◌<◌, ℕ, ◌+◌, Bool, true, false, List, [], ◌∷◌, ◌++◌, inl, inr, length, map, Option, Err, refl, sym, ap, subst, ◌∙◌, append_assoc, arith}
 use Rattle.std.specs.Prelude.{◌||◌}
 use Rattle.std.specs.Io.KnownBytes.{Appends, Consumes, IsAtEnd}
 use Rattle.std.proofs.lemmas.List.{append-nil, length_push}
@@ -184,7 +184,7 @@ come_more serves start now left between later rest piece come consumed = record 
 }
 
 -- where the bytes stop the requests, the conversation is whole
-pub stops : {W : Type 0} (serves : Bool → W → Exchange → W → Type 0) (start now : W) (left between later old taken new : Option (List ℕ)) (rest : List ℕ) (number : ℕ) (stop : Stop) (answer : Outcome)
+stops : {W : Type 0} (serves : Bool → W → Exchange → W → Type 0) (start now : W) (left between later old taken new : Option (List ℕ)) (rest : List ℕ) (number : ℕ) (stop : Stop) (answer : Outcome)
     → IsSoFar serves start now left between old taken rest number
     → Saw between later rest (λ seen. StopSeen stop seen later × IsReadOn stop seen)
     → Appends taken new (last_words stop)
@@ -309,5 +309,14 @@ starved_by serves starves start mid now left between later old taken new before 
 }
 
 -- the input ended between requests
-pub ended_seen : (mid later : Option (List ℕ)) (rest after_it : List ℕ) → Moves mid later rest after_it × IsEnd after_it × IsAtEnd later → Saw mid later rest (λ seen. StopSeen Ended seen later × IsReadOn Ended seen)
-ended_seen mid later rest after_it has = seen_so mid later rest after_it (λ seen. StopSeen Ended seen later × IsReadOn Ended seen) has.0 ((has.1, has.2), tt)
+pub input_ends : {W : Type 0} (serves : Bool → W → Exchange → W → Type 0) (start now : W) (left between later old taken : Option (List ℕ)) (rest after_it : List ℕ) (number : ℕ)
+    → IsSoFar serves start now left between old taken rest number
+    → Moves between later rest after_it → IsEnd after_it → IsAtEnd later
+    → IsConversation serves start now left later old taken outcome.Done
+input_ends serves start now left between later old taken rest after_it number was moved end out =
+    let saw = seen_so between later rest after_it (λ seen. StopSeen Ended seen later × IsReadOn Ended seen) moved ((end, out), tt) in
+    stops serves start now left between later old taken taken rest number Ended outcome.Done was saw (appends_none taken) refl
+
+-- a count that rose from a later value rose from an earlier one too
+pub rose_earlier : (entry before after : ℕ) → entry ≤ before → Rose before after → Rose entry after
+rose_earlier entry before after was rose = omega (arith, rose, was)
