@@ -73,6 +73,7 @@ fn path_in(alloc: Global, file: &Path, text: Option<&str>) -> Result<Option<Path
 }
 
 // The path of the file that an include directive names.
+#[inline(never)]
 pub(crate) fn included_path(
     alloc: Global,
     directive: &WrittenDirective,

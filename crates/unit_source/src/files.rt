@@ -82,6 +82,7 @@ impl<'a> UnitFiles<'a> {
     }
 
     // The file at a path, with its first reading.
+    #[inline(never)]
     #[tactic(auto, using(crate::proofs::FileLemmas::file_within))]
     pub(crate) fn file(&mut self, path: &Path) -> Result<Option<SourceFile>, AllocError>
         ensures value { IfOk result (λ found. found ≡ source_at (text_in self.old) path.now) }

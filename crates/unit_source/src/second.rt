@@ -45,6 +45,7 @@ fn page_under(
 
 // Reads a file by itself under settings and behind the prefixes that are registered; the chain
 // begins with that file.
+#[inline(never)]
 pub(crate) fn read_alone(
     files: &mut UnitFiles,
     settings: &PageSettings,

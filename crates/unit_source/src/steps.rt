@@ -44,6 +44,7 @@ fn deeper(around: usize) -> usize
 }
 
 // Adds the steps of nodes within so many open elements, in reading order.
+#[inline(never)]
 #[cycle(steps)]
 #[tactic(auto, using(crate::proofs::StepLemmas::one_stepped))]
 pub(crate) fn add_steps(
