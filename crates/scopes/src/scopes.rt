@@ -7,10 +7,10 @@ ghost use Rattle.scopes.specs.Scopes.{without_variable, set_answer, record_answe
 ghost use Rattle.scopes.specs.Scopes.{with_frame, with_frame_of, without_frame, turned_to};
 ghost use Rattle.scopes.specs.Scopes.{with_session};
 
-use crate::attributes;
+use crate::attributes::Attributes;
 use crate::frame::Frame;
 use crate::held_scope::HeldScope;
-use pg_value::{Attrs, Failure, Record, RunFault, Text, Value};
+use pg_value::{Attrs, Failure, Record, RunFault, Text, Value, is_too_large};
 use std::alloc::{AllocError, Global};
 use std::marker::Model;
 
@@ -21,7 +21,7 @@ pub struct Scopes {
     frames: Vec<Frame>,
     current: u32,
     request: Frame,
-    session: Option<Attrs>,
+    session: Option<Attributes>,
 }
 
 impl Model for Scopes {
@@ -50,7 +50,7 @@ impl Scopes {
             frames,
             current: 0,
             request: Frame::empty(alloc),
-            session,
+            session: session.map(Attributes::of),
         })
     }
 
@@ -97,7 +97,7 @@ impl Scopes {
                 let Some(session) = &mut self.session else {
                     return Err(Failure::Fault(RunFault::NoSession));
                 };
-                attributes::keep(session, name, value)?;
+                session.set(name, value)?;
             }
         }
         Ok(())
@@ -126,11 +126,11 @@ impl Scopes {
     pub fn as_rec(&self, scope: HeldScope) -> Result<Value, Failure<RunFault>>
         ensures { Answers (record_answer (unwrap_or (entries_in self.now scope) [])) result }
     {
-        let entries = self.entries(scope)?;
-        if attributes::is_too_large(&entries) {
+        let record = Value::Rec(Record::new(self.entries(scope)?)?);
+        if is_too_large(&record) {
             return Err(Failure::Fault(RunFault::ValueTooLarge));
         }
-        Ok(Value::Rec(Record::new(entries)?))
+        Ok(record)
     }
 
     /// The number of frames.
@@ -210,7 +210,8 @@ impl Scopes {
         requires { IsNone self.old.session }
         ensures { self.new ≡ with_session self.old }
     {
-        self.session = Some(Attrs::empty(*self.frames.allocator()));
+        let none = Attrs::empty(*self.frames.allocator());
+        self.session = Some(Attributes::of(none));
     }
 
     /// The attributes of the session, without a copy: none where there is no session.
@@ -223,7 +224,7 @@ impl Scopes {
             ..
         } = self;
         match session {
-            Some(session) => session,
+            Some(session) => session.into_attrs(),
             None => Attrs::empty(*frames.allocator()),
         }
     }
@@ -236,7 +237,7 @@ impl Scopes {
             HeldScope::Page => self.frames[self.current as usize].to_attrs(),
             HeldScope::Request => self.request.to_attrs(),
             HeldScope::Session => match &self.session {
-                Some(session) => session.copy(),
+                Some(session) => session.to_attrs(),
                 None => Ok(Attrs::empty(*self.frames.allocator())),
             },
         }
