@@ -3,3 +3,4 @@ pub mod Faults
 pub mod Names
 pub mod ReadFirsts
 pub mod ReadNames
+pub mod Required

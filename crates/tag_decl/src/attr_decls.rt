@@ -1,10 +1,11 @@
 ghost use Rattle.std.specs.Prelude.{◌≡◌, IfOk, IfSome};
 ghost use Rattle.std.specs.List.{slice_get};
 ghost use Rattle.std.specs.Option.{option_map};
+ghost use Rattle.tag_decl.specs.Required.{required_names};
 ghost use Rattle.tag_decl.specs.ReadFirsts.{HasFirsts, first_named};
 
 use crate::declaration::AttrDecl;
-use pg_text::Listed;
+use pg_text::{Listed, Text};
 use std::alloc::{AllocError, Global};
 use std::collections::BTreeMap;
 use std::marker::Model;
@@ -22,11 +23,14 @@ pub struct AttrDecls {
     items: Listed<AttrDecl>,
     // Where the first of each name stands, to be looked up; it isn't there where they are few.
     firsts: Option<Firsts>,
+    // The names of the required ones.
+    required: Listed<Text>,
 }
 
 impl Model for AttrDecls {
-    ghost use Rattle.std.specs.Prelude.{List};
+    ghost use Rattle.std.specs.Prelude.{◌≡◌, List};
     ghost use Rattle.std.specs.Option.{IfSome};
+    ghost use Rattle.tag_decl.specs.Required.{required_names};
     ghost use Rattle.tag_decl.specs.declared.declaration.AttrDecl.{AttrDecl};
     ghost use Rattle.tag_decl.specs.ReadFirsts.{HasFirsts};
 
@@ -34,7 +38,8 @@ impl Model for AttrDecls {
 
     ghost view = { λ d. d.items };
 
-    ghost invariant = { λ d. IfSome d.firsts (λ firsts. HasFirsts firsts d.items) };
+    ghost invariant = { λ d. IfSome d.firsts (λ firsts. HasFirsts firsts d.items)
+        × (d.required ≡ required_names d.items) };
 }
 
 impl AttrDecls {
@@ -43,13 +48,26 @@ impl AttrDecls {
         ensures { IfOk result (λ decls. decls ≡ items) }
     {
         let firsts = firsts_of_many(alloc, items.as_slice())?;
-        Ok(AttrDecls { items, firsts })
+        let required = required_names(alloc, items.as_slice())?;
+        Ok(AttrDecls {
+            items,
+            firsts,
+            required,
+        })
     }
 
     pub fn as_slice(&self) -> &[AttrDecl]
         ensures { result.now ≡ self.now }
     {
         self.items.as_slice()
+    }
+
+    /// The names of those that are required, in their order: a call is asked for them, however many
+    /// others are declared.
+    pub fn required(&self) -> &[Text]
+        ensures { result.now ≡ required_names self.now }
+    {
+        self.required.as_slice()
     }
 
     // The first of that name.
@@ -116,4 +134,17 @@ fn firsts_of(alloc: Global, decls: &[AttrDecl]) -> Result<Firsts, AllocError>
         firsts.insert(String::from_str(alloc, decl.name.as_str())?, at)?;
     }
     Ok(firsts)
+}
+
+// The names of the required ones of these declarations.
+fn required_names(alloc: Global, decls: &[AttrDecl]) -> Result<Listed<Text>, AllocError>
+    ensures { IfOk result (λ names. names ≡ required_names decls.now) }
+{
+    let mut names = Listed::empty(alloc);
+    for decl in decls {
+        if decl.required {
+            names.push(decl.name.copy()?)?;
+        }
+    }
+    Ok(names)
 }
