@@ -12,10 +12,10 @@ ghost use Rattle.site_words.specs.Answers.{IsFull};
 ghost use Rattle.site_words.specs.Trees.{Needs};
 ghost use Rattle.site_words.specs.declared.words.Opening.{Opening};
 
-use conversation::{Outcome, shows_body};
+use conversation::{Outcome, tell};
 use edges::Sink;
 use http_in::Request;
-use http_out::{Status, full_line, tell_plain};
+use http_out::{Status, full_line};
 use site_words::Refusal;
 use std::alloc::{AllocError, Global};
 
@@ -36,19 +36,8 @@ pub(crate) fn not_taken<K: Sink>(
     ensures later { K.faults sink.old ≤ K.faults sink.new }
     ensures failed { result ≡ Outcome.WriteFault → Rose (K.faults sink.old) (K.faults sink.new) }
 {
-    let shown = shows_body(request);
-    match tell_plain(
-        alloc,
-        sink,
-        Status::MethodNotAllowed,
-        close,
-        b"MethodNotAllowed",
-        shown,
-    ) {
-        Ok(false) => Outcome::Whole,
-        Ok(true) => Outcome::WriteFault,
-        Err(AllocError) => Outcome::NoMemory,
-    }
+    let line = b"MethodNotAllowed";
+    tell(alloc, request, close, Status::MethodNotAllowed, line, sink)
 }
 
 /// Answers a request for which the journal had no room.
@@ -71,15 +60,11 @@ pub(crate) fn full<K: Sink>(
     ensures later { K.faults sink.old ≤ K.faults sink.new }
     ensures failed { result ≡ Outcome.WriteFault → Rose (K.faults sink.old) (K.faults sink.new) }
 {
-    let shown = shows_body(request);
     let Ok(line) = refusal_line(alloc, refusal) else {
         return Outcome::NoMemory;
     };
-    match tell_plain(alloc, sink, Status::ServiceUnavailable, close, &line, shown) {
-        Ok(false) => Outcome::Whole,
-        Ok(true) => Outcome::WriteFault,
-        Err(AllocError) => Outcome::NoMemory,
-    }
+    let status = Status::ServiceUnavailable;
+    tell(alloc, request, close, status, &line, sink)
 }
 
 /// The line of a refusal that tells a full journal.
