@@ -114,8 +114,8 @@ impl Scopes {
             }
             HeldScope::Request => self.request.remove(name),
             HeldScope::Session => {
-                if let Some(session) = &mut self.session {
-                    session.remove(name);
+                if let Some(session) = self.session.take() {
+                    self.session = Some(session.without(name));
                 }
             }
         }
