@@ -3,5 +3,7 @@
 #![tactic(auto)]
 
 mod commands;
+#[cfg(test)]
+mod tests;
 
 pub use commands::{help, usage};
