@@ -23,7 +23,7 @@ use Rattle.site_words.specs.Runs.{promised}
 use Rattle.site_words.specs.Sessions.{attrs_of, holder, number_of}
 use Rattle.site_words.specs.Step.{full_of, or_else, refusal_of, shown, snapped_session, stale, too_large}
 use Rattle.site_words.specs.Trees.{Needs}
-use Rattle.site_words.specs.Weights.{capped, op_weight, weight_with}
+use Rattle.site_words.specs.Weights.{capped, op_weight, weight_held, weight_with}
 use Rattle.site_state.specs.declared.gift.Done.{Done}
 use Rattle.site_state.specs.declared.gift.Gift.{Gift}
 use Rattle.site_state.specs.declared.gift.Gift.TheVariants.{Nothing, Start, Made, Id, Picture, Old}
@@ -129,7 +129,7 @@ module _ {P : Type 0} (needs : Needs) (made : P → List File → List ℕ → T
   reply_here old edits kept = ap (λ l. reply.Published (old.version + 1) l) (dirty_is needs made needed laws old.tree (changed edits old.tree) old.kept kept)
 
   -- why a publishing is refused
-  pub publish_refusal : (x : Opening) (history : List Entry) (old : Parts P) (pass : ℕ) (base : Option ℕ) (edits : List Edit) (b f g : Option Refusal) → AreKept made old.tree old.kept → b ≡ stale base old.version
+  publish_refusal : (x : Opening) (history : List Entry) (old : Parts P) (pass : ℕ) (base : Option ℕ) (edits : List Edit) (b f g : Option Refusal) → AreKept made old.tree old.kept → b ≡ stale base old.version
       → f ≡ too_large (tree_fault (after_edits edits (old.version + 1) old.tree))
       → g ≡ full_of x.limit old.weight (promised old.runs) (weight_with (op.Publish base edits) (reply.Published (old.version + 1) (dirty_in needed (changed edits old.tree) old.kept)))
       → refusal_of needs x (state_of x history old) pass (op.Publish base edits) ≡ or_else b (or_else f g)
@@ -139,16 +139,27 @@ module _ {P : Type 0} (needs : Needs) (made : P → List File → List ℕ → T
       ∙ (ap (λ g. or_else (stale base old.version) (or_else (too_large (tree_fault (after_edits edits (old.version + 1) old.tree))) g)) (sym g_is)
       ∙ (ap (λ f. or_else (stale base old.version) (or_else f g)) (sym f_is) ∙ ap (λ b. or_else b (or_else f g)) (sym b_is)))
 
-  pub publish_done : (x : Opening) (history : List Entry) (old new : Parts P) (pass w sum version : ℕ) (base : Option ℕ) (edits : List Edit) (tree : List File) (kept : List (List ℕ × P)) (done : Done P)
+  -- whether the journal has room for a publishing that nothing else refuses
+  pub publish_room : (x : Opening) (history : List Entry) (old : Parts P) (pass : ℕ) (base : Option ℕ) (edits : List Edit) (dirty : List (List ℕ)) (tree : List File) (claim : Option ℕ) (full : Option Refusal)
+      → AreKept made old.tree old.kept → None ≡ stale base old.version → dirty ≡ dirty_in needed (changed edits old.tree) old.kept → tree_of (after_edits edits (old.version + 1) old.tree) ≡ Ok tree
+      → claim ≡ weight_held (weight_with (op.Publish base edits) (reply.Published (old.version + 1) dirty)) → ((n : ℕ) → claim ≡ weight_held n → full ≡ full_of x.limit old.weight (promised old.runs) n)
+      → refusal_of needs x (state_of x history old) pass (op.Publish base edits) ≡ full
+  publish_room x history old pass base edits dirty tree claim full kept latest dirty_here edited claimed room =
+      publish_refusal x history old pass base edits None None full kept latest
+      (sym (ap (λ f. too_large f) (no_fault (after_edits edits (old.version + 1) old.tree) tree edited)))
+      (room (weight_with (op.Publish base edits) (reply.Published (old.version + 1) (dirty_in needed (changed edits old.tree) old.kept)))
+      (claimed ∙ ap (λ (d : List (List ℕ)). weight_held (weight_with (op.Publish base edits) (reply.Published (old.version + 1) d))) dirty_here))
+
+  pub publish_done : (x : Opening) (history : List Entry) (old new : Parts P) (pass w sum version : ℕ) (base : Option ℕ) (edits : List Edit) (dirty : List (List ℕ)) (tree : List File) (kept : List (List ℕ × P)) (done : Done P)
       → CanWork needs made x history old pass (op.Publish base edits) None → refusal_of needs x (state_of x history old) pass (op.Publish base edits) ≡ None
       → new ≡ record old { tree = tree; version = version; kept = kept; weight = sum }
-      → version ≡ old.version + 1 → tree ≡ after_edits edits (old.version + 1) old.tree → kept ≡ clean_in needed (changed edits old.tree) old.kept
-      → sum ≡ min (old.weight + w) (2 ^ 64 - 1) → w ≡ weight_with (op.Publish base edits) (reply.Published (old.version + 1) (dirty_in needed (changed edits old.tree) old.kept))
-      → done.reply ≡ reply.Published (old.version + 1) (dirty_in needed (changed edits old.tree) old.kept) → done.given.reply ≡ reply.Published (old.version + 1) (dirty_in needed (changed edits old.tree) old.kept)
+      → version ≡ old.version + 1 → tree ≡ after_edits edits (old.version + 1) old.tree → kept ≡ clean_in needed (changed edits old.tree) old.kept → dirty ≡ dirty_in needed (changed edits old.tree) old.kept
+      → sum ≡ min (old.weight + w) (2 ^ 64 - 1) → w ≡ weight_with (op.Publish base edits) (reply.Published (old.version + 1) dirty)
+      → done.reply ≡ reply.Published (old.version + 1) dirty → done.given.reply ≡ reply.Published (old.version + 1) dirty
       → IsDone needs made x history old new pass (op.Publish base edits) done
-  publish_done x history old new pass w sum version base edits tree kept done can none is version_is tree_is kept_is added claim told given =
-      let r : Reply = reply.Published (old.version + 1) (dirty_in needed (changed edits old.tree) old.kept) in
-      let here = reply_here old edits can.kept in
+  publish_done x history old new pass w sum version base edits dirty tree kept done can none is version_is tree_is kept_is dirty_here added claim told given =
+      let r : Reply = reply.Published (old.version + 1) dirty in
+      let here = ap (λ (d : List (List ℕ)). reply.Published (old.version + 1) d) dirty_here ∙ reply_here old edits can.kept in
       let room = subst (λ (r : Reply). old.weight + weight_with (op.Publish base edits) r < 2 ^ 64) (sym here) (can.room none) in
       subst (λ (n : Parts P). IsDone needs made x history old n pass (op.Publish base edits) done) (sym is)
       (done_by needs made x history old (record old { tree = tree; version = version; kept = kept; weight = sum }) pass (op.Publish base edits) r done none here told given tt
