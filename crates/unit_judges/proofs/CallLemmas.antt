@@ -1,18 +1,21 @@
 -- The faults of names that are given to a call.
-use Rattle.std.proofs.Common.{◌≡◌, ℕ, List, [], ◌∷◌, ◌++◌, map, refl, sym, ap, ◌∙◌, append_assoc, append-nil}
-use Rattle.std.specs.Prelude.{◌||◌}
+use Rattle.std.proofs.Common.{◌≡◌, ℕ, Bool, true, false, cond, List, [], ◌∷◌, ◌++◌, map, refl, sym, ap, ◌∙◌, append_assoc, append-nil}
+use Rattle.std.specs.Prelude.{◌||◌, ◌&&◌, not, filter}
 use Rattle.std.specs.Option.{is_some}
 use Rattle.std.specs.Str.{bytes_eq}
 use Rattle.page_pieces.specs.declared.attribute.Attribute.{Attribute}
 use Rattle.page_pieces.specs.Repeats.{has_name}
 use Rattle.page_pieces.specs.Settings.{contains_text}
+use Rattle.tag_decl.specs.declared.declaration.AttrDecl.{AttrDecl}
 use Rattle.tag_decl.specs.declared.declaration.TagDecl.{TagDecl}
 use Rattle.tag_decl.specs.Declare.{declared}
+use Rattle.tag_decl.specs.Required.{required_names}
 use Rattle.jstl_tags.specs.declared.standing.Standing.{Standing as Made}
+use Rattle.jstl_tags.specs.Check.{lacks}
 use Rattle.jstl_tags.specs.Content.{attribute_names}
 use Rattle.jstl_tags.specs.Standing.{Standing, part_names_in, standing_made}
 use Rattle.jstl_tags.specs.Standing as standing
-use Rattle.unit_words.specs.Calls.{name_faults, names_faults}
+use Rattle.unit_words.specs.Calls.{lacks_required, name_faults, names_faults}
 
 -- a name is written where an attribute has it
 pub written : (name : List ℕ) (attributes : List Attribute) → has_name name attributes ≡ contains_text name (attribute_names attributes)
@@ -49,3 +52,14 @@ part_names_joined (x ∷ xs) ys =
 pub parts_joined : (decl : TagDecl) (all : List (List ℕ)) (xs ys : List Made)
     → names_faults decl all (part_names_in (map standing_made (xs ++ ys))) ≡ names_faults decl all (part_names_in (map standing_made xs)) ++ names_faults decl all (part_names_in (map standing_made ys))
 parts_joined decl all xs ys = ap (names_faults decl all) (part_names_joined xs ys) ∙ names_joined decl all (part_names_in (map standing_made xs)) (part_names_in (map standing_made ys))
+
+-- a required attribute is lacking where the name of one is
+pub lacks_named : (decls : List AttrDecl) (given : List (List ℕ)) → lacks_required decls given ≡ lacks (required_names decls) given
+lacks_named [] given = refl
+lacks_named (decl ∷ decls) given = by_required decl.required (lacks_named decls given)
+  where
+    by_required : (b : Bool) → lacks_required decls given ≡ lacks (required_names decls) given
+        → ((b && not (contains_text decl.name given)) || lacks_required decls given)
+        ≡ lacks (map (λ d. d.name) (cond b (decl ∷ filter (λ d. d.required) decls) (filter (λ d. d.required) decls))) given
+    by_required true rest = ap (λ b. not (contains_text decl.name given) || b) rest
+    by_required false rest = rest

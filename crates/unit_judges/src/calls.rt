@@ -4,6 +4,7 @@ ghost use Rattle.page_pieces.specs.Settings.{contains_text, plain_text};
 ghost use Rattle.page_reader.specs.Trees.{Tree};
 ghost use Rattle.page_directives.specs.Faults.{in_order};
 ghost use Rattle.tag_decl.specs.Declare.{declared};
+ghost use Rattle.jstl_tags.specs.Check.{lacks};
 ghost use Rattle.jstl_tags.specs.Content.{attribute_names, given_names};
 ghost use Rattle.jstl_tags.specs.Elements.{opened_of};
 ghost use Rattle.jstl_tags.specs.Given.{names_made};
@@ -17,8 +18,8 @@ use jstl_tags::{Body, Given, Standing, is_bodiless, split_faults};
 use page_directives::Faults;
 use page_pieces::{Attribute, Attributes, plain_text};
 use page_reader::Element;
-use pg_text::TranslationFault;
-use tag_decl::{AttrDecl, BodyKind, TagDecl, declared};
+use pg_text::{Text, TranslationFault};
+use tag_decl::{AttrDecl, AttrDecls, BodyKind, TagDecl, declared};
 
 // The faults of a name that is given.
 fn name_faults(dynamic: bool, is_written: bool, decl: Option<&AttrDecl>) -> Faults
@@ -103,12 +104,21 @@ fn names_faults(decl: &TagDecl, given: Given) -> Faults
     written_faults(decl, written, written.as_slice()).and(parts)
 }
 
-// Whether a declared attribute is required and not given.
-fn lacks_required(decls: &[AttrDecl], given: Given) -> bool
+// Whether a declared attribute is required and not given. Only the required ones are asked, up to
+// the first that isn't given, so a call costs no more than what it gives.
+#[tactic(auto, using(crate::proofs::CallLemmas::lacks_named))]
+fn lacks_required(decls: &AttrDecls, given: Given) -> bool
     ensures { result ≡ lacks_required decls.now (names_made given.entry) }
 {
-    for decl in decls {
-        if decl.required && !given.contains(decl.name.as_str()) {
+    lacks(decls.required(), given)
+}
+
+// Whether one of these names isn't given.
+fn lacks(names: &[Text], given: Given) -> bool
+    ensures { result ≡ lacks names.now (names_made given.entry) }
+{
+    for name in names {
+        if !given.contains(name.as_str()) {
             return true;
         }
     }
@@ -128,7 +138,7 @@ fn declared_faults(decl: &TagDecl, head: &Element, body: Body) -> Faults
         (given_names (opened_of head.now).tag tree)) }
 {
     let given = Given::of(head, body);
-    let lacks = is_whole(head.closing) && lacks_required(decl.attributes.as_slice(), given);
+    let lacks = is_whole(head.closing) && lacks_required(&decl.attributes, given);
     let bad_body = is_empty_kind(decl.body) && !is_bodiless(head, body);
     names_faults(decl, given).and(Faults::one_if(lacks, TranslationFault::BadAttribute).and(
         Faults::one_if(bad_body, TranslationFault::BadBody),
