@@ -1,3 +1,4 @@
+mod AddressLemmas
 mod CookieLemmas
 mod NameListLemmas
 mod PropertyLemmas

@@ -1,9 +1,10 @@
-ghost use Rattle.std.specs.Prelude.{◌≡◌, ◌++◌, codes, map, string_bytes, IfOk};
+ghost use Rattle.std.specs.Prelude.{◌≡◌, ◌++◌, codes, if◌then◌else◌, map, string_bytes, IfOk};
 ghost use Rattle.std.specs.declared.option.Option.TheVariants.{Some};
 ghost use Rattle.std.specs.List.{list_any};
+ghost use Rattle.el_coercion.specs.Text.{made};
 ghost use Rattle.form_urlencoded.specs.Form.{byte_serialize};
 ghost use Rattle.http_in.specs.Target.{is_mark};
-ghost use Rattle.page_meaning.specs.Addresses.{param_mark, url_with, with_param};
+ghost use Rattle.page_meaning.specs.Addresses.{url_with, with_param};
 ghost use Rattle.page_meaning.specs.Attributes.{text_in};
 ghost use Rattle.page_table.specs.Operations.{params_in};
 ghost use Rattle.pg_text.specs.Failure.{Answers};
@@ -39,20 +40,44 @@ pub fn url(alloc: Global, address: &Value, params: &[Value]) -> Result<Text, Fai
 {
     let pairs = params_in(alloc, params)?;
     let mut url = Text::copy_of(alloc, text_of(address))?;
+    let mut marked = has_mark(url.as_bytes());
     for param in pairs.as_slice() {
-        url = with_param(alloc, url, param)?;
+        url = with_param(alloc, url, &mut marked, param)?;
     }
     Ok(url)
 }
 
-// An address with one param behind it, where it has a name: X20.
-fn with_param(alloc: Global, url: Text, param: &Param) -> Result<Text, Failure<RunFault>>
-    ensures { Answers (with_param url param.now) result }
+// An address with one param behind it, where it has a name: X20. It is told whether the address has
+// a `?`, and tells it of the one that it makes.
+#[tactic(auto, using(crate::proofs::AddressLemmas::stays_marked))]
+fn with_param(
+    alloc: Global,
+    url: Text,
+    marked: &mut bool,
+    param: &Param,
+) -> Result<Text, Failure<RunFault>>
+    requires { marked.old ≡ list_any is_mark url }
+    ensures answer { Answers (with_param url param.now) result }
+    ensures marked { IfOk result (λ made. marked.new ≡ list_any is_mark made) }
 {
     if param.name.is_empty() {
         return Ok(url);
     }
-    let mark = param_mark(&url);
+    let mark = param_mark(*marked);
+    *marked = true;
+    joined_param(alloc, url, mark, param)
+}
+
+// An address, a mark and a param, in one: X20.
+fn joined_param(
+    alloc: Global,
+    url: Text,
+    mark: &str,
+    param: &Param,
+) -> Result<Text, Failure<RunFault>>
+    ensures { Answers (made (url ++ mark.now ++ byte_serialize param.now.name ++ codes "="
+        ++ byte_serialize param.now.value)) result }
+{
     let pair = encoded(alloc, param)?;
     let mut made = url.into_string()?;
     made.push_str(mark)?;
@@ -60,11 +85,11 @@ fn with_param(alloc: Global, url: Text, param: &Param) -> Result<Text, Failure<R
     made_text(made)
 }
 
-// What joins a param to an address.
-fn param_mark(url: &Text) -> &'static str
-    ensures { result.now ≡ param_mark url.now }
+// What joins a param to an address that has a `?`, or that has none.
+fn param_mark(marked: bool) -> &'static str
+    ensures { result.now ≡ if marked then codes "&" else codes "?" }
 {
-    if has_mark(url.as_bytes()) { "&" } else { "?" }
+    if marked { "&" } else { "?" }
 }
 
 fn has_mark(url: &[u8]) -> bool
