@@ -10,7 +10,6 @@ use Rattle.program_store.proofs.StoreCross.{store_send}
 use Rattle.site_words.specs.declared.compiled.Compiled.{Ghosts}
 use Rattle.site_words.proofs.WordsCross.{attrs_send}
 use Rattle.site_state.specs.contracts.held.Held as Held
-use Rattle.site_state.proofs.known_ids.KnownIds.TheSendSync as known_ids
 use Rattle.site_state.proofs.request.Request.TheSendSync as request
 use Rattle.site_state.proofs.session_list.SessionList.TheSendSync as sessions
 
@@ -27,7 +26,7 @@ held_send P g p y = struct_send (S.shape (Held.the_type P g)) (
         (
           search (sessions.the_send, crosses, sendable) depth 30,
           (
-            search (known_ids.the_send, crosses, sendable) depth 30,
+            search (crosses, sendable) depth 30,
             (
               search (request.the_send, option.the_send, crosses, sendable) depth 30,
               (
