@@ -35,9 +35,12 @@ def limit_threads(count):
 
 class Server:
     """The program while it serves: `with Server(program, workers=16) as server`. What else is given
-    are words of its command, or limits: how many files it may have open, and how many threads."""
+    are words of its command, or limits: how many files it may have open, how many threads, and how
+    many KiB of stack each thread."""
 
-    def __init__(self, program, workers=16, shows_drafts=False, contexts=None, idle=None, files=None, threads=None):
+    def __init__(
+        self, program, workers=16, shows_drafts=False, contexts=None, idle=None, files=None, threads=None, stack=None
+    ):
         self.program = program
         self.workers = workers
         self.port, self.editor_port = free_ports(2)
@@ -46,6 +49,7 @@ class Server:
         self.idle = idle
         self.files = files
         self.threads = threads
+        self.stack = stack
 
     def __enter__(self):
         self.start()
@@ -78,6 +82,8 @@ class Server:
             ctypes.CDLL(None).prctl(DIES_WITH_ITS_PARENT, signal.SIGKILL)
             if self.files:
                 resource.setrlimit(resource.RLIMIT_NOFILE, (self.files, self.files))
+            if self.stack:
+                resource.setrlimit(resource.RLIMIT_STACK, (self.stack << 10, self.stack << 10))
 
         begun = time.perf_counter()
         self.process = subprocess.Popen(
