@@ -1,11 +1,16 @@
 -- The property of a record by what stands under its name.
-use Rattle.std.proofs.Common.{◌≡◌, ℕ, List, Some, None, Ok, Err, refl, sym, ap, ◌∙◌}
+use Rattle.std.proofs.Common.{◌≡◌, subst, ℕ, ◌+◌, List, [], ◌∷◌, ◌++◌, take, drop, Some, None, Result, Ok, Err, refl, sym, ap, ◌∙◌}
+use Rattle.std.specs.Prelude.{IsErrAnd}
+use Rattle.std.proofs.lemmas.List.{take-append-drop, drop-drop}
 use Rattle.el_ops.specs.Operands.{answered}
 use Rattle.jstl_functions.specs.Functions.{and_then, measured}
 use Rattle.run_values.specs.Properties.{Found, changed_all, changed_one, one_changed, property_found}
 use Rattle.page_meaning.specs.Attributes.{coerced}
-use Rattle.page_meaning.specs.Beans.{all_by_parameters, filled, like, property_of}
+use Rattle.page_meaning.specs.Beans.{all_by_parameters, by_parameter, filled, like, property_of}
 use Rattle.page_meaning.specs.Core.{property_replaced, with_property}
+use Rattle.pg_text.specs.Failure.{AnswersAs}
+use Rattle.pg_text.specs.declared.failure.Failure.{Failure}
+use Rattle.pg_text.specs.declared.failure.Failure.TheVariants as failure
 use Rattle.pg_value.proofs.Inverses.{entry_list-entries_of}
 use Rattle.pg_value.specs.Attrs.{entry_at, with_entry}
 use Rattle.pg_value.specs.Datum.{Datum, Entries, rec, entry_list, entries_of}
@@ -13,6 +18,7 @@ use Rattle.pg_value.specs.Value.{datum_of}
 use Rattle.pg_value.specs.declared.scope.Scope.{Scope}
 use Rattle.pg_value.specs.declared.value.Value.{Value}
 use Rattle.pg_value.specs.declared.value.Value.TheVariants as variant
+use Rattle.pg_value.specs.declared.fault.RunFault.{RunFault}
 use Rattle.pg_value.specs.declared.fault.RunFault.TheVariants as fault
 
 there : (name : List ℕ) (es : Entries) (d : Datum) → entry_at name (entry_list es) ≡ Some d → property_of name (rec es) ≡ Ok d
@@ -55,3 +61,42 @@ module _ (v : Value) (es : List (List ℕ × Datum)) (is : v ≡ variant.Rec es)
 
   pub property_replaced_is : (name : List ℕ) (d : Datum) → property_replaced name d (datum_of v) ≡ measured (rec (entries_of (with_property name d es)))
   property_replaced_is name d = ap (λ x. property_replaced name d (datum_of x)) is ∙ ap (λ x. measured (rec (entries_of (with_property name d x)))) (entry_list-entries_of es)
+
+-- properties set in two parts
+pub by_parts : (params xs ys onto : List (List ℕ × Datum)) → all_by_parameters params (xs ++ ys) onto ≡ and_then (all_by_parameters params xs onto) (λ o. all_by_parameters params ys o)
+by_parts params [] ys onto = refl
+by_parts params (p ∷ xs) ys onto = go (by_parameter params p) (λ d. by_parts params xs ys (with_entry onto p.0 d))
+  where
+    go : (r : Result Datum RunFault)
+        → ((d : Datum) → all_by_parameters params (xs ++ ys) (with_entry onto p.0 d) ≡ and_then (all_by_parameters params xs (with_entry onto p.0 d)) (λ o. all_by_parameters params ys o))
+        → and_then r (λ d. all_by_parameters params (xs ++ ys) (with_entry onto p.0 d)) ≡ and_then (and_then r (λ d. all_by_parameters params xs (with_entry onto p.0 d))) (λ o. all_by_parameters params ys o)
+    go (Ok d) rest = rest d
+    go (Err f) rest = refl
+
+module _ (params es onto next : List (List ℕ × Datum)) (done k : ℕ) (is : next ≡ take k (drop done es)) where
+  parted : all_by_parameters params (drop done es) onto ≡ and_then (all_by_parameters params next onto) (λ o. all_by_parameters params (drop k (drop done es)) o)
+  parted =
+      ap (λ xs. all_by_parameters params xs onto) (sym (take-append-drop k (drop done es)))
+      ∙ by_parts params (take k (drop done es)) (drop k (drop done es)) onto
+      ∙ ap (λ xs. and_then (all_by_parameters params xs onto) (λ o. all_by_parameters params (drop k (drop done es)) o)) (sym is)
+
+  -- the next of them are set
+  pub next_set : (new : List (List ℕ × Datum)) → all_by_parameters params next onto ≡ Ok new → all_by_parameters params (drop (done + k) es) new ≡ all_by_parameters params (drop done es) onto
+  next_set new set =
+      ap (λ xs. all_by_parameters params xs new) (sym (drop-drop k done es))
+      ∙ sym (ap (λ r. and_then r (λ o. all_by_parameters params (drop k (drop done es)) o)) set)
+      ∙ sym parted
+
+  -- or have a fault
+  pub next_fails : (f : RunFault) → all_by_parameters params next onto ≡ Err f → all_by_parameters params (drop done es) onto ≡ Err f
+  next_fails f set = parted ∙ ap (λ r. and_then r (λ o. all_by_parameters params (drop k (drop done es)) o)) set
+
+  pub next_failed : (e : Failure RunFault) → AnswersAs (λ (x : List (List ℕ × Datum)). x) (all_by_parameters params next onto) (Err e) → AnswersAs (λ (x : List (List ℕ × Datum)). x) (all_by_parameters params (drop done es) onto) (Err e)
+  next_failed (failure.Fault f) answers = next_fails f answers
+  next_failed failure.NoMemory answers = tt
+
+-- what a `?` hands on
+pub handed_on : (expected : Result (List (List ℕ × Datum)) RunFault) (e : Failure RunFault) (result : Result (List (List ℕ × Datum)) (Failure RunFault)) → IsErrAnd result (λ f. f ≡ e)
+    → AnswersAs (λ (x : List (List ℕ × Datum)). x) expected (Err e) → AnswersAs (λ (x : List (List ℕ × Datum)). x) expected result
+handed_on expected e (Ok x) is answers = absurd is
+handed_on expected e (Err f) is answers = subst (λ f. AnswersAs (λ (x : List (List ℕ × Datum)). x) expected (Err f)) (sym is) answers

@@ -88,7 +88,7 @@ fn filled(value: Option<&Value>) -> Option<&Value>
 
 // The entries, with each of these properties as the parameter of its name makes it: X1, X2, X4,
 // X20.
-fn all_by_parameters(
+fn these_by_parameters(
     alloc: Global,
     params: &Attrs,
     properties: &[(Text, Value)],
@@ -100,6 +100,25 @@ fn all_by_parameters(
     for (name, old) in properties {
         let value = by_parameter(alloc, params, name, old)?;
         onto.insert(name.copy()?, value)?;
+    }
+    Ok(onto)
+}
+
+// The one copy of a record's entries, with each property as the parameter of its name makes it: X1,
+// X2, X4, X20.
+fn all_by_parameters(
+    alloc: Global,
+    params: &Attrs,
+    record: &Record,
+) -> Result<Attrs, Failure<RunFault>>
+    ensures { Answers (all_by_parameters params.now record.now record.now) result }
+{
+    let mut onto = record.copy()?.into_attrs()?;
+    let mut done = 0;
+    while done < record.len() {
+        let next = record.entries_from(done);
+        onto = these_by_parameters(alloc, params, next, onto)?;
+        done += next.len();
     }
     Ok(onto)
 }
@@ -140,9 +159,7 @@ pub fn changed_all(alloc: Global, params: &Attrs, value: &Value) -> Result<Attrs
     let Value::Rec(record) = value else {
         return Err(Failure::Fault(RunFault::NotARecord));
     };
-    let properties = record.copy()?.into_attrs()?;
-    let entries = properties.copy()?;
-    all_by_parameters(alloc, params, properties.as_slice(), entries)
+    all_by_parameters(alloc, params, record)
 }
 
 /// The entries of a record, with a property set by a parameter, or None where that is empty or
