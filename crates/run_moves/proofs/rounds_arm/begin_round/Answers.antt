@@ -1,4 +1,4 @@
-use Rattle.std.proofs.Common.{Err, Ok, Some, subst, sym}
+use Rattle.std.proofs.Common.{Err, Ok, subst, sym}
 use Rattle.run_moves.proofs.RoundArms.{Naming, round_failed, round_short, round_unnamed, round_unstated, round_unvisited, round_well}
 use Rattle.run_world.proofs.Exits.{err_as}
 use Rattle.run_moves.proofs.rounds_arm.begin_round.Goals as goal

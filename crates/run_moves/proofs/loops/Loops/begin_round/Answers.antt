@@ -1,8 +1,7 @@
-use Rattle.std.proofs.Common.{◌≡◌, ◌∙◌, ◌-◌, ap, arith, refl, subst, suc, length}
+use Rattle.std.proofs.Common.{◌∙◌, ◌-◌, ap, arith, refl, subst}
 use Rattle.std.proofs.lemmas.Bool.{false≢true}
 use Rattle.page_meaning.specs.Loops.{round_begun}
 use Rattle.page_table.specs.Open.{Loop}
-use Rattle.run_moves.specs.Loops.{loop_of}
 use Rattle.run_moves.proofs.Advancing.{last_kept, last_seen, none_open}
 use Rattle.run_moves.proofs.loops.Loops.begin_round.Goals as goal
 use Rattle.run_world.specs.Part.{Doing}
