@@ -1,10 +1,9 @@
 -- Calls and includes: a run of its own is joined with what is done behind its end.
-use Rattle.std.proofs.Common.{◌≡◌, ◌≤◌, ◌<◌, ◌+◌, ℕ, zero, suc, List, [], ◌∷◌, ◌++◌, length, Ok, Err, refl, sym, ap, ◌∙◌, subst, arith}
+use Rattle.std.proofs.Common.{◌≡◌, ◌+◌, ℕ, List, ◌++◌, length, Ok, Err, refl, sym, ap, ◌∙◌}
 use Rattle.std.specs.Prelude.{take}
 use Rattle.http_in.specs.declared.params.Param.{Param}
 use Rattle.out_buffer.specs.Writer.{with_bodies}
-use Rattle.run_moves.specs.Acted.{MoveGrows, Acted}
-use Rattle.run_world.specs.Known.{ServesSo, Known}
+use Rattle.run_moves.specs.Acted.{Acted}
 use Rattle.run_world.specs.Origin.{Origin}
 use Rattle.run_world.specs.Part.{given, Doing, Changes}
 use Rattle.run_moves.specs.Landing.{failing}

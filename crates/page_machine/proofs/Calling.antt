@@ -1,5 +1,5 @@
 -- A move that goes into a run of its own, with that run and what follows its end, is a turn.
-use Rattle.std.proofs.Common.{◌≡◌, ℕ, List, [], ◌∷◌, ◌++◌, refl, sym, ap, ◌∙◌, subst, append_assoc}
+use Rattle.std.proofs.Common.{◌≡◌, ℕ, List, ◌++◌, refl, sym, ap, ◌∙◌, subst, append_assoc}
 use Rattle.http_in.specs.declared.params.Param.{Param}
 use Rattle.run_moves.specs.Acted.{MoveGrows, LedSo, Moves}
 use Rattle.run_world.specs.Part.{given}

@@ -1,5 +1,5 @@
 -- A call that is entered: its run, and what is done behind its end.
-use Rattle.std.proofs.Common.{◌≡◌, ◌+◌, ◌<◌, ◌≤◌, ℕ, suc, Bool, List, [], ◌∷◌, length, Ok, Err, refl, ap, ◌∙◌, arith}
+use Rattle.std.proofs.Common.{◌≡◌, ◌+◌, ◌<◌, ◌≤◌, ℕ, suc, Bool, List, length, Ok, Err, refl, ap, ◌∙◌, arith}
 use Rattle.out_buffer.specs.Writer.{has_committed}
 use Rattle.page_code.specs.Calls.{call_size}
 use Rattle.page_code.specs.declared.call.Fragment.{Fragment}

@@ -1,5 +1,5 @@
 -- A body or a fragment that is a code: its run in the caller's frame, and what is done behind its end.
-use Rattle.std.proofs.Common.{◌≡◌, ◌≤◌, ℕ, suc, Bool, List, Option, length, Ok, refl, sym, ap, ◌∙◌, arith}
+use Rattle.std.proofs.Common.{◌≡◌, ◌≤◌, ℕ, suc, Bool, List, Option, length, Ok, refl, ap, ◌∙◌, arith}
 use Rattle.out_buffer.specs.Writer.{has_committed}
 use Rattle.page_machine.proofs.CallExits.{EndIs, back_on, back_thrown, given_grows, gone_back, normal_is, raised_is, ran_behind, ran_over}
 use Rattle.page_machine.proofs.GivenCalls.{given_back_to, given_behind, given_enters, given_move}

@@ -1,5 +1,5 @@
 -- An included page: its run in a frame of its own, and what is done behind its end.
-use Rattle.std.proofs.Common.{◌≡◌, ◌<◌, ◌≤◌, ℕ, Bool, List, [], length, refl, ap, ◌∙◌, subst, arith}
+use Rattle.std.proofs.Common.{◌≡◌, ◌≤◌, ℕ, Bool, List, [], length, refl, ap, ◌∙◌, arith}
 use Rattle.http_in.specs.declared.params.Param.{Param}
 use Rattle.out_buffer.specs.Writer.{has_committed, with_bodies}
 use Rattle.page_machine.proofs.CallExits.{EndIs, back_on, back_redirected, back_thrown, gone_back, included_grows, normal_is, raised_is, ran_behind, ran_over, redirect_is}

@@ -1,6 +1,5 @@
 -- Behind a run of its own as many frames stand as before it.
-use Rattle.std.proofs.Common.{◌≡◌, ◌≤◌, ℕ, Bool, List, [], ◌∷◌, ◌++◌, length, length-append, refl, sym, ap, ◌∙◌, subst, arith}
-use Rattle.std.specs.Prelude.{⊤}
+use Rattle.std.proofs.Common.{◌≡◌, ◌≤◌, ℕ, Bool, List, [], ◌∷◌, ◌++◌, length, length-append, sym, ap, subst, arith}
 use Rattle.http_in.specs.declared.params.Param.{Param}
 use Rattle.out_buffer.specs.Writer.{has_committed}
 use Rattle.run_world.specs.Known.{ServesSo, Known}

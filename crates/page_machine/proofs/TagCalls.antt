@@ -1,5 +1,5 @@
 -- The exits of a call of a tag file.
-use Rattle.std.proofs.Common.{◌≡◌, ◌≤◌, ◌+◌, ℕ, zero, suc, List, [], ◌∷◌, ◌++◌, length, Option, Some, None, Result, Ok, Err, refl, sym, ap, ◌∙◌, subst}
+use Rattle.std.proofs.Common.{◌≡◌, ◌≤◌, ◌+◌, ℕ, suc, List, length, Option, Some, None, Ok, Err, sym, ap, ◌∙◌}
 use Rattle.std.specs.Prelude.{take, drop, reverse}
 use Rattle.page_code.specs.Calls.{call_size}
 use Rattle.page_code.specs.Fits.{CodeFits}
@@ -10,7 +10,7 @@ use Rattle.page_code.specs.declared.call.CallOut.TheVariants as call
 use Rattle.page_code.specs.declared.call.TagCall.{TagCall}
 use Rattle.run_moves.specs.Acted.{MoveGrows, Acted}
 use Rattle.run_world.specs.Origin.{Origin}
-use Rattle.run_world.specs.Part.{given, Doing, Changes}
+use Rattle.run_world.specs.Part.{given, Changes}
 use Rattle.run_moves.specs.Landing.{failing}
 use Rattle.page_machine.specs.Turn.{CodeRuns}
 use Rattle.run_moves.specs.declared.flow.End.TheVariants as ends
@@ -24,10 +24,9 @@ use Rattle.run_world.proofs.Parts.{result_doing}
 use Rattle.page_meaning.specs.Attributes.{table_of}
 use Rattle.page_meaning.specs.Context.{Export}
 use Rattle.page_meaning.specs.Exports.{exports_of}
-use Rattle.page_meaning.specs.Growth.{Grows}
 use Rattle.page_meaning.specs.State.{State, in_scopes}
 use Rattle.page_meaning.specs.Tags.{first_frame}
-use Rattle.page_meaning.specs.Went.{Did, Well, result_of}
+use Rattle.page_meaning.specs.Went.{Did, result_of}
 use Rattle.page_table.specs.Act.{called_out, with_stack}
 use Rattle.page_table.specs.Checked.{SeatFits, TagsFit}
 use Rattle.page_table.specs.Calls.{call_back, call_entered, call_of, tag_called}

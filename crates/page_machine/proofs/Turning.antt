@@ -1,5 +1,5 @@
 -- From a move to a turn, and from turns to a run.
-use Rattle.std.proofs.Common.{◌≡◌, ℕ, List, [], ◌∷◌, ◌++◌, Result, Ok, Err, refl, sym, ap, ◌∙◌, subst, append_assoc, append-nil}
+use Rattle.std.proofs.Common.{◌≡◌, ℕ, List, ◌++◌, Ok, Err, refl, sym, ap, ◌∙◌, subst, append_assoc}
 use Rattle.run_moves.specs.Acted.{MoveGrows, LedSo, Moves}
 use Rattle.run_world.specs.Part.{given, Does}
 use Rattle.page_machine.specs.Turn.{MoveLeads, MoveEnds, EndsSo, TurnsSo, Turns, RunFrom, CodeRuns}
@@ -20,7 +20,6 @@ use Rattle.page_table.specs.Runs.{Runs, over, on, into, Turned, moved, called, c
 use Rattle.page_table.specs.Seat.{Seat}
 use Rattle.page_table.proofs.Growing.{run_grows}
 use Rattle.page_table.proofs.OneEnd.{Goes, opened_run, one_end}
-use Rattle.pg_text.specs.declared.failure.Failure.{Failure}
 use Rattle.pg_text.specs.declared.failure.Failure.TheVariants as failure
 use Rattle.pg_text.specs.declared.place.Place.{Place}
 use Rattle.pg_value.specs.declared.fault.RunFault.{RunFault}

@@ -1,5 +1,5 @@
-use Rattle.std.proofs.Common.{◌≡◌, Ok, subst, sym}
-use Rattle.std.specs.Prelude.{OnErr, OnOk}
+use Rattle.std.proofs.Common.{subst, sym}
+use Rattle.std.specs.Prelude.{OnOk}
 use Rattle.page_machine.proofs.pages.flush_if.Goals as goal
 use Rattle.page_meaning.specs.Meaning.{flush_if}
 use Rattle.run_world.specs.Part.{Changes}

@@ -2,8 +2,6 @@ use Rattle.std.proofs.Common.{◌≡◌, ◌∙◌, sym, Bool, true, false, Opti
 use Rattle.std.specs.Prelude.{◌&&◌, IsNone, is_none, not}
 use Rattle.page_machine.proofs.PageCalls.{begun_no, begun_yes, starts_is}
 use Rattle.page_machine.proofs.pages.make_session.Goals as goal
-use Rattle.page_meaning.specs.State.{State}
-use Rattle.page_meaning.specs.Includes.{session_started}
 use Rattle.page_meaning.specs.Went.{Did, Well}
 use Rattle.run_world.proofs.Parts.{as_doing, well_doing}
 use Rattle.run_world.specs.Part.{given}

@@ -1,5 +1,5 @@
 use Rattle.std.proofs.Common.{ap, refl, subst, sym, ◌∙◌}
-use Rattle.page_machine.proofs.Lending.{aside, charged_back, depth_so, given_back, in_order_aside, in_order_back, lent, origin_at, page_ran, response_back, stands_aside, stands_at, stands_back, state_at, stood_at}
+use Rattle.page_machine.proofs.Lending.{charged_back, depth_so, given_back, in_order_aside, in_order_back, lent, origin_at, page_ran, response_back, stands_aside, stands_at, stands_back, state_at, stood_at}
 use Rattle.page_machine.proofs.running.run.Goals as goal
 use Rattle.page_machine.specs.Run.{depth_behind}
 use Rattle.run_stage.specs.Keeping.{KeepsSession}
