@@ -1,5 +1,5 @@
 -- The exits of a body or a fragment that a call gives.
-use Rattle.std.proofs.Common.{◌≡◌, ℕ, suc, List, [], ◌∷◌, ◌++◌, length, Option, Some, None, Ok, Err, refl, sym, ap, ◌∙◌, subst}
+use Rattle.std.proofs.Common.{◌≡◌, ℕ, suc, List, Option, Some, None, Ok, Err, refl, sym, ap, ◌∙◌, subst}
 use Rattle.std.specs.Prelude.{take, set}
 use Rattle.std.proofs.Math.Seq.{take-length}
 use Rattle.std.proofs.lemmas.List.{length-set}
@@ -8,7 +8,7 @@ use Rattle.page_code.specs.Fits.{Carries}
 use Rattle.page_code.specs.Shapes.{empty_shape}
 use Rattle.run_moves.specs.Acted.{MoveGrows, Acted}
 use Rattle.run_world.specs.Origin.{Origin}
-use Rattle.run_world.specs.Part.{given, Doing, Changes}
+use Rattle.run_world.specs.Part.{given, Doing}
 use Rattle.run_parts.specs.Given.{given_by}
 use Rattle.run_moves.specs.Landing.{failing}
 use Rattle.page_machine.specs.Turn.{CodeRuns, Stepped}
@@ -16,14 +16,13 @@ use Rattle.run_moves.specs.declared.flow.End.TheVariants as ends
 use Rattle.run_moves.specs.declared.flow.Flow.{Flow}
 use Rattle.run_moves.specs.declared.flow.Flow.TheVariants as flows
 use Rattle.run_moves.proofs.Acts.{acted_as, acted_behind, acted_fault, acted_on, acted_part_short, move_behind}
-use Rattle.page_meaning.proofs.Growing.{both, quiet, same}
-use Rattle.run_world.proofs.Adds.{put_text_adds, then_at}
+use Rattle.page_meaning.proofs.Growing.{quiet, same}
 use Rattle.run_moves.proofs.Behind.{fell_at, well_at}
 use Rattle.page_machine.proofs.CallExits.{stepped_behind}
-use Rattle.page_machine.proofs.Calling.{Enters, enters_as, into_enters}
+use Rattle.page_machine.proofs.Calling.{Enters, into_enters}
 use Rattle.page_machine.proofs.TagCalls.{deeper_none, deeper_some, goes_grows}
 use Rattle.page_meaning.specs.Bodies.{put_text}
-use Rattle.page_meaning.specs.Exports.{copied, copied_out, is_at_fragment}
+use Rattle.page_meaning.specs.Exports.{copied, is_at_fragment}
 use Rattle.page_meaning.specs.Growth.{state_of, Grows}
 use Rattle.page_meaning.specs.State.{State, in_scopes, in_writer}
 use Rattle.page_meaning.specs.Variables.{back_to, entries_of_frame}
@@ -31,10 +30,9 @@ use Rattle.page_meaning.specs.Went.{Did, Well, Raised, tidied, then_do, result_o
 use Rattle.page_table.specs.Calls.{copied_to_caller, in_callers_frame, given_called, given_entered}
 use Rattle.page_table.specs.Checked.{CallFits}
 use Rattle.page_table.specs.Landing.{Config, Running, Over, thrown, then_at as then_land, land}
-use Rattle.page_table.specs.Move.{Move, On, Into, Stuck}
+use Rattle.page_table.specs.Move.{Move, On, Into}
 use Rattle.page_table.specs.Open.{Open, fresh_open}
 use Rattle.page_table.specs.Program.{Program, Serving}
-use Rattle.page_table.specs.Runs.{config_state}
 use Rattle.page_table.specs.Seat.{CallSeat, Seat, in_page, in_tag, Given, nothing, source_text, code_at, code_of}
 use Rattle.page_table.proofs.GivenFits.{GivenFits, body_fits, fragment_fits}
 use Rattle.page_table.proofs.Growing.{given_goes}
@@ -44,7 +42,7 @@ use Rattle.pg_text.specs.declared.place.Place.{Place}
 use Rattle.pg_value.specs.declared.fault.RunFault.{RunFault}
 use Rattle.pg_value.specs.declared.fault.RunFault.TheVariants as fault
 use Rattle.http_in.specs.declared.params.Param.{Param}
-use Rattle.scopes.specs.Scopes.{Entries, ScopeState}
+use Rattle.scopes.specs.Scopes.{ScopeState}
 use Rattle.site_words.specs.Law.{Answer}
 
 -- a change of the state that neither asks nor commits, as a part that fails only where memory ran
@@ -180,10 +178,14 @@ module _ (place : Place) (to : ℕ) (o : Open) (name : Option (List ℕ)) (seat 
           (λ s u w. source_is t left s e level ∙ ap (λ d. On (then_land o d (λ v x. land to (λ y. o.stack) o (put_text place t x)))) w) copies
           (fell_at place o (λ v x. Running to x o) mid between new failed o2 flow (λ v x. same x) puts acted short)
 
+-- what the call around a seat gives, by its own seat
+pub gives_so : (name : Option (List ℕ)) (seat : Seat) (c : CallSeat) (caller : Seat) (g : Given) → seat ≡ in_tag c caller → g ≡ given_by name (in_tag c caller) → given_by name seat ≡ g
+gives_so name seat c caller g is e = ap (given_by name) is ∙ sym e
+
 -- what is given begins with the empty shape in the code of the caller
-pub begins_given : (name : Option (List ℕ)) (c : CallSeat) (caller : Seat) (at : ℕ) → CallFits c caller → given_by name (in_tag c caller) ≡ code_at at → Carries (code_of caller) at empty_shape
-begins_given None c caller at h e = subst (GivenFits (code_of caller)) e (body_fits (code_of caller) c.body c.behind h.0)
-begins_given (Some name) c caller at h e = subst (GivenFits (code_of caller)) e (fragment_fits (code_of caller) name c.body c.fragments c.behind h.1)
+pub begins_given : (name : Option (List ℕ)) (c : CallSeat) (caller : Seat) (at : ℕ) → CallFits c caller → code_at at ≡ given_by name (in_tag c caller) → Carries (code_of caller) at empty_shape
+begins_given None c caller at h e = subst (GivenFits (code_of caller)) (sym e) (body_fits (code_of caller) c.body c.behind h.0)
+begins_given (Some name) c caller at h e = subst (GivenFits (code_of caller)) (sym e) (fragment_fits (code_of caller) name c.body c.fragments c.behind h.1)
 
 -- the run of a code that is given, behind what is copied
 pub given_behind : {W : Type 0} {reached : W → Origin → W → State → Type 0} {replies : W → List Answer} {serves : W → Serving → Type 0} (place : Place) (to : ℕ) (o : Open) (name : Option (List ℕ)) (seat : Seat) (c : CallSeat)

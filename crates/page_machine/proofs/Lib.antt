@@ -7,6 +7,7 @@ pub mod GivenRuns
 pub mod IncludedRuns
 pub mod Lending
 pub mod Looping
+pub mod OwnParams
 pub mod PageCalls
 pub mod Room
 pub mod TagCalls

@@ -1,5 +1,5 @@
 -- The exits of includes and imports, and of the run of a page.
-use Rattle.std.proofs.Common.{◌≡◌, ◌≤◌, ◌-◌, ℕ, zero, suc, Bool, true, false, List, [], ◌∷◌, ◌++◌, length, length-drop, Result, Ok, Err, Some, refl, sym, ap, ◌∙◌, subst, append_assoc, codes, get_or, inl, inr, arith}
+use Rattle.std.proofs.Common.{◌≡◌, ◌≤◌, ◌-◌, ℕ, suc, Bool, true, false, List, [], ◌∷◌, ◌++◌, length, length-drop, Result, Ok, Err, Some, refl, sym, ap, ◌∙◌, subst, append_assoc, codes, get_or, inl, inr, arith}
 use Rattle.std.specs.Prelude.{◌⊎◌, IsErrAnd, take, drop, reverse, ◌&&◌, is_none, map, not}
 use Rattle.std.proofs.lemmas.List.{take_all}
 use Rattle.http_in.specs.declared.params.Param.{Param}
@@ -9,25 +9,24 @@ use Rattle.page_code.specs.Ops.{address_with}
 use Rattle.page_code.specs.declared.call.CallOut.TheVariants as call
 use Rattle.run_moves.specs.Acted.{MoveGrows, Acted}
 use Rattle.run_world.specs.Origin.{Origin}
-use Rattle.run_world.specs.Part.{given, WentSo, Does, Doing, Changes}
+use Rattle.run_world.specs.Part.{given, Doing, Changes}
 use Rattle.run_moves.specs.Landing.{failing}
 use Rattle.run_moves.specs.Leaving.{path_named}
 use Rattle.page_machine.specs.Pages.{IsNoPath, ImportSo, TargetSo, include_found, included_run}
-use Rattle.page_machine.specs.Turn.{EndsSo, RunFrom, CodeRuns, Ran, Stepped}
+use Rattle.page_machine.specs.Turn.{EndsSo, CodeRuns, Ran, Stepped}
 use Rattle.run_moves.specs.declared.flow.End.{End}
 use Rattle.run_moves.specs.declared.flow.End.TheVariants as ends
 use Rattle.run_moves.specs.declared.flow.Flow.{Flow}
 use Rattle.run_moves.specs.declared.flow.Flow.TheVariants as flows
-use Rattle.page_machine.specs.declared.pages.Target as machine_target
-use Rattle.run_moves.proofs.Acts.{acted_as, acted_short, acted_on, then_at_grows}
+use Rattle.page_machine.specs.declared.targets.Target as machine_target
+use Rattle.run_moves.proofs.Acts.{acted_as, acted_short, then_at_grows}
 use Rattle.page_meaning.proofs.Growing.{both, quiet, same}
 use Rattle.run_world.proofs.Adds.{put_text_adds}
-use Rattle.run_moves.proofs.Behind.{acted_after, acted_spent, fell_at, fell_move, then_move_grows, well_at, well_move}
+use Rattle.run_moves.proofs.Behind.{acted_after, acted_spent, fell_move, well_move}
 use Rattle.page_machine.proofs.CallExits.{acted_stepped, included_grows, stepped_after, stepped_as, stepped_behind}
 use Rattle.page_machine.proofs.Calling.{Enters, page_enters}
 use Rattle.run_moves.proofs.Landings.{popped_all_is}
-use Rattle.run_world.proofs.Parts.{adds_given}
-use Rattle.page_machine.proofs.TagCalls.{called_grows, deeper_none, deeper_some, goes_grows}
+use Rattle.page_machine.proofs.TagCalls.{called_grows, deeper_some, goes_grows}
 use Rattle.page_meaning.specs.Attributes.{text_in}
 use Rattle.page_meaning.specs.Bodies.{put_text}
 use Rattle.page_meaning.specs.Context.{Paged, Run}
@@ -35,19 +34,18 @@ use Rattle.page_meaning.specs.Growth.{state_of, Grows}
 use Rattle.page_meaning.specs.Includes.{ask_page, target_path, target_params, included_end, session_started, starts_session}
 use Rattle.page_meaning.specs.Meaning.{flush_if}
 use Rattle.page_meaning.specs.State.{State, in_scopes}
-use Rattle.page_meaning.specs.Went.{Did, Went, Well, Raised, Ended, Awaits, forwards, redirects, either}
+use Rattle.page_meaning.specs.Went.{Did, Well, Raised, Ended, Awaits, forwards, redirects, either}
 use Rattle.page_table.specs.Act.{called_out, with_stack}
 use Rattle.page_table.specs.Landing.{Config, Running, Over, thrown, land}
-use Rattle.page_table.specs.Move.{Move, On, Into, Stuck, then_move}
+use Rattle.page_table.specs.Move.{Move, On, then_move}
 use Rattle.page_table.specs.Open.{Open, fresh_open}
 use Rattle.page_table.specs.Operations.{text_at, behind_first, params_in}
 use Rattle.page_table.specs.Pages.{page_begun, page_entered, included, include_path, include_at, include_called, import_called}
-use Rattle.page_table.specs.Program.{Program, Stored, absent, plain, bad, good, paged_of, Serving, page_of, served_of}
-use Rattle.page_table.specs.Runs.{Runs, EndsBehind, PageRuns, config_state}
+use Rattle.page_table.specs.Program.{Program, Stored, absent, plain, bad, good, Serving, page_of, served_of}
+use Rattle.page_table.specs.Runs.{EndsBehind, PageRuns, config_state}
 use Rattle.page_table.specs.Seat.{Seat, in_page, page_run_of}
 use Rattle.page_table.proofs.Growing.{include_goes, run_grows}
 use Rattle.page_table.proofs.Pages.{page_begun_keeps}
-use Rattle.page_table.proofs.Words.{flush_if_calm}
 use Rattle.pg_text.specs.Failure.{Answers}
 use Rattle.pg_text.specs.declared.failure.Failure.{Failure}
 use Rattle.pg_text.specs.declared.failure.Failure.TheVariants as failure
@@ -118,16 +116,16 @@ no_page_at serving place params (Ok path) to s o h = absurd h
 no_page_at serving place params (Err reason) to s o h = refl
 
 include_is : (serving : Serving) (place : Place) (run : Run) (ds : List Datum) (to : ℕ) (s : State) (o : Open) (found : Result machine_target.Target (Failure RunFault)) → TargetSo run ds found
-    → (found ≡ Err failure.NoMemory → ⊥) → include_called serving place run (text_at 0 ds) (params_in (behind_first ds)) to s o ≡ include_found serving place found to s o
+    → (found ≡ Err failure.NoMemory → ⊥) → include_called serving place run (text_at 0 ds) (params_in (behind_first ds)) to s o ≡ include_found run serving place found to s o
 include_is serving place run ds to s o (Ok t) h some =
     ap (λ r. include_at serving place (target_params run (text_at 0 ds) (params_in (behind_first ds))) r to s o) h.0 ∙ ap (λ ps. include_path serving place ps t.path to s o) (sym h.1)
 include_is serving place run ds to s o (Err (failure.Fault f)) h some =
     no_page_at serving place (target_params run (text_at 0 ds) (params_in (behind_first ds))) (target_path run (text_at 0 ds)) to s o h.1 ∙ ap (λ x. On (thrown x place s o)) (sym h.0)
 include_is serving place run ds to s o (Err failure.NoMemory) h some = absurd (some refl)
 
-pub include_failed_is : (serving : Serving) (place : Place) (failed : Failure RunFault) (to : ℕ) (s : State) (o : Open) → include_found serving place (Err failed) to s o ≡ failing place o failed s
-include_failed_is serving place (failure.Fault f) to s o = refl
-include_failed_is serving place failure.NoMemory to s o = refl
+pub include_failed_is : (run : Run) (serving : Serving) (place : Place) (failed : Failure RunFault) (to : ℕ) (s : State) (o : Open) → include_found run serving place (Err failed) to s o ≡ failing place o failed s
+include_failed_is run serving place (failure.Fault f) to s o = refl
+include_failed_is run serving place failure.NoMemory to s o = refl
 
 -- memory for a target ran out, or not
 is_short : (found : Result machine_target.Target (Failure RunFault)) → (found ≡ Err failure.NoMemory) ⊎ (found ≡ Err failure.NoMemory → ⊥)
@@ -162,7 +160,7 @@ module _ (place : Place) (to : ℕ) (seat : Seat) (o p : Open) (ds : List Datum)
 
       pub include_stepped : (old mid new : W) (found : Result machine_target.Target (Failure RunFault)) (o2 : Open) (flow : Flow) → TargetSo (page_run_of seat) ds found
           → Changes reached (flush_if flush) old mid → replies mid ≡ replies old → ((serving : Serving) → serves old serving → serves mid serving)
-          → Stepped reached replies serves seat (λ serving s. include_found serving place found to s p) mid new o2 flow → (found ≡ Err failure.NoMemory → (flow ≡ flows.Over ends.NoMemory) × (new ≡ mid))
+          → Stepped reached replies serves seat (λ serving s. include_found (page_run_of seat) serving place found to s p) mid new o2 flow → (found ≡ Err failure.NoMemory → (flow ≡ flows.Over ends.NoMemory) × (new ≡ mid))
           → Stepped reached replies serves seat (λ serving s. called_out serving seat place to (call.Include flush params) s o) old new o2 flow
       include_stepped old mid new found o2 flow target changes same onward stepped short = go (is_short found)
         where
@@ -183,7 +181,7 @@ module _ (place : Place) (to : ℕ) (seat : Seat) (o p : Open) (ds : List Datum)
           go : (found ≡ Err failure.NoMemory) ⊎ (found ≡ Err failure.NoMemory → ⊥) → Stepped reached replies serves seat M old new o2 flow
           go (inl e) = wanting (short e)
           go (inr some) =
-              stepped_after seat M (λ serving s. include_found serving place found to s p) (flush_if flush) old mid new o2 flow flush_blind
+              stepped_after seat M (λ serving s. include_found (page_run_of seat) serving place found to s p) (flush_if flush) old mid new o2 flow flush_blind
               (λ serving h s. called_is serving s ∙ include_is serving place (page_run_of seat) ds to (flush_if flush s) p found target some) changes same onward stepped
 
   -- an import
@@ -204,14 +202,14 @@ module _ (place : Place) (to : ℕ) (seat : Seat) (o p : Open) (ds : List Datum)
 
     found_is : (b : Bool) (serving : Serving) (s : State) (found : Result machine_target.Target (Failure RunFault)) → ImportSo b (page_run_of seat) ds found → (found ≡ Err failure.NoMemory → ⊥)
         → then_move p (either b (Raised fault.BadUrl place) (λ s1. let w : Did = Well tt s1 in w) s) (λ u s1. include_called serving place (page_run_of seat) (text_at 0 ds) [] to s1 p)
-        ≡ include_found serving place found to s p
-    found_is true serving s found h some = ap (λ f. include_found serving place f to s p) (sym h)
+        ≡ include_found (page_run_of seat) serving place found to s p
+    found_is true serving s found h some = ap (λ f. include_found (page_run_of seat) serving place f to s p) (sym h)
     found_is false serving s found h some =
         ap (λ ps. include_called serving place (page_run_of seat) (text_at 0 ds) ps to s p) (sym no_params) ∙ include_is serving place (page_run_of seat) ds to s p found h some
 
     module _ {W : Type 0} {reached : W → Origin → W → State → Type 0} {replies : W → List Answer} {serves : W → Serving → Type 0} where
       pub import_stepped : (w new : W) (found : Result machine_target.Target (Failure RunFault)) (o2 : Open) (flow : Flow) → ImportSo (contains_part (codes "://") (text_at 0 ds)) (page_run_of seat) ds found
-          → Stepped reached replies serves seat (λ serving s. include_found serving place found to s p) w new o2 flow → (found ≡ Err failure.NoMemory → (flow ≡ flows.Over ends.NoMemory) × (new ≡ w))
+          → Stepped reached replies serves seat (λ serving s. include_found (page_run_of seat) serving place found to s p) w new o2 flow → (found ≡ Err failure.NoMemory → (flow ≡ flows.Over ends.NoMemory) × (new ≡ w))
           → Stepped reached replies serves seat (λ serving s. called_out serving seat place to call.Import s o) w new o2 flow
       import_stepped w new found o2 flow target stepped short = go (is_short found)
         where
@@ -227,7 +225,7 @@ module _ (place : Place) (to : ℕ) (seat : Seat) (o p : Open) (ds : List Datum)
           go : (found ≡ Err failure.NoMemory) ⊎ (found ≡ Err failure.NoMemory → ⊥) → Stepped reached replies serves seat M w new o2 flow
           go (inl e) = wanting (short e)
           go (inr some) =
-              stepped_as seat M (λ serving s. include_found serving place found to s p) w new o2 flow
+              stepped_as seat M (λ serving s. include_found (page_run_of seat) serving place found to s p) w new o2 flow
               (λ serving h s. import_is serving s ∙ found_is (contains_part (codes "://") (text_at 0 ds)) serving s found target some) stepped
 
 -- an included page only adds

@@ -1,7 +1,9 @@
 -- Other pages, as an include finds them, for proofs alone.
 use Rattle.std.specs.Prelude.{◌≡◌, ℕ, Bool, true, false, List, Result, Ok, Err, ⊤}
 use Rattle.http_in.specs.declared.params.Param.{Param}
-use Rattle.page_machine.specs.declared.pages.Target as machine_target
+use Rattle.page_machine.specs.declared.targets.Target as machine_target
+use Rattle.page_machine.specs.declared.targets.TargetParams.{TargetParams}
+use Rattle.page_machine.specs.declared.targets.TargetParams.TheVariants as named
 use Rattle.page_meaning.specs.Context.{Run}
 use Rattle.page_meaning.specs.Includes.{target_path, target_params, included_end}
 use Rattle.page_meaning.specs.State.{State, in_scopes}
@@ -25,9 +27,14 @@ abbrev pub IsNoPath : Result (List ℕ) BadPath → Type 0
 IsNoPath (Ok path) = ⊥
 IsNoPath (Err reason) = ⊤
 
+-- the parameters that a target's are, where a page run names it
+abbrev pub params_for : Run → TargetParams → List Param
+params_for run named.Same = run.params
+params_for run (named.Own params) = params
+
 -- the target that the values on top name for a page run: its path and its parameters, or X11
 abbrev pub TargetSo : Run → List Datum → Result machine_target.Target (Failure RunFault) → Type 0
-TargetSo run ds (Ok found) = (target_path run (text_at 0 ds) ≡ Ok found.path) × (found.params ≡ target_params run (text_at 0 ds) (params_in (behind_first ds)))
+TargetSo run ds (Ok found) = (target_path run (text_at 0 ds) ≡ Ok found.path) × (params_for run found.params ≡ target_params run (text_at 0 ds) (params_in (behind_first ds)))
 TargetSo run ds (Err (failure.Fault f)) = (f ≡ fault.NoSuchPage) × IsNoPath (target_path run (text_at 0 ds))
 TargetSo run ds (Err failure.NoMemory) = ⊤
 
@@ -36,11 +43,11 @@ abbrev pub ImportSo : Bool → Run → List Datum → Result machine_target.Targ
 ImportSo true run ds found = found ≡ Err (failure.Fault fault.BadUrl)
 ImportSo false run ds found = TargetSo run ds found
 
--- the include of a target, or its fault
-abbrev pub include_found : Serving → Place → Result machine_target.Target (Failure RunFault) → (to : ℕ) → State → Open → Move
-include_found serving place (Ok found) to s o = include_path serving place found.params found.path to s o
-include_found serving place (Err (failure.Fault f)) to s o = On (thrown f place s o)
-include_found serving place (Err failure.NoMemory) to s o = Stuck
+-- the include of a target that a page run names, or its fault
+abbrev pub include_found : Run → Serving → Place → Result machine_target.Target (Failure RunFault) → (to : ℕ) → State → Open → Move
+include_found run serving place (Ok found) to s o = include_path serving place (params_for run found.params) found.path to s o
+include_found run serving place (Err (failure.Fault f)) to s o = On (thrown f place s o)
+include_found run serving place (Err failure.NoMemory) to s o = Stuck
 
 -- the run of an included page, in a frame of its own
 abbrev pub included_run : Place → Program → List Param → (left to : ℕ) → State → Open → Move

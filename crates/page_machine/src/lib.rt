@@ -5,6 +5,7 @@ mod asked_page;
 mod calls;
 mod pages;
 mod running;
+mod targets;
 mod turn;
 
 pub use asked_page::AskedPage;

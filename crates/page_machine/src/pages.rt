@@ -1,40 +1,37 @@
 // Includes and imports of other pages. In contracts `Changes` says what became of the response's
 // state, and `covered` that the request's promise still covers all that it may ask of the site.
-ghost use Rattle.std.specs.Prelude.{◌≡◌, ◌+◌, ◌<◌, ◌≤◌, ◌^◌, Err, OnErr, OnOk, ◌&&◌, codes};
-ghost use Rattle.std.specs.Prelude.{is_none, length, map, not};
-ghost use Rattle.jstl_functions.specs.Texts.{contains_part};
+ghost use Rattle.std.specs.Prelude.{◌≡◌, ◌+◌, ◌<◌, ◌≤◌, ◌^◌, Err, OnErr, OnOk, ◌&&◌};
+ghost use Rattle.std.specs.Prelude.{is_none, length, not};
 ghost use Rattle.page_code.specs.Ops.{address_with};
 ghost use Rattle.page_code.specs.declared.call.CallOut.TheVariants as call;
-ghost use Rattle.page_machine.specs.Pages.{ImportSo, TargetSo, include_found, included_run};
+ghost use Rattle.page_machine.specs.Pages.{include_found, included_run, params_for};
 ghost use Rattle.page_machine.specs.Turn.{Ran, Stepped};
 ghost use Rattle.page_meaning.specs.Bodies.{put_text};
 ghost use Rattle.page_meaning.specs.Meaning.{flush_if};
 ghost use Rattle.page_table.specs.Act.{called_out};
 ghost use Rattle.page_table.specs.Landing.{land};
 ghost use Rattle.page_table.specs.Move.{On};
-ghost use Rattle.page_table.specs.Operations.{text_at};
 ghost use Rattle.page_table.specs.Pages.{page_begun};
 ghost use Rattle.page_table.specs.Runs.{PageRuns};
 ghost use Rattle.page_table.specs.Seat.{page_run_of};
 ghost use Rattle.pg_text.specs.declared.failure.Failure.TheVariants as failure;
-ghost use Rattle.pg_value.specs.Value.{datum_of};
 ghost use Rattle.run_moves.specs.Acted.{Acted};
-ghost use Rattle.run_moves.specs.At.{seat_at};
+ghost use Rattle.run_moves.specs.At.{IsRecordsAt, seat_at};
 ghost use Rattle.run_moves.specs.Opened.{open_of};
 ghost use Rattle.run_moves.specs.declared.flow.End.TheVariants as end;
 ghost use Rattle.run_moves.specs.declared.flow.Flow.TheVariants as flow;
+ghost use Rattle.run_parts.specs.Records.{IsRecordsOf};
 ghost use Rattle.run_world.specs.Known.{Known, ServesSo};
 ghost use Rattle.run_world.specs.Part.{Changes, Doing};
 ghost use Rattle.run_world.specs.Programs.{program_of};
-ghost use Rattle.run_world.specs.Seats.{seat_of};
 
+use crate::targets::{Target, TargetParams, find_target, import_target};
 use crate::turn::{CodeStart, run_code};
 use http_in::Param;
-use pg_text::{Failure, Listed, Path, Text};
-use pg_value::{RunFault, Value};
-use run_moves::{At, End, Flow, Open, fail, named_path, throw};
-use run_parts::{RequestRecords, target_params};
-use run_values::text_of;
+use pg_text::{Failure, Text};
+use pg_value::RunFault;
+use run_moves::{At, End, Flow, Open, fail, throw};
+use run_parts::RequestRecords;
 use run_world::{Program, Seat, Served, World, know_tags};
 use site_words::Paged;
 use std::alloc::{AllocError, Global};
@@ -47,35 +44,12 @@ pub(crate) struct PageStart<'a> {
     pub left: u32,
 }
 
-// What an include or an import names: its path and its parameters. X11 where it names no path.
+// A page that a target names, with the target's parameters and so many levels left below it.
 #[derive(Drop)]
-pub(crate) struct Target {
-    path: Path,
-    params: Listed<Param>,
-}
-
-// What the values of an include or an import name: the first is its address, the others are its
-// parameters, each a name and a value.
-fn find_target(alloc: Global, seat: &Seat, values: &[Value]) -> Result<Target, Failure<RunFault>>
-    requires { 1 ≤ length values.now }
-    ensures { TargetSo (page_run_of (seat_of seat.now)) (map datum_of values.now) result }
-{
-    let address = text_of(&values[0]);
-    let path = named_path(alloc, seat, address)?;
-    let params = target_params(alloc, seat, address, &values[1..])?;
-    Ok(Target { path, params })
-}
-
-// What an import names: X15 where it has `://`.
-fn import_target(alloc: Global, seat: &Seat, values: &[Value]) -> Result<Target, Failure<RunFault>>
-    requires { 1 ≤ length values.now }
-    ensures { ImportSo (contains_part (codes "://") (text_at 0 (map datum_of values.now)))
-        (page_run_of (seat_of seat.now)) (map datum_of values.now) result }
-{
-    if text_of(&values[0]).find("://").is_some() {
-        return Err(Failure::Fault(RunFault::BadUrl));
-    }
-    find_target(alloc, seat, values)
+struct TargetPage<'a> {
+    program: &'a Program,
+    params: TargetParams,
+    left: u32,
 }
 
 // Commits what is buffered, where that is asked. Where memory runs out, the state is as before.
@@ -94,16 +68,19 @@ fn flush_if<W: World>(flush: bool, world: &mut W) -> Result<(), AllocError>
 pub(crate) fn include_call<W: World>(
     alloc: Global,
     at: &At,
+    records: &mut RequestRecords,
     flush: bool,
     params: usize,
     opened: &mut Open,
     world: &mut W,
 ) -> Flow
     requires covered { W.covered world.old }
+    requires records { IsRecordsAt at.now records.old }
     requires known { Known W.reached W.stores at.now.served.now world.old }
     requires within { at.now.pc + 1 < 2 ^ 64 }
     requires filled { address_with params ≤ length opened.old.stack }
     ensures covered { W.covered world.new }
+    ensures records { IsRecordsAt at.now records.new }
     ensures stepped { Stepped W.reached W.replies (ServesSo W.stores at.now.served.now) (seat_at at.now)
         (λ serving s. called_out serving (seat_at at.now) at.now.cell.place (at.now.pc + 1)
         (call.Include flush params) s (open_of opened.old)) world.old world.new (open_of opened.new) result }
@@ -116,7 +93,7 @@ pub(crate) fn include_call<W: World>(
     let count = 2 * params + 1;
     let found = find_target(alloc, at.seat, opened.stack.top(count));
     opened.stack.drop_top(count);
-    include(alloc, at, found, opened, world)
+    include(alloc, at, records, found, opened, world)
 }
 
 /// Includes what a url names: X15 where it has `://`.
@@ -124,14 +101,17 @@ pub(crate) fn include_call<W: World>(
 pub(crate) fn import_call<W: World>(
     alloc: Global,
     at: &At,
+    records: &mut RequestRecords,
     opened: &mut Open,
     world: &mut W,
 ) -> Flow
     requires covered { W.covered world.old }
+    requires records { IsRecordsAt at.now records.old }
     requires known { Known W.reached W.stores at.now.served.now world.old }
     requires within { at.now.pc + 1 < 2 ^ 64 }
     requires filled { 1 ≤ length opened.old.stack }
     ensures covered { W.covered world.new }
+    ensures records { IsRecordsAt at.now records.new }
     ensures stepped { Stepped W.reached W.replies (ServesSo W.stores at.now.served.now) (seat_at at.now)
         (λ serving s. called_out serving (seat_at at.now) at.now.cell.place (at.now.pc + 1) call.Import s
         (open_of opened.old)) world.old world.new (open_of opened.new) result }
@@ -139,7 +119,7 @@ pub(crate) fn import_call<W: World>(
 {
     let found = import_target(alloc, at.seat, opened.stack.top(1));
     opened.stack.drop_top(1);
-    include(alloc, at, found, opened, world)
+    include(alloc, at, records, found, opened, world)
 }
 
 // Includes a target, one level deeper: X17, then what stands at its path.
@@ -147,40 +127,43 @@ pub(crate) fn import_call<W: World>(
 fn include<W: World>(
     alloc: Global,
     at: &At,
+    records: &mut RequestRecords,
     found: Result<Target, Failure<RunFault>>,
     opened: &mut Open,
     world: &mut W,
 ) -> Flow
     requires covered { W.covered world.old }
+    requires records { IsRecordsAt at.now records.old }
     requires known { Known W.reached W.stores at.now.served.now world.old }
     requires within { at.now.pc + 1 < 2 ^ 64 }
     ensures covered { W.covered world.new }
+    ensures records { IsRecordsAt at.now records.new }
     ensures stepped { Stepped W.reached W.replies (ServesSo W.stores at.now.served.now) (seat_at at.now)
-        (λ serving s. include_found serving at.now.cell.place found (at.now.pc + 1) s (open_of opened.old))
-        world.old world.new (open_of opened.new) result }
+        (λ serving s. include_found (page_run_of (seat_at at.now)) serving at.now.cell.place found (at.now.pc + 1)
+        s (open_of opened.old)) world.old world.new (open_of opened.new) result }
     ensures short { found ≡ Err failure.NoMemory → (result ≡ flow.Over end.NoMemory) × (world.new
         ≡ world.old) }
     ensures left { opened.new.left ≡ opened.old.left }
 {
-    let target = match found {
+    let Target { path, params } = match found {
         Ok(target) => target,
         Err(failed) => return fail(alloc, failed, &at.cell.place, opened, world),
     };
     let Some(left) = opened.left.checked_sub(1) else {
         return throw(alloc, RunFault::TooDeep, &at.cell.place, opened, world);
     };
-    let paged = match world.page(&target.path) {
+    let paged = match world.page(&path) {
         Ok(paged) => paged,
         Err(failed) => return fail(alloc, failed, &at.cell.place, opened, world),
     };
     match paged {
         Paged::Page(program) => {
-            let start = PageStart {
+            let page = TargetPage {
                 program: &program,
-                params: target.params.as_slice(),
+                params,
                 left,
             };
-            included_page(alloc, at, start, opened, world)
+            include_page(alloc, at, records, page, opened, world)
         }
         Paged::Plain(text) => include_text(alloc, at, &text, opened, world),
         Paged::Absent => Flow::Go(at.pc + 1),
@@ -210,20 +193,72 @@ fn include_text<W: World>(
     }
 }
 
+// Includes a page. One that runs with the parameters of the page that names it shares the records
+// that were made of the request.
+#[cycle(machine)]
+fn include_page<W: World>(
+    alloc: Global,
+    at: &At,
+    records: &mut RequestRecords,
+    page: TargetPage,
+    opened: &mut Open,
+    world: &mut W,
+) -> Flow
+    requires covered { W.covered world.old }
+    requires records { IsRecordsAt at.now records.old }
+    requires known { Known W.reached W.stores at.now.served.now world.old }
+    requires within { at.now.pc + 1 < 2 ^ 64 }
+    ensures covered { W.covered world.new }
+    ensures records { IsRecordsAt at.now records.new }
+    ensures stepped { Stepped W.reached W.replies (ServesSo W.stores at.now.served.now) (seat_at at.now)
+        (λ serving s. included_run at.now.cell.place (program_of page.entry.program.now)
+        (params_for (page_run_of (seat_at at.now)) page.entry.params) page.entry.left (at.now.pc + 1) s
+        (open_of opened.old)) world.old world.new (open_of opened.new) result }
+    ensures left { opened.new.left ≡ opened.old.left }
+{
+    let TargetPage {
+        program,
+        params,
+        left,
+    } = page;
+    match params {
+        TargetParams::Same => {
+            let start = PageStart {
+                program,
+                params: at.seat.params(),
+                left,
+            };
+            included_page(alloc, at, records, start, opened, world)
+        }
+        TargetParams::Own(params) => {
+            let start = PageStart {
+                program,
+                params: params.as_slice(),
+                left,
+            };
+            let mut own = RequestRecords::none();
+            included_page(alloc, at, &mut own, start, opened, world)
+        }
+    }
+}
+
 // Runs an included page in a frame of its own. Its fault stands at the include, and a redirect ends
 // it alone.
 #[cycle(machine)]
 fn included_page<W: World>(
     alloc: Global,
     at: &At,
+    records: &mut RequestRecords,
     start: PageStart,
     opened: &mut Open,
     world: &mut W,
 ) -> Flow
     requires covered { W.covered world.old }
+    requires records { IsRecordsOf at.now.served.now.request.now start.params.now records.old }
     requires known { Known W.reached W.stores at.now.served.now world.old }
     requires within { at.now.pc + 1 < 2 ^ 64 }
     ensures covered { W.covered world.new }
+    ensures records { IsRecordsOf at.now.served.now.request.now start.entry.params.now records.new }
     ensures stepped { Stepped W.reached W.replies (ServesSo W.stores at.now.served.now) (seat_at at.now)
         (λ serving s. included_run at.now.cell.place (program_of start.entry.program.now)
         start.entry.params.now start.entry.left (at.now.pc + 1) s (open_of opened.old)) world.old world.new
@@ -236,7 +271,7 @@ fn included_page<W: World>(
     let Ok(()) = world.push_frame() else {
         return Flow::Over(End::NoMemory);
     };
-    match enter_page(alloc, at.served, start, world) {
+    match enter_page(alloc, at.served, start, records, world) {
         End::Normal => {
             world.go_back(frames, frame);
             Flow::Go(at.pc + 1)
@@ -282,11 +317,14 @@ pub(crate) fn enter_page<W: World>(
     alloc: Global,
     served: &Served,
     start: PageStart,
+    records: &mut RequestRecords,
     world: &mut W,
 ) -> End
     requires covered { W.covered world.old }
+    requires records { IsRecordsOf served.now.request.now start.params.now records.old }
     requires known { Known W.reached W.stores served.now world.old }
     ensures covered { W.covered world.new }
+    ensures records { IsRecordsOf served.now.request.now start.entry.params.now records.new }
     ensures ran { Ran W.reached W.replies (ServesSo W.stores served.now) (λ serving s d.
         PageRuns serving (program_of start.entry.program.now) start.entry.params.now start.entry.left s d)
         world.old world.new result }
@@ -301,12 +339,11 @@ pub(crate) fn enter_page<W: World>(
     let Ok(()) = make_session(program, world) else {
         return End::NoMemory;
     };
-    let mut records = RequestRecords::none();
     let seat = Seat::InPage(program, params);
     let start = CodeStart {
         seat: &seat,
         pc: 0,
         left,
     };
-    run_code(alloc, &*served, start, &mut records, world)
+    run_code(alloc, &*served, start, records, world)
 }

@@ -21,6 +21,7 @@ use page_meaning::LEVEL_LIMIT;
 use pg_text::{Listed, Path, Place, Text};
 use pg_value::RunFault;
 use run_moves::End;
+use run_parts::RequestRecords;
 use run_stage::{RUN_PROMISE, Stage};
 use run_world::{Around, Program, Raise, Served, World};
 use scopes::Scopes;
@@ -109,7 +110,8 @@ fn run_with_exception<'a, W: World>(
         request,
         exception: seen,
     };
-    enter_page(alloc, &served, start, world)
+    let mut records = RequestRecords::none();
+    enter_page(alloc, &served, start, &mut records, world)
 }
 
 // The end of a run as its caller sees it, and the depth of a forward's target.

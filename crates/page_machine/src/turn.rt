@@ -174,8 +174,8 @@ fn call_out<W: World>(
         CallOut::Body => given_call(alloc, at, records, None, opened, world),
         CallOut::Fragment(name) => given_call(alloc, at, records, Some(name), opened, world),
         CallOut::Include { flush, params } => {
-            include_call(alloc, at, *flush, *params, opened, world)
+            include_call(alloc, at, records, *flush, *params, opened, world)
         }
-        CallOut::Import => import_call(alloc, at, opened, world),
+        CallOut::Import => import_call(alloc, at, records, opened, world),
     }
 }

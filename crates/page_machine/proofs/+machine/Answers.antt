@@ -10,13 +10,14 @@ use Rattle.page_machine.proofs.+machine.Goals as goal
 use Rattle.page_machine.proofs.CallExits.{acted_stepped, normal_is, raised_is, stepped_as}
 use Rattle.page_machine.proofs.Entering.{entered_failed, entered_known, entered_more, entered_on, entered_over, entered_room, entered_thrown}
 use Rattle.page_machine.proofs.Frequent.{fell_off, went_on}
-use Rattle.page_machine.proofs.GivenCalls.{begins_given, code_deep, copy_failed, given_none, given_page}
+use Rattle.page_machine.proofs.GivenCalls.{begins_given, code_deep, copy_failed, given_none, given_page, gives_so}
 use Rattle.page_machine.proofs.GivenRuns.{given_known, given_on, given_over, given_room, given_thrown}
 use Rattle.page_machine.proofs.IncludedRuns.{included_known, included_left, included_on, included_over, included_redirected, included_room, included_thrown}
 use Rattle.page_machine.proofs.Looping.{begins_at, behind_turn, call_as, cell_at, finds_at, holds_more, loop_nearer, move_is, over_with, simple_of, so_far_start, standing_start, within_code}
 use Rattle.page_machine.proofs.PageCalls.{import_stepped, include_failed_is, include_stepped, include_unflushed, included_run_grows, page_failed, path_failed, path_on, path_page, ran_page}
 use Rattle.page_machine.proofs.TagCalls.{call_with, deeper_none, entered_grows, entered_move, tag_code_fits, tag_deep, tag_failed, tag_gone, tag_made, tag_short}
-use Rattle.page_machine.specs.Pages.{include_found, included_run}
+use Rattle.page_machine.proofs.OwnParams.{with_params}
+use Rattle.page_machine.specs.Pages.{include_found, included_run, params_for}
 use Rattle.page_machine.specs.Turn.{CallBegins, SeatHolds}
 use Rattle.page_meaning.specs.Attributes.{table_of}
 use Rattle.page_meaning.specs.Exports.{exports_of}
@@ -32,7 +33,7 @@ use Rattle.page_table.specs.Landing.{thrown}
 use Rattle.page_table.specs.Move.{On}
 use Rattle.page_table.specs.Pages.{include_path, included}
 use Rattle.page_table.specs.Program.{absent, bad, good, plain, tag_at}
-use Rattle.page_table.specs.Seat.{code_of, in_tag, page_run_of}
+use Rattle.page_table.specs.Seat.{code_at, code_of, in_tag, nothing, page_run_of, source_text}
 use Rattle.pg_text.specs.Failure.{Answers}
 use Rattle.pg_text.specs.declared.place.Place.{Place}
 use Rattle.pg_value.specs.Value.{datum_of}
@@ -310,7 +311,7 @@ pages::enter_page-run_code-requires g t c κs within =
     let tags = subst (λ xs. TagsFit (map tag_of xs)) c.as_slice.ensures c.know_tags.ensures in
     let fits = c.code.ensures.fits in
     let first = fits.0 in
-    let records = c.none-records.ensures c.args.served.now.request.now c.args.start.params.now in
+    let records = c.requires.records in
     search rules
 
 pub pages::enter_page-returns-clause-ran : goal.pages::enter_page-returns-clause-ran
@@ -403,40 +404,71 @@ pages::included_page-returns-in_default-enter_page-clause-stepped g t c =
     c.requires.known c.in-Ok.ensures.ok c.push_frame.ensures.replies c.frame-frame.ensures.current counted c.args.at.now.cell.place (c.args.at.now.pc + 1) (open_of c.args.opened.now) seat
     c.enter_page.result (λ l e. c.in_default-enter_page.not-Redirect l e) (λ e. c.in_default-enter_page.not-Normal e) (λ f p e. c.in_default-enter_page.not-Raised f p e) c.enter_page.ensures.ran
 
+-- an included page with the parameters of a target
+
+pub pages::include_page-included_page-requires : goal.pages::include_page-included_page-requires
+pages::include_page-included_page-requires g t c κs within =
+    let records = subst (λ ps. IsRecordsOf c.args.at.now.served.now.request.now ps c.args.records.now) (sym c.params.ensures) c.requires.records in
+    search rules
+
+pub pages::include_page-included_page-requires-in-Own : goal.pages::include_page-included_page-requires-in-Own
+pages::include_page-included_page-requires-in-Own g t c κs within =
+    let records = c.none-own.ensures c.args.at.now.served.now.request.now c.as_slice.result.now in
+    search rules
+
+pub pages::include_page-returns-in-Same-clause-records : goal.pages::include_page-returns-in-Same-clause-records
+pages::include_page-returns-in-Same-clause-records g t c =
+    subst (λ ps. IsRecordsOf c.args.at.now.served.now.request.now ps c.included_page.new.records) c.params.ensures c.included_page.ensures.records
+
+pub pages::include_page-returns-in-Same-clause-stepped : goal.pages::include_page-returns-in-Same-clause-stepped
+pages::include_page-returns-in-Same-clause-stepped g t c =
+    let seat = seat_at c.args.at.now in
+    let o = open_of c.args.opened.now in
+    with_params seat c.args.at.now.cell.place (program_of c.args.page.program.now) c.args.page.left (c.args.at.now.pc + 1) o (params_for (page_run_of seat) c.args.page.params) c.params.result.now
+    (ap (params_for (page_run_of seat)) c.in-Same.is ∙ sym c.params.ensures) c.args.world.now c.included_page.new.world (open_of c.included_page.new.opened) c.included_page.result c.included_page.ensures.stepped
+
+pub pages::include_page-returns-in-Own-clause-stepped : goal.pages::include_page-returns-in-Own-clause-stepped
+pages::include_page-returns-in-Own-clause-stepped g t c =
+    let seat = seat_at c.args.at.now in
+    let o = open_of c.args.opened.now in
+    with_params seat c.args.at.now.cell.place (program_of c.args.page.program.now) c.args.page.left (c.args.at.now.pc + 1) o (params_for (page_run_of seat) c.args.page.params) c.as_slice.result.now
+    (ap (params_for (page_run_of seat)) c.in-Own.is ∙ sym c.as_slice.ensures) c.args.world.now c.included_page-in-Own.new.world (open_of c.included_page-in-Own.new.opened) c.included_page-in-Own.result c.included_page-in-Own.ensures.stepped
+
 -- an include of a target
 
 pub pages::include-returns-in-Err-clause-stepped : goal.pages::include-returns-in-Err-clause-stepped
 pages::include-returns-in-Err-clause-stepped g t c =
     let seat = seat_at c.args.at.now in
     let o = open_of c.args.opened.now in
-    acted_stepped seat (λ serving s. include_found serving c.args.at.now.cell.place c.args.found (c.args.at.now.pc + 1) s o) c.args.world.now c.fail.new.world (open_of c.fail.new.opened) c.fail.result
+    acted_stepped seat (λ serving s. include_found (page_run_of seat) serving c.args.at.now.cell.place c.args.found (c.args.at.now.pc + 1) s o) c.args.world.now c.fail.new.world (open_of c.fail.new.opened) c.fail.result
     (λ serving h.
-    acted_as (λ s. include_found serving c.args.at.now.cell.place c.args.found (c.args.at.now.pc + 1) s o) (failing c.args.at.now.cell.place o c.in-Err.failed) c.args.world.now c.fail.new.world (open_of c.fail.new.opened) c.fail.result
-    (λ s. ap (λ f. include_found serving c.args.at.now.cell.place f (c.args.at.now.pc + 1) s o) c.in-Err.is ∙ include_failed_is serving c.args.at.now.cell.place c.in-Err.failed (c.args.at.now.pc + 1) s o) c.fail.ensures.acted)
+    acted_as (λ s. include_found (page_run_of seat) serving c.args.at.now.cell.place c.args.found (c.args.at.now.pc + 1) s o) (failing c.args.at.now.cell.place o c.in-Err.failed) c.args.world.now c.fail.new.world (open_of c.fail.new.opened) c.fail.result
+    (λ s. ap (λ f. include_found (page_run_of seat) serving c.args.at.now.cell.place f (c.args.at.now.pc + 1) s o) c.in-Err.is ∙ include_failed_is (page_run_of seat) serving c.args.at.now.cell.place c.in-Err.failed (c.args.at.now.pc + 1) s o) c.fail.ensures.acted)
 
 pub pages::include-returns-in_default-clause-stepped : goal.pages::include-returns-in_default-clause-stepped
 pages::include-returns-in_default-clause-stepped g t c =
     let seat = seat_at c.args.at.now in
     let o = open_of c.args.opened.now in
     let none : c.args.opened.now.left ≡ 0 = omega (arith, c.in_default.ensures) in
-    acted_stepped seat (λ serving s. include_found serving c.args.at.now.cell.place c.args.found (c.args.at.now.pc + 1) s o) c.args.world.now c.throw.new.world (open_of c.throw.new.opened) c.throw.result
+    acted_stepped seat (λ serving s. include_found (page_run_of seat) serving c.args.at.now.cell.place c.args.found (c.args.at.now.pc + 1) s o) c.args.world.now c.throw.new.world (open_of c.throw.new.opened) c.throw.result
     (λ serving h.
-    acted_as (λ s. include_found serving c.args.at.now.cell.place c.args.found (c.args.at.now.pc + 1) s o) (λ s. On (thrown fault.TooDeep c.args.at.now.cell.place s o)) c.args.world.now c.throw.new.world (open_of c.throw.new.opened) c.throw.result
-    (λ s. ap (λ f. include_found serving c.args.at.now.cell.place f (c.args.at.now.pc + 1) s o) c.in-Ok.is ∙ deeper_none c.args.at.now.cell.place s o c.args.opened.now.left _ none) c.throw.ensures.acted)
+    acted_as (λ s. include_found (page_run_of seat) serving c.args.at.now.cell.place c.args.found (c.args.at.now.pc + 1) s o) (λ s. On (thrown fault.TooDeep c.args.at.now.cell.place s o)) c.args.world.now c.throw.new.world (open_of c.throw.new.opened) c.throw.result
+    (λ s. ap (λ f. include_found (page_run_of seat) serving c.args.at.now.cell.place f (c.args.at.now.pc + 1) s o) c.in-Ok.is ∙ deeper_none c.args.at.now.cell.place s o c.args.opened.now.left _ none) c.throw.ensures.acted)
 
 pub pages::include-returns-in-Err-page-clause-stepped : goal.pages::include-returns-in-Err-page-clause-stepped
 pages::include-returns-in-Err-page-clause-stepped g t c =
     let seat = seat_at c.args.at.now in
     let o = open_of c.args.opened.now in
+    let params = params_for (page_run_of seat) c.in-Ok.target.params in
     let level : c.args.opened.now.left ≡ suc c.in-Some.left = omega (arith, c.in-Some.ensures) in
-    stepped_as seat (λ serving s. include_found serving c.args.at.now.cell.place c.args.found (c.args.at.now.pc + 1) s o)
-    (λ serving s. include_path serving c.args.at.now.cell.place c.in-Ok.target.params c.in-Ok.target.path (c.args.at.now.pc + 1) s o) c.args.world.now c.fail-in-Err-page.new.world (open_of c.fail-in-Err-page.new.opened)
-    c.fail-in-Err-page.result (λ serving h s. ap (λ f. include_found serving c.args.at.now.cell.place f (c.args.at.now.pc + 1) s o) c.in-Ok.is)
-    (path_failed c.args.at.now.cell.place (c.args.at.now.pc + 1) c.in-Some.left c.in-Ok.target.params c.in-Ok.target.path o level seat c.args.world.now c.page.new.self c.fail-in-Err-page.new.world c.in-Err-page.failed
+    stepped_as seat (λ serving s. include_found (page_run_of seat) serving c.args.at.now.cell.place c.args.found (c.args.at.now.pc + 1) s o)
+    (λ serving s. include_path serving c.args.at.now.cell.place params c.in-Ok.target.path (c.args.at.now.pc + 1) s o) c.args.world.now c.fail-in-Err-page.new.world (open_of c.fail-in-Err-page.new.opened)
+    c.fail-in-Err-page.result (λ serving h s. ap (λ f. include_found (page_run_of seat) serving c.args.at.now.cell.place f (c.args.at.now.pc + 1) s o) c.in-Ok.is)
+    (path_failed c.args.at.now.cell.place (c.args.at.now.pc + 1) c.in-Some.left params c.in-Ok.target.path o level seat c.args.world.now c.page.new.self c.fail-in-Err-page.new.world c.in-Err-page.failed
     (open_of c.fail-in-Err-page.new.opened) c.fail-in-Err-page.result (λ serving h. c.in-Err-page.ensures.does serving h.stored) c.fail-in-Err-page.ensures.acted c.fail-in-Err-page.ensures.short)
 
-pub pages::include-included_page-requires : goal.pages::include-included_page-requires
-pages::include-included_page-requires g t c κs within =
+pub pages::include-include_page-requires : goal.pages::include-include_page-requires
+pages::include-include_page-requires g t c κs within =
     let k = c.requires.known in
     let known = known_done g.met.W.World.stores_on g.met.W.World.again c.args.at.now.served.now c.args.world.now c.page.new.self (Ok c.in-Ok-page.paged) k (c.in-Ok-page.ensures.does k.serving k.serves.stored) in
     let level : c.args.opened.now.left ≡ suc c.in-Some.left = omega (arith, c.in-Some.ensures) in
@@ -446,29 +478,28 @@ pub pages::include-returns-in-Page-clause-stepped : goal.pages::include-returns-
 pages::include-returns-in-Page-clause-stepped g t c =
     let seat = seat_at c.args.at.now in
     let o = open_of c.args.opened.now in
+    let params = params_for (page_run_of seat) c.in-Ok.target.params in
     let k = c.requires.known in
     let level : c.args.opened.now.left ≡ suc c.in-Some.left = omega (arith, c.in-Some.ensures) in
-    stepped_as seat (λ serving s. include_found serving c.args.at.now.cell.place c.args.found (c.args.at.now.pc + 1) s o)
-    (λ serving s. include_path serving c.args.at.now.cell.place c.in-Ok.target.params c.in-Ok.target.path (c.args.at.now.pc + 1) s o) c.args.world.now c.included_page.new.world (open_of c.included_page.new.opened) c.included_page.result
-    (λ serving h s. ap (λ f. include_found serving c.args.at.now.cell.place f (c.args.at.now.pc + 1) s o) c.in-Ok.is)
-    (path_page c.args.at.now.cell.place (c.args.at.now.pc + 1) c.in-Some.left c.in-Ok.target.params c.in-Ok.target.path o level seat c.in-Ok-page.paged c.args.world.now c.page.new.self
-    (λ serving h. c.in-Ok-page.ensures.does serving h.stored) (program_of c.deref.result.now) c.included_page.new.world (open_of c.included_page.new.opened) c.included_page.result
+    stepped_as seat (λ serving s. include_found (page_run_of seat) serving c.args.at.now.cell.place c.args.found (c.args.at.now.pc + 1) s o)
+    (λ serving s. include_path serving c.args.at.now.cell.place params c.in-Ok.target.path (c.args.at.now.pc + 1) s o) c.args.world.now c.include_page.new.world (open_of c.include_page.new.opened) c.include_page.result
+    (λ serving h s. ap (λ f. include_found (page_run_of seat) serving c.args.at.now.cell.place f (c.args.at.now.pc + 1) s o) c.in-Ok.is)
+    (path_page c.args.at.now.cell.place (c.args.at.now.pc + 1) c.in-Some.left params c.in-Ok.target.path o level seat c.in-Ok-page.paged c.args.world.now c.page.new.self
+    (λ serving h. c.in-Ok-page.ensures.does serving h.stored) (program_of c.deref.result.now) c.include_page.new.world (open_of c.include_page.new.opened) c.include_page.result
     (λ serving h. sym (c.in-Ok-page.ensures.found serving h.stored) ∙ ap stored_of c.in-Page.is ∙ ap (λ p. good (program_of p)) (sym c.deref.ensures))
     (λ serving h. serves_done g.met.W.World.stores_on g.met.W.World.again c.args.at.now.served.now c.args.world.now c.page.new.self (Ok c.in-Ok-page.paged) serving k (c.in-Ok-page.ensures.does k.serving k.serves.stored) h)
-    (stepped_as seat (λ serving s. included_run c.args.at.now.cell.place (program_of c.deref.result.now) c.in-Ok.target.params c.in-Some.left (c.args.at.now.pc + 1) s o)
-    (λ serving s. included_run c.args.at.now.cell.place (program_of c.deref.result.now) c.as_slice.result.now c.in-Some.left (c.args.at.now.pc + 1) s o) c.page.new.self c.included_page.new.world (open_of c.included_page.new.opened)
-    c.included_page.result (λ serving h s. ap (λ ps. included_run c.args.at.now.cell.place (program_of c.deref.result.now) ps c.in-Some.left (c.args.at.now.pc + 1) s o) (sym c.as_slice.ensures))
-    c.included_page.ensures.stepped))
+    c.include_page.ensures.stepped)
 
 pub pages::include-returns-in-Plain-clause-stepped : goal.pages::include-returns-in-Plain-clause-stepped
 pages::include-returns-in-Plain-clause-stepped g t c =
     let seat = seat_at c.args.at.now in
     let o = open_of c.args.opened.now in
+    let params = params_for (page_run_of seat) c.in-Ok.target.params in
     let level : c.args.opened.now.left ≡ suc c.in-Some.left = omega (arith, c.in-Some.ensures) in
-    stepped_as seat (λ serving s. include_found serving c.args.at.now.cell.place c.args.found (c.args.at.now.pc + 1) s o)
-    (λ serving s. include_path serving c.args.at.now.cell.place c.in-Ok.target.params c.in-Ok.target.path (c.args.at.now.pc + 1) s o) c.args.world.now c.include_text.new.world (open_of c.include_text.new.opened) c.include_text.result
-    (λ serving h s. ap (λ f. include_found serving c.args.at.now.cell.place f (c.args.at.now.pc + 1) s o) c.in-Ok.is)
-    (path_on c.args.at.now.cell.place (c.args.at.now.pc + 1) c.in-Some.left c.in-Ok.target.params c.in-Ok.target.path o level seat c.in-Ok-page.paged c.args.world.now c.page.new.self
+    stepped_as seat (λ serving s. include_found (page_run_of seat) serving c.args.at.now.cell.place c.args.found (c.args.at.now.pc + 1) s o)
+    (λ serving s. include_path serving c.args.at.now.cell.place params c.in-Ok.target.path (c.args.at.now.pc + 1) s o) c.args.world.now c.include_text.new.world (open_of c.include_text.new.opened) c.include_text.result
+    (λ serving h s. ap (λ f. include_found (page_run_of seat) serving c.args.at.now.cell.place f (c.args.at.now.pc + 1) s o) c.in-Ok.is)
+    (path_on c.args.at.now.cell.place (c.args.at.now.pc + 1) c.in-Some.left params c.in-Ok.target.path o level seat c.in-Ok-page.paged c.args.world.now c.page.new.self
     (λ serving h. c.in-Ok-page.ensures.does serving h.stored) (plain c.in-Plain.text) c.include_text.new.world (open_of c.include_text.new.opened) c.include_text.result
     (λ serving h. sym (c.in-Ok-page.ensures.found serving h.stored) ∙ ap stored_of c.in-Plain.is) c.include_text.ensures.acted)
 
@@ -476,27 +507,29 @@ pub pages::include-returns-in-Absent-clause-stepped : goal.pages::include-return
 pages::include-returns-in-Absent-clause-stepped g t c =
     let seat = seat_at c.args.at.now in
     let o = open_of c.args.opened.now in
+    let params = params_for (page_run_of seat) c.in-Ok.target.params in
     let level : c.args.opened.now.left ≡ suc c.in-Some.left = omega (arith, c.in-Some.ensures) in
-    stepped_as seat (λ serving s. include_found serving c.args.at.now.cell.place c.args.found (c.args.at.now.pc + 1) s o)
-    (λ serving s. include_path serving c.args.at.now.cell.place c.in-Ok.target.params c.in-Ok.target.path (c.args.at.now.pc + 1) s o) c.args.world.now c.page.new.self o (flows.Go (c.args.at.now.pc + 1))
-    (λ serving h s. ap (λ f. include_found serving c.args.at.now.cell.place f (c.args.at.now.pc + 1) s o) c.in-Ok.is)
-    (path_on c.args.at.now.cell.place (c.args.at.now.pc + 1) c.in-Some.left c.in-Ok.target.params c.in-Ok.target.path o level seat c.in-Ok-page.paged c.args.world.now c.page.new.self
+    stepped_as seat (λ serving s. include_found (page_run_of seat) serving c.args.at.now.cell.place c.args.found (c.args.at.now.pc + 1) s o)
+    (λ serving s. include_path serving c.args.at.now.cell.place params c.in-Ok.target.path (c.args.at.now.pc + 1) s o) c.args.world.now c.page.new.self o (flows.Go (c.args.at.now.pc + 1))
+    (λ serving h s. ap (λ f. include_found (page_run_of seat) serving c.args.at.now.cell.place f (c.args.at.now.pc + 1) s o) c.in-Ok.is)
+    (path_on c.args.at.now.cell.place (c.args.at.now.pc + 1) c.in-Some.left params c.in-Ok.target.path o level seat c.in-Ok-page.paged c.args.world.now c.page.new.self
     (λ serving h. c.in-Ok-page.ensures.does serving h.stored) (absent) c.page.new.self o (flows.Go (c.args.at.now.pc + 1))
     (λ serving h. sym (c.in-Ok-page.ensures.found serving h.stored) ∙ ap stored_of c.in-Absent.is)
-    (acted_on (λ s. included c.args.at.now.cell.place c.in-Ok.target.params c.in-Some.left (absent) (c.args.at.now.pc + 1) s o) c.page.new.self o (c.args.at.now.pc + 1) (λ s. refl)))
+    (acted_on (λ s. included c.args.at.now.cell.place params c.in-Some.left (absent) (c.args.at.now.pc + 1) s o) c.page.new.self o (c.args.at.now.pc + 1) (λ s. refl)))
 
 pub pages::include-returns-clause-stepped : goal.pages::include-returns-clause-stepped
 pages::include-returns-clause-stepped g t c =
     let seat = seat_at c.args.at.now in
     let o = open_of c.args.opened.now in
+    let params = params_for (page_run_of seat) c.in-Ok.target.params in
     let level : c.args.opened.now.left ≡ suc c.in-Some.left = omega (arith, c.in-Some.ensures) in
-    stepped_as seat (λ serving s. include_found serving c.args.at.now.cell.place c.args.found (c.args.at.now.pc + 1) s o)
-    (λ serving s. include_path serving c.args.at.now.cell.place c.in-Ok.target.params c.in-Ok.target.path (c.args.at.now.pc + 1) s o) c.args.world.now c.page.new.self o (flows.Go (c.args.at.now.pc + 1))
-    (λ serving h s. ap (λ f. include_found serving c.args.at.now.cell.place f (c.args.at.now.pc + 1) s o) c.in-Ok.is)
-    (path_on c.args.at.now.cell.place (c.args.at.now.pc + 1) c.in-Some.left c.in-Ok.target.params c.in-Ok.target.path o level seat c.in-Ok-page.paged c.args.world.now c.page.new.self
+    stepped_as seat (λ serving s. include_found (page_run_of seat) serving c.args.at.now.cell.place c.args.found (c.args.at.now.pc + 1) s o)
+    (λ serving s. include_path serving c.args.at.now.cell.place params c.in-Ok.target.path (c.args.at.now.pc + 1) s o) c.args.world.now c.page.new.self o (flows.Go (c.args.at.now.pc + 1))
+    (λ serving h s. ap (λ f. include_found (page_run_of seat) serving c.args.at.now.cell.place f (c.args.at.now.pc + 1) s o) c.in-Ok.is)
+    (path_on c.args.at.now.cell.place (c.args.at.now.pc + 1) c.in-Some.left params c.in-Ok.target.path o level seat c.in-Ok-page.paged c.args.world.now c.page.new.self
     (λ serving h. c.in-Ok-page.ensures.does serving h.stored) (bad c.in-Bad.field-0) c.page.new.self o (flows.Go (c.args.at.now.pc + 1))
     (λ serving h. sym (c.in-Ok-page.ensures.found serving h.stored) ∙ ap stored_of c.in-Bad.is)
-    (acted_on (λ s. included c.args.at.now.cell.place c.in-Ok.target.params c.in-Some.left (bad c.in-Bad.field-0) (c.args.at.now.pc + 1) s o) c.page.new.self o (c.args.at.now.pc + 1) (λ s. refl)))
+    (acted_on (λ s. included c.args.at.now.cell.place params c.in-Some.left (bad c.in-Bad.field-0) (c.args.at.now.pc + 1) s o) c.page.new.self o (c.args.at.now.pc + 1) (λ s. refl)))
 
 -- an include by an address
 
@@ -568,7 +601,7 @@ calls::given_call-run_code-requires g t c κs within =
     let m = length (g.W.World.variables c.turn_to.new.self).frames in
     let holds = subst (λ x. SeatHolds x n) (ap seat_of c.in-InTag.is) c.requires.holds in
     let stands = holds_more caller n m (omega (arith, c.copy_out.ensures.frames, c.turn_to.ensures.frames)) holds.2 in
-    let at = begins_given name call caller c.in-Code.pc seated.1 (sym (c.in-Code.ensures caller)) in
+    let at = begins_given name call caller c.in-Code.pc seated.1 (c.in-Code.ensures caller) in
     let fits = seated.2 in
     let records = subst (λ x. IsRecordsOf c.args.at.now.served.now.request.now (page_run_of x).params c.args.records.now) (ap seat_of c.in-InTag.is) c.requires.records in
     search rules
@@ -611,7 +644,7 @@ calls::given_call-returns-in-Nothing-clause-stepped g t c =
     let o = open_of c.args.opened.now in
     let name = option_map (λ n. n.now) c.args.name in
     acted_stepped seat (λ serving s. given_called c.args.at.now.cell.place (given_by name seat) seat (c.args.at.now.pc + 1) s o) c.args.world.now c.args.world.now o (flows.Go (c.args.at.now.pc + 1))
-    (λ serving h. given_none c.args.at.now.cell.place (c.args.at.now.pc + 1) o name seat c.args.world.now (ap (given_by name) (ap seat_of c.in-InTag.is) ∙ sym (c.in-Nothing.ensures (seat_of c.in-InTag.caller.now))))
+    (λ serving h. given_none c.args.at.now.cell.place (c.args.at.now.pc + 1) o name seat c.args.world.now (gives_so name seat (call_of c.in-InTag.call.now) (seat_of c.in-InTag.caller.now) nothing (ap seat_of c.in-InTag.is) (c.in-Nothing.ensures (seat_of c.in-InTag.caller.now))))
 
 pub calls::given_call-returns-in-Source-clause-stepped : goal.calls::given_call-returns-in-Source-clause-stepped
 calls::given_call-returns-in-Source-clause-stepped g t c =
@@ -621,7 +654,7 @@ calls::given_call-returns-in-Source-clause-stepped g t c =
     acted_stepped seat (λ serving s. given_called c.args.at.now.cell.place (given_by name seat) seat (c.args.at.now.pc + 1) s o) c.args.world.now c.write_source.new.world (open_of c.write_source.new.opened) c.write_source.result
     (λ serving h.
     c.write_source.ensures.acted name seat (seat_of c.in-InTag.caller.now) (ap seat_of c.in-InTag.is)
-    (ap (given_by name) (ap seat_of c.in-InTag.is) ∙ sym (c.in-Source.ensures (seat_of c.in-InTag.caller.now))))
+    (gives_so name seat (call_of c.in-InTag.call.now) (seat_of c.in-InTag.caller.now) (source_text c.in-Source.text.now) (ap seat_of c.in-InTag.is) (c.in-Source.ensures (seat_of c.in-InTag.caller.now))))
 
 pub calls::given_call-returns-in_default-clause-stepped : goal.calls::given_call-returns-in_default-clause-stepped
 calls::given_call-returns-in_default-clause-stepped g t c =
@@ -633,7 +666,7 @@ calls::given_call-returns-in_default-clause-stepped g t c =
     acted_stepped seat (λ serving s. given_called c.args.at.now.cell.place (given_by name seat) seat (c.args.at.now.pc + 1) s o) c.args.world.now c.throw.new.world (open_of c.throw.new.opened) c.throw.result
     (λ serving h.
     code_deep c.args.at.now.cell.place (c.args.at.now.pc + 1) o name seat (call_of c.in-InTag.call.now) caller (ap seat_of c.in-InTag.is) c.in-Code.pc c.args.world.now c.throw.new.world (open_of c.throw.new.opened) c.throw.result
-    (ap (given_by name) (ap seat_of c.in-InTag.is) ∙ sym (c.in-Code.ensures caller)) none c.throw.ensures.acted)
+    (gives_so name seat (call_of c.in-InTag.call.now) caller (code_at c.in-Code.pc) (ap seat_of c.in-InTag.is) (c.in-Code.ensures caller)) none c.throw.ensures.acted)
 
 pub calls::given_call-returns-in-Err-clause-stepped : goal.calls::given_call-returns-in-Err-clause-stepped
 calls::given_call-returns-in-Err-clause-stepped g t c =
@@ -655,7 +688,7 @@ calls::given_call-returns-in-Normal-clause-stepped g t c =
     let more : length (g.W.World.variables c.copy_out.new.world).frames ≤ length (g.W.World.variables c.turn_to.new.self).frames = omega (arith, c.turn_to.ensures.frames) in
     let is = ap seat_of c.in-InTag.is in
     let name = option_map (λ n. n.now) c.args.name in
-    let gives = ap (given_by name) is ∙ sym (c.in-Code.ensures caller) in
+    let gives = gives_so name (seat_at c.args.at.now) call caller (code_at c.in-Code.pc) is (c.in-Code.ensures caller) in
     let level : c.args.opened.now.left ≡ suc c.in-Some.left = omega (arith, c.in-Some.ensures) in
     given_on laws.stores_on laws.again laws.tells c.args.at.now.served.now call caller c.in-Code.pc c.in-Some.left c.frame-frame.result c.frames-frames.result c.args.world.now c.copy_out.new.world c.turn_to.new.self c.run_code.new.world c.requires.known
     c.in_default-copy_out.ensures.does c.turn_to.ensures.turned c.turn_to.ensures.replies c.frame-frame.ensures.current counted more c.args.at.now.cell.place (c.args.at.now.pc + 1) (open_of c.args.opened.now) name (seat_at c.args.at.now) is gives level
@@ -670,7 +703,7 @@ calls::given_call-returns-in-Raised-clause-stepped g t c =
     let more : length (g.W.World.variables c.copy_out.new.world).frames ≤ length (g.W.World.variables c.turn_to.new.self).frames = omega (arith, c.turn_to.ensures.frames) in
     let is = ap seat_of c.in-InTag.is in
     let name = option_map (λ n. n.now) c.args.name in
-    let gives = ap (given_by name) is ∙ sym (c.in-Code.ensures caller) in
+    let gives = gives_so name (seat_at c.args.at.now) call caller (code_at c.in-Code.pc) is (c.in-Code.ensures caller) in
     let level : c.args.opened.now.left ≡ suc c.in-Some.left = omega (arith, c.in-Some.ensures) in
     given_thrown laws.stores_on laws.again laws.tells c.args.at.now.served.now call caller c.in-Code.pc c.in-Some.left c.frame-frame.result c.frames-frames.result c.args.world.now c.copy_out.new.world c.turn_to.new.self c.run_code.new.world c.requires.known
     c.in_default-copy_out.ensures.does c.turn_to.ensures.turned c.turn_to.ensures.replies c.frame-frame.ensures.current counted more c.args.at.now.cell.place (c.args.at.now.pc + 1) (open_of c.args.opened.now) name (seat_at c.args.at.now) is gives level
@@ -686,7 +719,7 @@ calls::given_call-returns-in_default-run_code-clause-stepped g t c =
     let more : length (g.W.World.variables c.copy_out.new.world).frames ≤ length (g.W.World.variables c.turn_to.new.self).frames = omega (arith, c.turn_to.ensures.frames) in
     let is = ap seat_of c.in-InTag.is in
     let name = option_map (λ n. n.now) c.args.name in
-    let gives = ap (given_by name) is ∙ sym (c.in-Code.ensures caller) in
+    let gives = gives_so name (seat_at c.args.at.now) call caller (code_at c.in-Code.pc) is (c.in-Code.ensures caller) in
     let level : c.args.opened.now.left ≡ suc c.in-Some.left = omega (arith, c.in-Some.ensures) in
     given_over laws.stores_on laws.again laws.tells c.args.at.now.served.now call caller c.in-Code.pc c.in-Some.left c.frame-frame.result c.frames-frames.result c.args.world.now c.copy_out.new.world c.turn_to.new.self c.run_code.new.world c.requires.known
     c.in_default-copy_out.ensures.does c.turn_to.ensures.turned c.turn_to.ensures.replies c.frame-frame.ensures.current counted more c.args.at.now.cell.place (c.args.at.now.pc + 1) (open_of c.args.opened.now) name (seat_at c.args.at.now) is gives level

@@ -14,6 +14,9 @@ enter_page-requires-clause-known g c =
       stands = k.stands;
     }
 
+pub enter_page-requires-clause-records : goal.enter_page-requires-clause-records
+enter_page-requires-clause-records g c = c.none-records.ensures c.args.request.now c.args.start.params.now
+
 pub returns-clause-ran : goal.returns-clause-ran
 returns-clause-ran g c = record {
   by = λ serving sees first origin s stands.

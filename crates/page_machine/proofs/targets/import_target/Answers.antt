@@ -1,8 +1,8 @@
-use Rattle.std.proofs.Common.{◌≡◌, ◌∙◌, Ok, Err, ap, codes, false, is_some, map, refl, subst, sym, true}
+use Rattle.std.proofs.Common.{◌≡◌, ◌∙◌, Err, ap, codes, false, is_some, map, refl, subst, sym, true}
 use Rattle.jstl_functions.proofs.Places.{place_found}
 use Rattle.jstl_functions.specs.Texts.{contains_part}
 use Rattle.page_machine.proofs.PageCalls.{first_is}
-use Rattle.page_machine.proofs.pages.import_target.Goals as goal
+use Rattle.page_machine.proofs.targets.import_target.Goals as goal
 use Rattle.page_machine.specs.Pages.{ImportSo}
 use Rattle.page_table.specs.Operations.{text_at}
 use Rattle.page_table.specs.Seat.{page_run_of}
