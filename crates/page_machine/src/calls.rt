@@ -58,6 +58,7 @@ fn size_of(call: &TagCall) -> usize
 
 // Calls a tag file with the values of its attributes. A unit has each one that it calls.
 #[cycle(machine)]
+#[inline(never)]
 pub(crate) fn tag_call<W: World>(
     alloc: Global,
     at: &At,

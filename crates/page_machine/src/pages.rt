@@ -65,6 +65,7 @@ fn flush_if<W: World>(flush: bool, world: &mut W) -> Result<(), AllocError>
 
 /// Includes what an address names, behind a flush where that is asked.
 #[cycle(machine)]
+#[inline(never)]
 pub(crate) fn include_call<W: World>(
     alloc: Global,
     at: &At,
@@ -98,6 +99,7 @@ pub(crate) fn include_call<W: World>(
 
 /// Includes what a url names: X15 where it has `://`.
 #[cycle(machine)]
+#[inline(never)]
 pub(crate) fn import_call<W: World>(
     alloc: Global,
     at: &At,
