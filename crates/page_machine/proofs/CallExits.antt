@@ -1,5 +1,5 @@
 -- Calls and includes: a run of its own is joined with what is done behind its end.
-use Rattle.std.proofs.Common.{◌≡◌, ◌+◌, ℕ, List, ◌++◌, length, Ok, Err, refl, sym, ap, ◌∙◌}
+use Rattle.std.proofs.Common.{◌≡◌, ℕ, List, ◌++◌, length, Ok, Err, refl, sym, ap, ◌∙◌}
 use Rattle.std.specs.Prelude.{take}
 use Rattle.http_in.specs.declared.params.Param.{Param}
 use Rattle.out_buffer.specs.Writer.{with_bodies}

@@ -29,7 +29,7 @@ use Rattle.page_meaning.specs.Variables.{back_to, entries_of_frame}
 use Rattle.page_meaning.specs.Went.{Did, Well, Raised, tidied, then_do, result_of}
 use Rattle.page_table.specs.Calls.{copied_to_caller, in_callers_frame, given_called, given_entered}
 use Rattle.page_table.specs.Checked.{CallFits}
-use Rattle.page_table.specs.Landing.{Config, Running, Over, thrown, then_at as then_land, land}
+use Rattle.page_table.specs.Landing.{Config, Running, thrown, then_at as then_land, land}
 use Rattle.page_table.specs.Move.{Move, On, Into}
 use Rattle.page_table.specs.Open.{Open, fresh_open}
 use Rattle.page_table.specs.Program.{Program, Serving}

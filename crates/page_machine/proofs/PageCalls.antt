@@ -36,7 +36,7 @@ use Rattle.page_meaning.specs.Meaning.{flush_if}
 use Rattle.page_meaning.specs.State.{State, in_scopes}
 use Rattle.page_meaning.specs.Went.{Did, Well, Raised, Ended, Awaits, forwards, redirects, either}
 use Rattle.page_table.specs.Act.{called_out, with_stack}
-use Rattle.page_table.specs.Landing.{Config, Running, Over, thrown, land}
+use Rattle.page_table.specs.Landing.{Config, Running, thrown, land}
 use Rattle.page_table.specs.Move.{Move, On, then_move}
 use Rattle.page_table.specs.Open.{Open, fresh_open}
 use Rattle.page_table.specs.Operations.{text_at, behind_first, params_in}
