@@ -33,7 +33,7 @@ use Rattle.page_table.specs.Calls.{call_back, call_entered, call_of, tag_called}
 use Rattle.page_table.specs.Landing.{Config, Running, thrown, land}
 use Rattle.page_table.specs.Move.{Move, On, Into, Stuck, one_deeper, then_move}
 use Rattle.page_table.specs.Open.{Open, fresh_open}
-use Rattle.page_table.specs.Program.{TagCode, Serving, tag_at}
+use Rattle.page_table.specs.Program.{Program, TagCode, Serving, tag_at}
 use Rattle.page_table.specs.Seat.{CallSeat, Seat, in_page, in_tag, program_of}
 use Rattle.page_table.proofs.GivenFits.{tag_fits}
 use Rattle.page_table.proofs.Growing.{called_goes, entered_goes}
@@ -64,6 +64,10 @@ program_fits (in_tag call caller) h = program_fits caller h.2
 
 pub tag_code_fits : (seat : Seat) → SeatFits seat → (path : List ℕ) (tag : TagCode) → tag_at path (program_of seat).tags ≡ Some tag → CodeFits tag.code
 tag_code_fits seat h path tag e = tag_fits path (program_of seat).tags (program_fits seat h) tag e
+
+-- the tag file that is found in a program is the one of that program under another name
+pub finds_so : (path : List ℕ) (program other : Program) (found : Option TagCode) → program ≡ other → found ≡ tag_at path program.tags → tag_at path other.tags ≡ found
+finds_so path program other found same e = ap (λ (p : Program). tag_at path p.tags) (sym same) ∙ sym e
 
 -- a call by its parts
 abbrev pub call_with : TagCode → CallBody → List Fragment → (behind : ℕ) → List Export → (frame : ℕ) → CallSeat

@@ -15,7 +15,7 @@ use Rattle.page_machine.proofs.GivenRuns.{given_known, given_on, given_over, giv
 use Rattle.page_machine.proofs.IncludedRuns.{included_known, included_left, included_on, included_over, included_redirected, included_room, included_thrown}
 use Rattle.page_machine.proofs.Looping.{begins_at, behind_turn, call_as, cell_at, finds_at, holds_more, loop_nearer, move_is, over_with, simple_of, so_far_start, standing_start, within_code}
 use Rattle.page_machine.proofs.PageCalls.{import_stepped, include_failed_is, include_stepped, include_unflushed, included_run_grows, page_failed, path_failed, path_on, path_page, ran_page}
-use Rattle.page_machine.proofs.TagCalls.{call_with, deeper_none, entered_grows, entered_move, tag_code_fits, tag_deep, tag_failed, tag_gone, tag_made, tag_short}
+use Rattle.page_machine.proofs.TagCalls.{call_with, deeper_none, entered_grows, entered_move, finds_so, tag_code_fits, tag_deep, tag_failed, tag_gone, tag_made, tag_short}
 use Rattle.page_machine.proofs.OwnParams.{with_params}
 use Rattle.page_machine.specs.Pages.{include_found, included_run, params_for}
 use Rattle.page_machine.specs.Turn.{CallBegins, SeatHolds}
@@ -33,7 +33,7 @@ use Rattle.page_table.specs.Landing.{thrown}
 use Rattle.page_table.specs.Move.{On}
 use Rattle.page_table.specs.Pages.{include_path, included}
 use Rattle.page_table.specs.Program.{absent, bad, good, plain, tag_at}
-use Rattle.page_table.specs.Seat.{code_at, code_of, in_tag, nothing, page_run_of, source_text}
+use Rattle.page_table.specs.Seat.{code_at, code_of, in_tag, nothing, page_run_of, program_of as program_in, source_text}
 use Rattle.pg_text.specs.Failure.{Answers}
 use Rattle.pg_text.specs.declared.place.Place.{Place}
 use Rattle.pg_value.specs.Value.{datum_of}
@@ -749,7 +749,7 @@ calls::tag_call-returns-in_default-clause-stepped g t c =
     let p = with_stack c.drop_top.new.self o in
     let rest = ap (λ xs. with_stack xs o) c.drop_top.ensures ∙ ap (λ k. with_stack (drop k o.stack) o) c.len-count.ensures in
     let found = option_map (λ tag. tag_of tag.now) c.tag_at.result in
-    let finds = ap (λ q. tag_at this.path q.tags) (sym c.program.ensures) ∙ sym c.tag_at.ensures in
+    let finds = finds_so this.path (program_of c.program.result.now) (program_in seat) found c.program.ensures c.tag_at.ensures in
     let size : c.args.at.now.pc + 1 + c.size_of.result ≡ next + call_size this = ap (λ k. c.args.at.now.pc + 1 + k) c.size_of.ensures in
     let none : found ≡ None = ap (option_map (λ tag. tag_of tag.now)) c.in_default.is in
     acted_stepped seat (λ serving s. called_out serving seat c.args.at.now.cell.place next (call.Tag this) s o) c.args.world.now c.args.world.now p (flows.Go (c.args.at.now.pc + 1 + c.size_of.result))
@@ -765,7 +765,7 @@ calls::tag_call-enter_call-requires g t c κs within =
     let p = with_stack c.drop_top-2.new.self o in
     let rest = ap (λ xs. with_stack xs o) c.drop_top-2.ensures ∙ ap (λ k. with_stack (drop k o.stack) o) c.len-count.ensures in
     let found = option_map (λ tag. tag_of tag.now) c.tag_at.result in
-    let finds = ap (λ q. tag_at this.path q.tags) (sym c.program.ensures) ∙ sym c.tag_at.ensures in
+    let finds = finds_so this.path (program_of c.program.result.now) (program_in seat) found c.program.ensures c.tag_at.ensures in
     let values = map datum_of c.top.result.now in
     let taken = c.top.ensures ∙ ap (λ k. reverse (take k o.stack)) c.len-count.ensures in
     let tag = tag_of c.in-Some.tag.now in
@@ -783,7 +783,7 @@ calls::tag_call-returns-in-Ok-clause-stepped g t c =
     let p = with_stack c.drop_top-2.new.self o in
     let rest = ap (λ xs. with_stack xs o) c.drop_top-2.ensures ∙ ap (λ k. with_stack (drop k o.stack) o) c.len-count.ensures in
     let found = option_map (λ tag. tag_of tag.now) c.tag_at.result in
-    let finds = ap (λ q. tag_at this.path q.tags) (sym c.program.ensures) ∙ sym c.tag_at.ensures in
+    let finds = finds_so this.path (program_of c.program.result.now) (program_in seat) found c.program.ensures c.tag_at.ensures in
     let values = map datum_of c.top.result.now in
     let taken = c.top.ensures ∙ ap (λ k. reverse (take k o.stack)) c.len-count.ensures in
     let tag = tag_of c.in-Some.tag.now in
@@ -803,7 +803,7 @@ calls::tag_call-returns-in-Err-clause-stepped g t c =
     let p = with_stack c.drop_top-2.new.self o in
     let rest = ap (λ xs. with_stack xs o) c.drop_top-2.ensures ∙ ap (λ k. with_stack (drop k o.stack) o) c.len-count.ensures in
     let found = option_map (λ tag. tag_of tag.now) c.tag_at.result in
-    let finds = ap (λ q. tag_at this.path q.tags) (sym c.program.ensures) ∙ sym c.tag_at.ensures in
+    let finds = finds_so this.path (program_of c.program.result.now) (program_in seat) found c.program.ensures c.tag_at.ensures in
     let values = map datum_of c.top.result.now in
     let taken = c.top.ensures ∙ ap (λ k. reverse (take k o.stack)) c.len-count.ensures in
     let tag = tag_of c.in-Some.tag.now in
