@@ -1,5 +1,5 @@
 -- Behind a run of its own as many frames stand as before it.
-use Rattle.std.proofs.Common.{◌≡◌, ◌≤◌, ℕ, Bool, List, [], ◌∷◌, ◌++◌, length, length-append, sym, ap, subst, arith}
+use Rattle.std.proofs.Common.{◌≡◌, ◌≤◌, ℕ, Bool, List, [], ◌∷◌, ◌++◌, length, length-append, sym, ap, ◌∙◌, subst, arith}
 use Rattle.http_in.specs.declared.params.Param.{Param}
 use Rattle.out_buffer.specs.Writer.{has_committed}
 use Rattle.run_world.specs.Known.{ServesSo, Known}
@@ -24,6 +24,10 @@ use Rattle.page_table.proofs.Pages.{page_begun_keeps}
 use Rattle.page_table.proofs.Tame.{framed}
 use Rattle.scopes.specs.Scopes.{Entries, ScopeState}
 use Rattle.site_words.specs.Law.{Answer}
+
+-- the frames that were counted are those of a world's variables
+pub counted_so : (variables seen : ScopeState) (count : ℕ) → seen ≡ variables → count ≡ length seen.frames → count ≡ length variables.frames
+counted_so variables seen count same counted = counted ∙ ap (λ (v : ScopeState). length v.frames) same
 
 -- runs that take no frame back
 abbrev pub LeaveFrames : (Serving → State → Did → Type 0) → Type 0

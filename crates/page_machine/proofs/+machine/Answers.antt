@@ -17,6 +17,7 @@ use Rattle.page_machine.proofs.Looping.{begins_at, behind_turn, call_as, cell_at
 use Rattle.page_machine.proofs.PageCalls.{import_stepped, include_failed_is, include_stepped, include_unflushed, included_run_grows, page_failed, path_failed, path_on, path_page, ran_page}
 use Rattle.page_machine.proofs.TagCalls.{call_with, deeper_none, entered_grows, entered_move, finds_so, tag_code_fits, tag_deep, tag_failed, tag_gone, tag_made, tag_short}
 use Rattle.page_machine.proofs.OwnParams.{with_params}
+use Rattle.page_machine.proofs.Room.{counted_so}
 use Rattle.page_machine.specs.Pages.{include_found, included_run, params_for}
 use Rattle.page_machine.specs.Turn.{CallBegins, SeatHolds}
 use Rattle.page_meaning.specs.Attributes.{table_of}
@@ -334,7 +335,7 @@ pages::included_page-returns-in_default-clause-stepped g t c =
 pub pages::included_page-enter_page-requires : goal.pages::included_page-enter_page-requires
 pages::included_page-enter_page-requires g t c κs within =
     let laws = g.met.W.World in
-    let counted = c.frames-frames.ensures ∙ ap (λ v. length v.frames) c.scopes.ensures in
+    let counted = counted_so (g.W.World.variables c.args.world.now) c.scopes.result.now c.frames-frames.result c.scopes.ensures c.frames-frames.ensures in
     let known = included_known g.W.World.replies laws.stores_on laws.again laws.tells c.args.at.now.served.now (program_of c.args.start.program.now) c.args.start.params.now c.args.start.left c.frame-frame.result c.frames-frames.result c.args.world.now c.push_frame.new.self c.args.world.now
     c.requires.known c.in-Ok.ensures.ok c.push_frame.ensures.replies c.frame-frame.ensures.current counted in
     search rules
@@ -342,7 +343,7 @@ pages::included_page-enter_page-requires g t c κs within =
 pub pages::included_page-go_back-requires : goal.pages::included_page-go_back-requires
 pages::included_page-go_back-requires g t c =
     let laws = g.met.W.World in
-    let counted = c.frames-frames.ensures ∙ ap (λ v. length v.frames) c.scopes.ensures in
+    let counted = counted_so (g.W.World.variables c.args.world.now) c.scopes.result.now c.frames-frames.result c.scopes.ensures c.frames-frames.ensures in
     let room = included_room g.W.World.replies laws.stores_on laws.again laws.tells c.args.at.now.served.now (program_of c.args.start.program.now) c.args.start.params.now c.args.start.left c.frame-frame.result c.frames-frames.result c.args.world.now c.push_frame.new.self c.enter_page.new.world
     c.requires.known c.in-Ok.ensures.ok c.push_frame.ensures.replies c.frame-frame.ensures.current counted ends.Normal (λ x. Well tt x) normal_is (λ n t h. h) c.in-Normal.ensures.ran in
     let there : c.frame-frame.result < c.frames-frames.result = omega (arith, c.frame-frame.ensures.there, counted) in
@@ -351,7 +352,7 @@ pages::included_page-go_back-requires g t c =
 pub pages::included_page-go_back-requires-in-Raised : goal.pages::included_page-go_back-requires-in-Raised
 pages::included_page-go_back-requires-in-Raised g t c =
     let laws = g.met.W.World in
-    let counted = c.frames-frames.ensures ∙ ap (λ v. length v.frames) c.scopes.ensures in
+    let counted = counted_so (g.W.World.variables c.args.world.now) c.scopes.result.now c.frames-frames.result c.scopes.ensures c.frames-frames.ensures in
     let room = included_room g.W.World.replies laws.stores_on laws.again laws.tells c.args.at.now.served.now (program_of c.args.start.program.now) c.args.start.params.now c.args.start.left c.frame-frame.result c.frames-frames.result c.args.world.now c.push_frame.new.self c.enter_page.new.world
     c.requires.known c.in-Ok.ensures.ok c.push_frame.ensures.replies c.frame-frame.ensures.current counted (ends.Raised c.in-Raised.fault c.in-Raised.place) (λ x. Raised c.in-Raised.fault c.in-Raised.place x) (raised_is c.in-Raised.fault c.in-Raised.place) (λ n t h. h) c.in-Raised.ensures.ran in
     let there : c.frame-frame.result < c.frames-frames.result = omega (arith, c.frame-frame.ensures.there, counted) in
@@ -360,7 +361,7 @@ pages::included_page-go_back-requires-in-Raised g t c =
 pub pages::included_page-go_back-requires-in-Redirect : goal.pages::included_page-go_back-requires-in-Redirect
 pages::included_page-go_back-requires-in-Redirect g t c =
     let laws = g.met.W.World in
-    let counted = c.frames-frames.ensures ∙ ap (λ v. length v.frames) c.scopes.ensures in
+    let counted = counted_so (g.W.World.variables c.args.world.now) c.scopes.result.now c.frames-frames.result c.scopes.ensures c.frames-frames.ensures in
     let room = included_left g.W.World.replies laws.stores_on laws.again laws.tells c.args.at.now.served.now (program_of c.args.start.program.now) c.args.start.params.now c.args.start.left c.frame-frame.result c.frames-frames.result c.args.world.now c.push_frame.new.self c.enter_page.new.world
     c.requires.known c.in-Ok.ensures.ok c.push_frame.ensures.replies c.frame-frame.ensures.current counted c.in-Redirect.field-0 c.bodies-bodies.result c.drop_bodies.new.self c.in-Redirect.ensures.ran c.drop_bodies.ensures.left in
     let there : c.frame-frame.result < c.frames-frames.result = omega (arith, c.frame-frame.ensures.there, counted) in
@@ -369,7 +370,7 @@ pages::included_page-go_back-requires-in-Redirect g t c =
 pub pages::included_page-returns-in-Normal-clause-stepped : goal.pages::included_page-returns-in-Normal-clause-stepped
 pages::included_page-returns-in-Normal-clause-stepped g t c =
     let laws = g.met.W.World in
-    let counted = c.frames-frames.ensures ∙ ap (λ v. length v.frames) c.scopes.ensures in
+    let counted = counted_so (g.W.World.variables c.args.world.now) c.scopes.result.now c.frames-frames.result c.scopes.ensures c.frames-frames.ensures in
     let seat = seat_at c.args.at.now in
     included_on g.W.World.replies laws.stores_on laws.again laws.tells c.args.at.now.served.now (program_of c.args.start.program.now) c.args.start.params.now c.args.start.left c.frame-frame.result c.frames-frames.result c.args.world.now c.push_frame.new.self c.enter_page.new.world
     c.requires.known c.in-Ok.ensures.ok c.push_frame.ensures.replies c.frame-frame.ensures.current counted c.args.at.now.cell.place (c.args.at.now.pc + 1) (open_of c.args.opened.now) seat
@@ -378,7 +379,7 @@ pages::included_page-returns-in-Normal-clause-stepped g t c =
 pub pages::included_page-returns-in-Raised-clause-stepped : goal.pages::included_page-returns-in-Raised-clause-stepped
 pages::included_page-returns-in-Raised-clause-stepped g t c =
     let laws = g.met.W.World in
-    let counted = c.frames-frames.ensures ∙ ap (λ v. length v.frames) c.scopes.ensures in
+    let counted = counted_so (g.W.World.variables c.args.world.now) c.scopes.result.now c.frames-frames.result c.scopes.ensures c.frames-frames.ensures in
     let seat = seat_at c.args.at.now in
     included_thrown g.W.World.replies laws.stores_on laws.again laws.tells c.args.at.now.served.now (program_of c.args.start.program.now) c.args.start.params.now c.args.start.left c.frame-frame.result c.frames-frames.result c.args.world.now c.push_frame.new.self c.enter_page.new.world
     c.requires.known c.in-Ok.ensures.ok c.push_frame.ensures.replies c.frame-frame.ensures.current counted c.args.at.now.cell.place (c.args.at.now.pc + 1) (open_of c.args.opened.now) seat
@@ -388,7 +389,7 @@ pages::included_page-returns-in-Raised-clause-stepped g t c =
 pub pages::included_page-returns-in-Redirect-clause-stepped : goal.pages::included_page-returns-in-Redirect-clause-stepped
 pages::included_page-returns-in-Redirect-clause-stepped g t c =
     let laws = g.met.W.World in
-    let counted = c.frames-frames.ensures ∙ ap (λ v. length v.frames) c.scopes.ensures in
+    let counted = counted_so (g.W.World.variables c.args.world.now) c.scopes.result.now c.frames-frames.result c.scopes.ensures c.frames-frames.ensures in
     let seat = seat_at c.args.at.now in
     included_redirected g.W.World.replies laws.stores_on laws.again laws.tells c.args.at.now.served.now (program_of c.args.start.program.now) c.args.start.params.now c.args.start.left c.frame-frame.result c.frames-frames.result c.args.world.now c.push_frame.new.self c.enter_page.new.world
     c.requires.known c.in-Ok.ensures.ok c.push_frame.ensures.replies c.frame-frame.ensures.current counted c.args.at.now.cell.place (c.args.at.now.pc + 1) (open_of c.args.opened.now) seat
@@ -398,7 +399,7 @@ pages::included_page-returns-in-Redirect-clause-stepped g t c =
 pub pages::included_page-returns-in_default-enter_page-clause-stepped : goal.pages::included_page-returns-in_default-enter_page-clause-stepped
 pages::included_page-returns-in_default-enter_page-clause-stepped g t c =
     let laws = g.met.W.World in
-    let counted = c.frames-frames.ensures ∙ ap (λ v. length v.frames) c.scopes.ensures in
+    let counted = counted_so (g.W.World.variables c.args.world.now) c.scopes.result.now c.frames-frames.result c.scopes.ensures c.frames-frames.ensures in
     let seat = seat_at c.args.at.now in
     included_over g.W.World.replies laws.stores_on laws.again laws.tells c.args.at.now.served.now (program_of c.args.start.program.now) c.args.start.params.now c.args.start.left c.frame-frame.result c.frames-frames.result c.args.world.now c.push_frame.new.self c.enter_page.new.world
     c.requires.known c.in-Ok.ensures.ok c.push_frame.ensures.replies c.frame-frame.ensures.current counted c.args.at.now.cell.place (c.args.at.now.pc + 1) (open_of c.args.opened.now) seat
@@ -591,7 +592,7 @@ calls::given_call-run_code-requires g t c κs within =
     let laws = g.met.W.World in
     let call = call_of c.in-InTag.call.now in
     let caller = seat_of c.in-InTag.caller.now in
-    let counted = c.frames-frames.ensures ∙ ap (λ v. length v.frames) c.scopes.ensures in
+    let counted = counted_so (g.W.World.variables c.copy_out.new.world) c.scopes.result.now c.frames-frames.result c.scopes.ensures c.frames-frames.ensures in
     let more : length (g.W.World.variables c.copy_out.new.world).frames ≤ length (g.W.World.variables c.turn_to.new.self).frames = omega (arith, c.turn_to.ensures.frames) in
     let name = option_map (λ n. n.now) c.args.name in
     let known = given_known laws.stores_on laws.again laws.tells c.args.at.now.served.now call caller c.in-Code.pc c.in-Some.left c.frame-frame.result c.frames-frames.result c.args.world.now c.copy_out.new.world c.turn_to.new.self c.args.world.now c.requires.known
@@ -611,7 +612,7 @@ calls::given_call-go_back-requires g t c =
     let laws = g.met.W.World in
     let call = call_of c.in-InTag.call.now in
     let caller = seat_of c.in-InTag.caller.now in
-    let counted = c.frames-frames.ensures ∙ ap (λ v. length v.frames) c.scopes.ensures in
+    let counted = counted_so (g.W.World.variables c.copy_out.new.world) c.scopes.result.now c.frames-frames.result c.scopes.ensures c.frames-frames.ensures in
     let more : length (g.W.World.variables c.copy_out.new.world).frames ≤ length (g.W.World.variables c.turn_to.new.self).frames = omega (arith, c.turn_to.ensures.frames) in
     let room = given_room laws.stores_on laws.again laws.tells c.args.at.now.served.now call caller c.in-Code.pc c.in-Some.left c.frame-frame.result c.frames-frames.result c.args.world.now c.copy_out.new.world c.turn_to.new.self c.run_code.new.world c.requires.known
     c.in_default-copy_out.ensures.does c.turn_to.ensures.turned c.turn_to.ensures.replies c.frame-frame.ensures.current counted more ends.Normal (λ x. Well tt x) normal_is (λ n t h. h) c.in-Normal.ensures.ran in
@@ -623,7 +624,7 @@ calls::given_call-go_back-requires-in-Raised g t c =
     let laws = g.met.W.World in
     let call = call_of c.in-InTag.call.now in
     let caller = seat_of c.in-InTag.caller.now in
-    let counted = c.frames-frames.ensures ∙ ap (λ v. length v.frames) c.scopes.ensures in
+    let counted = counted_so (g.W.World.variables c.copy_out.new.world) c.scopes.result.now c.frames-frames.result c.scopes.ensures c.frames-frames.ensures in
     let more : length (g.W.World.variables c.copy_out.new.world).frames ≤ length (g.W.World.variables c.turn_to.new.self).frames = omega (arith, c.turn_to.ensures.frames) in
     let room = given_room laws.stores_on laws.again laws.tells c.args.at.now.served.now call caller c.in-Code.pc c.in-Some.left c.frame-frame.result c.frames-frames.result c.args.world.now c.copy_out.new.world c.turn_to.new.self c.run_code.new.world c.requires.known
     c.in_default-copy_out.ensures.does c.turn_to.ensures.turned c.turn_to.ensures.replies c.frame-frame.ensures.current counted more (ends.Raised c.in-Raised.fault c.in-Raised.place) (λ x. Raised c.in-Raised.fault c.in-Raised.place x) (raised_is c.in-Raised.fault c.in-Raised.place) (λ n t h. h) c.in-Raised.ensures.ran in
@@ -684,7 +685,7 @@ calls::given_call-returns-in-Normal-clause-stepped g t c =
     let laws = g.met.W.World in
     let call = call_of c.in-InTag.call.now in
     let caller = seat_of c.in-InTag.caller.now in
-    let counted = c.frames-frames.ensures ∙ ap (λ v. length v.frames) c.scopes.ensures in
+    let counted = counted_so (g.W.World.variables c.copy_out.new.world) c.scopes.result.now c.frames-frames.result c.scopes.ensures c.frames-frames.ensures in
     let more : length (g.W.World.variables c.copy_out.new.world).frames ≤ length (g.W.World.variables c.turn_to.new.self).frames = omega (arith, c.turn_to.ensures.frames) in
     let is = ap seat_of c.in-InTag.is in
     let name = option_map (λ n. n.now) c.args.name in
@@ -699,7 +700,7 @@ calls::given_call-returns-in-Raised-clause-stepped g t c =
     let laws = g.met.W.World in
     let call = call_of c.in-InTag.call.now in
     let caller = seat_of c.in-InTag.caller.now in
-    let counted = c.frames-frames.ensures ∙ ap (λ v. length v.frames) c.scopes.ensures in
+    let counted = counted_so (g.W.World.variables c.copy_out.new.world) c.scopes.result.now c.frames-frames.result c.scopes.ensures c.frames-frames.ensures in
     let more : length (g.W.World.variables c.copy_out.new.world).frames ≤ length (g.W.World.variables c.turn_to.new.self).frames = omega (arith, c.turn_to.ensures.frames) in
     let is = ap seat_of c.in-InTag.is in
     let name = option_map (λ n. n.now) c.args.name in
@@ -715,7 +716,7 @@ calls::given_call-returns-in_default-run_code-clause-stepped g t c =
     let laws = g.met.W.World in
     let call = call_of c.in-InTag.call.now in
     let caller = seat_of c.in-InTag.caller.now in
-    let counted = c.frames-frames.ensures ∙ ap (λ v. length v.frames) c.scopes.ensures in
+    let counted = counted_so (g.W.World.variables c.copy_out.new.world) c.scopes.result.now c.frames-frames.result c.scopes.ensures c.frames-frames.ensures in
     let more : length (g.W.World.variables c.copy_out.new.world).frames ≤ length (g.W.World.variables c.turn_to.new.self).frames = omega (arith, c.turn_to.ensures.frames) in
     let is = ap seat_of c.in-InTag.is in
     let name = option_map (λ n. n.now) c.args.name in
@@ -869,7 +870,7 @@ calls::enter_call-run_code-requires g t c κs within =
     let laws = g.met.W.World in
     let exports = map export_of c.as_slice-exports.result.now in
     let fragments = c.as_slice-2.result.now in
-    let counted = c.frames-frames.ensures ∙ ap (λ v. length v.frames) c.scopes.ensures in
+    let counted = counted_so (g.W.World.variables c.args.world.now) c.scopes.result.now c.frames-frames.result c.scopes.ensures c.frames-frames.ensures in
     let inner = call_with tag this.body fragments next exports c.frame-frame.result in
     let known = entered_known g.W.World.replies laws.stores_on laws.again laws.tells c.args.at.now.served.now c.args.at.now.cell.place this next seat o tag entries exports fragments c.frame-frame.result c.frames-frames.result c.in-Some.left c.args.world.now c.push_frame_of.new.self c.args.world.now c.requires.known c.in-Ok-push_frame_of.ensures.ok c.push_frame_of.ensures.replies
     c.frame-frame.ensures.current c.frame-frame.ensures.there counted in
@@ -895,7 +896,7 @@ calls::enter_call-give_back-requires g t c =
     let laws = g.met.W.World in
     let exports = map export_of c.as_slice-exports.result.now in
     let fragments = c.as_slice-2.result.now in
-    let counted = c.frames-frames.ensures ∙ ap (λ v. length v.frames) c.scopes.ensures in
+    let counted = counted_so (g.W.World.variables c.args.world.now) c.scopes.result.now c.frames-frames.result c.scopes.ensures c.frames-frames.ensures in
     let room = entered_room g.W.World.replies laws.stores_on laws.again laws.tells c.args.at.now.served.now c.args.at.now.cell.place this next seat o tag entries exports fragments c.frame-frame.result c.frames-frames.result c.in-Some.left c.args.world.now c.push_frame_of.new.self c.run_code.new.world c.requires.known c.in-Ok-push_frame_of.ensures.ok c.push_frame_of.ensures.replies
     c.frame-frame.ensures.current c.frame-frame.ensures.there counted ends.Normal (λ x. Well tt x) normal_is (λ n t h. h) c.in-Normal.ensures.ran in
     let there : c.frame-frame.result < c.frames-frames.result = omega (arith, c.frame-frame.ensures.there, counted) in
@@ -913,7 +914,7 @@ calls::enter_call-go_back-requires g t c =
     let laws = g.met.W.World in
     let exports = map export_of c.as_slice-exports.result.now in
     let fragments = c.as_slice-2.result.now in
-    let counted = c.frames-frames.ensures ∙ ap (λ v. length v.frames) c.scopes.ensures in
+    let counted = counted_so (g.W.World.variables c.args.world.now) c.scopes.result.now c.frames-frames.result c.scopes.ensures c.frames-frames.ensures in
     let room = entered_room g.W.World.replies laws.stores_on laws.again laws.tells c.args.at.now.served.now c.args.at.now.cell.place this next seat o tag entries exports fragments c.frame-frame.result c.frames-frames.result c.in-Some.left c.args.world.now c.push_frame_of.new.self c.run_code.new.world c.requires.known c.in-Ok-push_frame_of.ensures.ok c.push_frame_of.ensures.replies
     c.frame-frame.ensures.current c.frame-frame.ensures.there counted ends.Normal (λ x. Well tt x) normal_is (λ n t h. h) c.in-Normal.ensures.ran in
     let there : c.frame-frame.result < c.frames-frames.result = omega (arith, c.frame-frame.ensures.there, counted) in
@@ -931,7 +932,7 @@ calls::enter_call-go_back-requires-in-Raised g t c =
     let laws = g.met.W.World in
     let exports = map export_of c.as_slice-exports.result.now in
     let fragments = c.as_slice-2.result.now in
-    let counted = c.frames-frames.ensures ∙ ap (λ v. length v.frames) c.scopes.ensures in
+    let counted = counted_so (g.W.World.variables c.args.world.now) c.scopes.result.now c.frames-frames.result c.scopes.ensures c.frames-frames.ensures in
     let room = entered_room g.W.World.replies laws.stores_on laws.again laws.tells c.args.at.now.served.now c.args.at.now.cell.place this next seat o tag entries exports fragments c.frame-frame.result c.frames-frames.result c.in-Some.left c.args.world.now c.push_frame_of.new.self c.run_code.new.world c.requires.known c.in-Ok-push_frame_of.ensures.ok c.push_frame_of.ensures.replies
     c.frame-frame.ensures.current c.frame-frame.ensures.there counted (ends.Raised c.in-Raised.fault c.in-Raised.place) (λ x. Raised c.in-Raised.fault c.in-Raised.place x) (raised_is c.in-Raised.fault c.in-Raised.place) (λ n t h. h) c.in-Raised.ensures.ran in
     let there : c.frame-frame.result < c.frames-frames.result = omega (arith, c.frame-frame.ensures.there, counted) in
@@ -948,7 +949,7 @@ calls::enter_call-returns-in-Ok-give_back-clause-stepped g t c =
     let laws = g.met.W.World in
     let exports = map export_of c.as_slice-exports.result.now in
     let fragments = c.as_slice-2.result.now in
-    let counted = c.frames-frames.ensures ∙ ap (λ v. length v.frames) c.scopes.ensures in
+    let counted = counted_so (g.W.World.variables c.args.world.now) c.scopes.result.now c.frames-frames.result c.scopes.ensures c.frames-frames.ensures in
     let level : c.args.opened.now.left ≡ suc c.in-Some.left = omega (arith, c.in-Some.ensures) in
     let made = ap (map export_of) c.as_slice-exports.ensures.value ∙ c.in-Ok.ensures ∙ ap (exports_of entries) c.as_slice.ensures in
     entered_on g.W.World.replies laws.stores_on laws.again laws.tells c.args.at.now.served.now c.args.at.now.cell.place this next seat o tag entries exports fragments c.frame-frame.result c.frames-frames.result c.in-Some.left c.args.world.now c.push_frame_of.new.self c.run_code.new.world c.requires.known c.in-Ok-push_frame_of.ensures.ok c.push_frame_of.ensures.replies
@@ -969,7 +970,7 @@ calls::enter_call-returns-in-Normal-clause-stepped g t c =
     let laws = g.met.W.World in
     let exports = map export_of c.as_slice-exports.result.now in
     let fragments = c.as_slice-2.result.now in
-    let counted = c.frames-frames.ensures ∙ ap (λ v. length v.frames) c.scopes.ensures in
+    let counted = counted_so (g.W.World.variables c.args.world.now) c.scopes.result.now c.frames-frames.result c.scopes.ensures c.frames-frames.ensures in
     let level : c.args.opened.now.left ≡ suc c.in-Some.left = omega (arith, c.in-Some.ensures) in
     let made = ap (map export_of) c.as_slice-exports.ensures.value ∙ c.in-Ok.ensures ∙ ap (exports_of entries) c.as_slice.ensures in
     entered_failed g.W.World.replies laws.stores_on laws.again laws.tells c.args.at.now.served.now c.args.at.now.cell.place this next seat o tag entries exports fragments c.frame-frame.result c.frames-frames.result c.in-Some.left c.args.world.now c.push_frame_of.new.self c.run_code.new.world c.requires.known c.in-Ok-push_frame_of.ensures.ok c.push_frame_of.ensures.replies
@@ -990,7 +991,7 @@ calls::enter_call-returns-in-Raised-clause-stepped g t c =
     let laws = g.met.W.World in
     let exports = map export_of c.as_slice-exports.result.now in
     let fragments = c.as_slice-2.result.now in
-    let counted = c.frames-frames.ensures ∙ ap (λ v. length v.frames) c.scopes.ensures in
+    let counted = counted_so (g.W.World.variables c.args.world.now) c.scopes.result.now c.frames-frames.result c.scopes.ensures c.frames-frames.ensures in
     let level : c.args.opened.now.left ≡ suc c.in-Some.left = omega (arith, c.in-Some.ensures) in
     let made = ap (map export_of) c.as_slice-exports.ensures.value ∙ c.in-Ok.ensures ∙ ap (exports_of entries) c.as_slice.ensures in
     entered_thrown g.W.World.replies laws.stores_on laws.again laws.tells c.args.at.now.served.now c.args.at.now.cell.place this next seat o tag entries exports fragments c.frame-frame.result c.frames-frames.result c.in-Some.left c.args.world.now c.push_frame_of.new.self c.run_code.new.world c.requires.known c.in-Ok-push_frame_of.ensures.ok c.push_frame_of.ensures.replies
@@ -1009,7 +1010,7 @@ calls::enter_call-returns-clause-stepped g t c =
     let laws = g.met.W.World in
     let exports = map export_of c.as_slice-exports.result.now in
     let fragments = c.as_slice-2.result.now in
-    let counted = c.frames-frames.ensures ∙ ap (λ v. length v.frames) c.scopes.ensures in
+    let counted = counted_so (g.W.World.variables c.args.world.now) c.scopes.result.now c.frames-frames.result c.scopes.ensures c.frames-frames.ensures in
     let level : c.args.opened.now.left ≡ suc c.in-Some.left = omega (arith, c.in-Some.ensures) in
     let made = ap (map export_of) c.as_slice-exports.ensures.value ∙ c.in-Ok.ensures ∙ ap (exports_of entries) c.as_slice.ensures in
     entered_over g.W.World.replies laws.stores_on laws.again laws.tells c.args.at.now.served.now c.args.at.now.cell.place this next seat o tag entries exports fragments c.frame-frame.result c.frames-frames.result c.in-Some.left c.args.world.now c.push_frame_of.new.self c.run_code.new.world c.requires.known c.in-Ok-push_frame_of.ensures.ok c.push_frame_of.ensures.replies
