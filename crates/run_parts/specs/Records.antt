@@ -2,19 +2,26 @@
 use Rattle.std.specs.Prelude.{◌≡◌, List, Option, Some, None, ⊤}
 use Rattle.http_in.specs.declared.params.Param.{Param}
 use Rattle.http_in.specs.declared.request.Request.{Request}
+use Rattle.page_code.specs.declared.operands.HeaderObject.TheVariants as object
 use Rattle.page_meaning.specs.Request.{all_values, cookie_records, first_values}
-use Rattle.pg_value.specs.Datum.{Datum, entries_of, rec}
-use Rattle.pg_value.specs.Value.{datum_of}
-use Rattle.pg_value.specs.declared.value.Value.{Value}
+use Rattle.run_parts.specs.declared.request_records.FieldRecords.{FieldRecords}
 use Rattle.run_parts.specs.declared.request_records.RequestRecords.{RequestRecords}
+use Rattle.run_values.specs.Objects.{header_entries}
+use Rattle.scopes.specs.Scopes.{Entries}
 
--- what is kept, where it was made, is this
-abbrev pub IsKept : Datum → Option Value → Type 0
-IsKept d None = ⊤
-IsKept d (Some value) = datum_of value ≡ d
+-- what is kept, where it was made, has these entries
+abbrev pub IsKept : Entries → Option Entries → Type 0
+IsKept es None = ⊤
+IsKept es (Some made) = made ≡ es
+
+-- each record of fields that was made is that of this request
+pub record AreFieldsOf (request : Request) (records : FieldRecords) : Type 0 where
+  pub header : IsKept (header_entries request object.Header) records.header
+  pub header_values : IsKept (header_entries request object.HeaderValues) records.header_values
 
 -- each record that was made is that of this request and these parameters
 pub record IsRecordsOf (request : Request) (params : List Param) (records : RequestRecords) : Type 0 where
-  pub param : IsKept (rec (entries_of (first_values params))) records.param
-  pub param_values : IsKept (rec (entries_of (all_values params))) records.param_values
-  pub cookie : IsKept (rec (entries_of (cookie_records request))) records.cookie
+  pub param : IsKept (first_values params) records.param
+  pub param_values : IsKept (all_values params) records.param_values
+  pub fields : AreFieldsOf request records.fields
+  pub cookie : IsKept (cookie_records request) records.cookie

@@ -23,7 +23,7 @@ pub use exports::{Change, copy_out, exports_of, give_back, nested_changes};
 pub use given::{Given, body_given, fragment_given};
 pub use operations::{count_visits, operate, values_taken};
 pub use output::put_escaped;
-pub use request_records::RequestRecords;
+pub use request_records::{FieldRecords, RequestRecords};
 pub use set_properties::{find_property, write_back};
 pub use targets::{target_params, target_path};
 pub use variables::find;

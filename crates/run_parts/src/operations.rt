@@ -19,15 +19,16 @@ ghost use Rattle.run_world.specs.Seats.{seat_of};
 use crate::applied::Applied;
 use crate::objects::{implicit_value, scope_entry};
 use crate::output::put_escaped;
+use crate::request_objects::header_entry;
 use crate::request_records::RequestRecords;
-use crate::set_properties::{get_property, set_property};
+use crate::set_properties::{PropertyChange, get_property, set_property};
 use crate::variables::{assign, find, unassign, unassign_all};
 use el_ops::{binary, index, unary};
 use jstl_functions::call;
 use page_code::{Op, ScopedName};
 use pg_text::Failure;
 use pg_value::{BinOp, RunFault, Value};
-use run_values::{coerced, header_entry, joined, list_of, record_of, text_of, url};
+use run_values::{coerced, joined, list_of, record_of, text_of, url};
 use run_world::{Seat, Served, World};
 use std::alloc::Global;
 
@@ -149,11 +150,17 @@ pub fn operate<W: World>(
         Op::SetVar(variable) => none(set_or_remove(variable, &args[0], world)),
         Op::RemoveVar(variable) => none(unassign(variable.scope, &variable.name, world)),
         Op::RemoveAll(name) => none(unassign_all(name, world)),
-        Op::SetProperty(name, mode) => none(set_property(alloc, seat, name, mode, args, world)),
+        Op::SetProperty(name, mode) => {
+            let change = PropertyChange { name, mode, args };
+            none(set_property(alloc, seat, &mut records.param, &change, world))
+        }
         Op::GetProperty(name) => one(get_property(name, text_of(&args[0]), world)),
         Op::Find(name) => one(find(seat.is_strict(), name, world)),
         Op::Implicit(object) => one(implicit_value(alloc, served, seat, records, *object, world)),
-        Op::HeaderIndex(object) => one(header_entry(alloc, served.request, *object, &args[0])),
+        Op::HeaderIndex(object) => {
+            let kept = &mut records.fields;
+            one(header_entry(alloc, served.request, *object, kept, &args[0]))
+        }
         Op::ScopeIndex(scope) => one(scope_entry(alloc, *scope, &args[0], world)),
         op => one(compute(alloc, op, args)),
     }

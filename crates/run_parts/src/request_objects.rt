@@ -1,17 +1,20 @@
 // What a page sees of its request, and of its fault and its session, as values.
 ghost use Rattle.std.specs.Prelude.{◌≡◌, map, option_map, IfOk};
 ghost use Rattle.page_meaning.specs.Implicit.{exception_datum};
+ghost use Rattle.pg_text.specs.Failure.{AnswersAs};
 ghost use Rattle.pg_value.specs.Value.{datum_of};
 ghost use Rattle.run_parts.specs.Objects.{page_context_of, request_value};
-ghost use Rattle.run_parts.specs.Records.{IsRecordsOf};
+ghost use Rattle.run_parts.specs.Records.{AreFieldsOf, IsRecordsOf};
+ghost use Rattle.run_values.specs.Objects.{header_answer};
 ghost use Rattle.run_world.specs.Seats.{raise_of};
 
-use crate::request_records::{RequestRecords, cookie, param, param_values};
-use http_in::Param;
-use page_code::Implicit;
-use pg_text::Text;
-use pg_value::{Attrs, Value};
-use run_values::{fault_record, headers, put, record, request_record, session_value};
+use crate::request_records::{FieldRecords, RequestRecords, cookie, header, param, param_values};
+use el_coercion::to_text;
+use http_in::{Param, Request};
+use page_code::{HeaderObject, Implicit};
+use pg_text::{Failure, Text};
+use pg_value::{Attrs, RunFault, Value};
+use run_values::{fault_record, put, record, request_record, session_value};
 use run_world::{Raise, Served};
 use std::alloc::{AllocError, Global};
 
@@ -61,11 +64,43 @@ pub(crate) fn request_value(
 {
     match object {
         Implicit::PageContext => page_context(alloc, served, id),
-        Implicit::Param => param(alloc, params, &mut records.param),
-        Implicit::ParamValues => param_values(alloc, params, &mut records.param_values),
-        Implicit::Header(object) => record(headers(alloc, served.request, object)?),
-        Implicit::Cookie => cookie(alloc, served.request, &mut records.cookie),
+        Implicit::Param => Ok(Value::Rec(param(alloc, params, &mut records.param)?)),
+        Implicit::ParamValues => {
+            let made = param_values(alloc, params, &mut records.param_values)?;
+            Ok(Value::Rec(made))
+        }
+        Implicit::Header(object) => {
+            let made = header(alloc, served.request, object, &mut records.fields)?;
+            Ok(Value::Rec(made))
+        }
+        Implicit::Cookie => {
+            let made = cookie(alloc, served.request, &mut records.cookie)?;
+            Ok(Value::Rec(made))
+        }
         Implicit::InitParam => record(Attrs::empty(alloc)),
         Implicit::Scope(_) => Ok(Value::Null),
+    }
+}
+
+// The entry of an object of the request's fields under a value, in lower case; null under null:
+// X20.
+pub(crate) fn header_entry(
+    alloc: Global,
+    request: &Request,
+    object: HeaderObject,
+    kept: &mut FieldRecords,
+    key: &Value,
+) -> Result<Value, Failure<RunFault>>
+    requires kept { AreFieldsOf request.now kept.old }
+    ensures answer { AnswersAs datum_of (header_answer request.now object (datum_of key.now)) result }
+    ensures kept { AreFieldsOf request.now kept.new }
+{
+    if let Value::Null = key {
+        return Ok(Value::Null);
+    }
+    let name = to_text(alloc, key)?.as_str().to_ascii_lowercase(alloc)?;
+    match header(alloc, request, object, kept)?.get(&name) {
+        Some(value) => Ok(value.copy()?),
+        None => Ok(Value::Null),
     }
 }

@@ -3,6 +3,7 @@ ghost use Rattle.std.specs.Prelude.{◌≡◌, [], ◌∷◌, length, map};
 ghost use Rattle.page_code.specs.Ops.{mode_takes};
 ghost use Rattle.page_code.specs.declared.operands.PropertyMode.TheVariants as mode;
 ghost use Rattle.page_meaning.specs.Beans.{property_of};
+ghost use Rattle.page_meaning.specs.Request.{first_values};
 ghost use Rattle.page_meaning.specs.Variables.{look_up};
 ghost use Rattle.page_meaning.specs.Went.{then_do, result_of};
 ghost use Rattle.page_table.specs.Operations.{property_set};
@@ -10,18 +11,20 @@ ghost use Rattle.page_table.specs.Seat.{page_run_of};
 ghost use Rattle.pg_value.specs.Value.{datum_of};
 ghost use Rattle.run_parts.specs.Operations.{ModeHasOnePlace};
 ghost use Rattle.run_parts.specs.Properties.{found_property, put_back, written};
+ghost use Rattle.run_parts.specs.Records.{IsKept};
 ghost use Rattle.run_values.specs.Properties.{found_of};
 ghost use Rattle.run_world.specs.Part.{Doing};
 ghost use Rattle.run_world.specs.Seats.{seat_of};
 
+use crate::request_records::param;
 use crate::variables::{assign, look_up};
 use http_in::Param;
 use page_code::{Name, PropertyMode, Shared};
 use pg_text::{Failure, Text};
-use pg_value::{Attrs, RunFault, Scope, Value};
+use pg_value::{Record, RunFault, Scope, Value};
 use run_values::{
-    FoundProperty, changed_all, changed_one, first_values, measured_record, property_found,
-    property_of, property_replaced, text_of,
+    FoundProperty, changed_all, changed_one, measured_record, property_found, property_of,
+    property_replaced, text_of,
 };
 use run_world::{Seat, World};
 use std::alloc::Global;
@@ -45,7 +48,7 @@ pub fn find_property<W: World>(
 fn write_record<W: World>(
     scope: Scope,
     name: &Name,
-    entries: Attrs,
+    entries: Record,
     world: &mut W,
 ) -> Result<(), Failure<RunFault>>
     requires covered { W.covered world.old }
@@ -113,72 +116,110 @@ fn set_entry<W: World>(
     assign(found.0, name, made, world)
 }
 
-// Sets all properties by the parameters of their names.
+// Sets all properties by the parameters of their names, whose record is kept.
 fn set_all<W: World>(
     alloc: Global,
     name: &Name,
     params: &[Param],
+    kept: &mut Option<Record>,
     world: &mut W,
 ) -> Result<(), Failure<RunFault>>
     requires covered { W.covered world.old }
+    requires kept { IsKept (first_values params.now) kept.old }
     ensures covered { W.covered world.new }
+    ensures kept { IsKept (first_values params.now) kept.new }
     ensures does { Doing W.reached W.replies (λ u. u)
         (λ place. property_set place name.now mode.Parameters params.now []) world.old world.new result }
 {
-    let params = first_values(alloc, params)?;
+    let values = param(alloc, params, kept)?;
     let found = look_up(name, world)?;
-    let changed = changed_all(alloc, &params, &found.1)?;
+    let changed = changed_all(alloc, &values, &found.1)?;
     write_record(found.0, name, changed, world)
 }
 
-// Sets a property by a parameter; one that is empty or absent changes nothing.
+/// A property of the variable of a name, with the parameter that sets it.
+#[derive(Clone, Copy)]
+struct ByParameter<'a> {
+    name: &'a Name,
+    property: &'a Text,
+    parameter: &'a Text,
+}
+
+// Sets a property by a parameter, of the record that is kept; one that is empty or absent changes
+// nothing.
 fn set_one<W: World>(
     alloc: Global,
-    name: &Name,
-    property: &Text,
-    parameter: &Text,
+    setting: &ByParameter,
     params: &[Param],
+    kept: &mut Option<Record>,
     world: &mut W,
 ) -> Result<(), Failure<RunFault>>
     requires covered { W.covered world.old }
+    requires kept { IsKept (first_values params.now) kept.old }
     ensures covered { W.covered world.new }
-    ensures does { Doing W.reached W.replies (λ u. u) (λ place. property_set place name.now
-        (mode.Parameter property.now parameter.now) params.now []) world.old world.new result }
+    ensures kept { IsKept (first_values params.now) kept.new }
+    ensures does { Doing W.reached W.replies (λ u. u) (λ place. property_set place setting.now.name.now
+        (mode.Parameter setting.now.property.now setting.now.parameter.now) params.now [])
+        world.old world.new result }
 {
-    let params = first_values(alloc, params)?;
+    let ByParameter {
+        name,
+        property,
+        parameter,
+    } = *setting;
+    let values = param(alloc, params, kept)?;
     let found = look_up(name, world)?;
-    match changed_one(alloc, &params, property, parameter, &found.1)? {
+    match changed_one(alloc, &values, property, parameter, &found.1)? {
         Some(changed) => write_record(found.0, name, changed, world),
         None => Ok(()),
     }
 }
 
-// Sets properties of the variable of a name, but for one whose value has a place of its own.
+/// A change of properties of the variable of a name, with the values that it takes.
+#[derive(Clone, Copy)]
+pub(crate) struct PropertyChange<'a> {
+    pub name: &'a Name,
+    pub mode: &'a Shared<PropertyMode>,
+    pub args: &'a [Value],
+}
+
+// Sets properties of the variable of a name, but for one whose value has a place of its own. The
+// first values of the parameters are kept.
 pub(crate) fn set_property<W: World>(
     alloc: Global,
     seat: &Seat,
-    name: &Name,
-    mode: &Shared<PropertyMode>,
-    args: &[Value],
+    kept: &mut Option<Record>,
+    change: &PropertyChange,
     world: &mut W,
 ) -> Result<(), Failure<RunFault>>
     requires covered { W.covered world.old }
-    requires args { length args.now ≡ mode_takes mode.now }
-    requires placed { ModeHasOnePlace mode.now }
+    requires kept { IsKept (first_values (page_run_of (seat_of seat.now)).params) kept.old }
+    requires args { length change.now.args.now ≡ mode_takes change.now.mode.now }
+    requires placed { ModeHasOnePlace change.now.mode.now }
     ensures covered { W.covered world.new }
-    ensures does { Doing W.reached W.replies (λ u. u) (λ place. property_set place name.now mode.now
-        (page_run_of (seat_of seat.now)).params (map datum_of args.now)) world.old world.new result }
+    ensures kept { IsKept (first_values (page_run_of (seat_of seat.now)).params) kept.new }
+    ensures does { Doing W.reached W.replies (λ u. u) (λ place. property_set place change.now.name.now
+        change.now.mode.now (page_run_of (seat_of seat.now)).params (map datum_of change.now.args.now))
+        world.old world.new result }
 {
-    match (mode.get(), args) {
+    let name = change.name;
+    match (change.mode.get(), change.args) {
         (PropertyMode::Entry, [key, new]) => set_entry(alloc, name, key, new, world),
-        (PropertyMode::Parameters, _) => set_all(alloc, name, seat.params(), world),
+        (PropertyMode::Parameters, _) => set_all(alloc, name, seat.params(), kept, world),
         (
             PropertyMode::Parameter {
                 property,
                 parameter,
             },
             _,
-        ) => set_one(alloc, name, property, parameter, seat.params(), world),
+        ) => {
+            let setting = ByParameter {
+                name,
+                property,
+                parameter,
+            };
+            set_one(alloc, &setting, seat.params(), kept, world)
+        }
         _ => unreachable!(),
     }
 }

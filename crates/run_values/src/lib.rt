@@ -28,9 +28,7 @@ pub use properties::{
     property_replaced, replaced,
 };
 pub use records::{put, record};
-pub use request::{
-    all_values, before_query, first_values, header_entry, headers, request_record, session_value,
-};
+pub use request::{all_values, before_query, first_values, headers, request_record, session_value};
 pub use rounds::{Items, Mark, Rounds};
 pub use statuses::Statuses;
 pub use texts::text_of;

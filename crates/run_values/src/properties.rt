@@ -45,7 +45,7 @@ pub fn replaced(alloc: Global, old: &Value, new: &Value) -> Result<Value, Failur
 // value whose parameter is empty or absent.
 fn by_parameter(
     alloc: Global,
-    params: &Attrs,
+    params: &Record,
     name: &Text,
     old: &Value,
 ) -> Result<Value, Failure<RunFault>>
@@ -90,7 +90,7 @@ fn filled(value: Option<&Value>) -> Option<&Value>
 // X20.
 fn these_by_parameters(
     alloc: Global,
-    params: &Attrs,
+    params: &Record,
     properties: &[(Text, Value)],
     entries: Attrs,
 ) -> Result<Attrs, Failure<RunFault>>
@@ -108,7 +108,7 @@ fn these_by_parameters(
 // X2, X4, X20.
 fn all_by_parameters(
     alloc: Global,
-    params: &Attrs,
+    params: &Record,
     record: &Record,
 ) -> Result<Attrs, Failure<RunFault>>
     ensures { Answers (all_by_parameters params.now record.now record.now) result }
@@ -153,24 +153,29 @@ fn with_property(name: &Text, new: &Value, entries: Record) -> Result<Record, Al
 
 /// The entries of a record, with all its properties set by the parameters of their names: X14 of
 /// another value, X1, X2, X4, X20.
-pub fn changed_all(alloc: Global, params: &Attrs, value: &Value) -> Result<Attrs, Failure<RunFault>>
+pub fn changed_all(
+    alloc: Global,
+    params: &Record,
+    value: &Value,
+) -> Result<Record, Failure<RunFault>>
     ensures { Answers (changed_all params.now (datum_of value.now)) result }
 {
     let Value::Rec(record) = value else {
         return Err(Failure::Fault(RunFault::NotARecord));
     };
-    all_by_parameters(alloc, params, record)
+    let changed = all_by_parameters(alloc, params, record)?;
+    Ok(Record::new(changed)?)
 }
 
 /// The entries of a record, with a property set by a parameter, or None where that is empty or
-/// absent: X14 of another value, X5, X1, X2, X4, X20.
+/// absent: X14 of another value, X5, X1, X2, X4, X20. They are changed as [`Record::insert`] does.
 pub fn changed_one(
     alloc: Global,
-    params: &Attrs,
+    params: &Record,
     property: &Text,
     parameter: &Text,
     value: &Value,
-) -> Result<Option<Attrs>, Failure<RunFault>>
+) -> Result<Option<Record>, Failure<RunFault>>
     ensures { Answers (changed_one params.now property.now parameter.now (datum_of value.now)) result }
 {
     let Value::Rec(record) = value else {
@@ -181,7 +186,7 @@ pub fn changed_one(
         return Ok(None);
     };
     let new = replaced(alloc, &old, new)?;
-    let mut entries = record.copy()?.into_attrs()?;
+    let mut entries = record.copy()?;
     entries.insert(property.copy()?, new)?;
     Ok(Some(entries))
 }
@@ -190,7 +195,7 @@ pub fn changed_one(
 #[derive(Drop)]
 pub struct FoundProperty {
     pub scope: Scope,
-    pub entries: Attrs,
+    pub entries: Record,
     pub old: Value,
 }
 
@@ -208,14 +213,14 @@ pub fn property_found(
     Ok(FoundProperty {
         scope,
         old: property_of(property.as_str(), value)?,
-        entries: record.copy()?.into_attrs()?,
+        entries: record.copy()?,
     })
 }
 
 /// The record of these entries: X20.
-pub fn measured_record(entries: Attrs) -> Result<Value, Failure<RunFault>>
+pub fn measured_record(entries: Record) -> Result<Value, Failure<RunFault>>
     ensures answer { AnswersAs datum_of (measured (rec (entries_of entries))) result }
     ensures some { IfOk result (λ made. datum_of made ≢ null) }
 {
-    measured(Value::Rec(Record::new(entries)?))
+    measured(Value::Rec(entries))
 }

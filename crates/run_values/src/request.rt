@@ -1,19 +1,17 @@
 ghost use Rattle.std.specs.Prelude.{◌≡◌, map, option_map, IfOk};
-ghost use Rattle.run_values.specs.Objects.{header_answer, header_entries};
+ghost use Rattle.run_values.specs.Objects.{header_entries};
 ghost use Rattle.http_in.specs.Target.{before_query};
 ghost use Rattle.page_meaning.specs.Implicit.{session_datum};
 ghost use Rattle.page_meaning.specs.Request.{all_values, first_values, header_texts, param_entry};
 ghost use Rattle.page_meaning.specs.Request.{request_record};
-ghost use Rattle.pg_text.specs.Failure.{AnswersAs};
 ghost use Rattle.pg_value.specs.Value.{datum_of, entry_of};
 
 use crate::name_lists::lists_by_name;
 use crate::records::{copied_value, put, record, text_or_null, text_value};
-use el_coercion::to_text;
 use http_in::{Param, Request};
 use page_code::HeaderObject;
-use pg_text::{Failure, Listed, Text};
-use pg_value::{Attrs, RunFault, Value};
+use pg_text::{Listed, Text};
+use pg_value::{Attrs, Value};
 use std::alloc::{AllocError, Global};
 
 /// Each name with the first of its values, as `param` has them.
@@ -101,26 +99,6 @@ pub fn session_value(alloc: Global, id: Option<&Text>) -> Result<Value, AllocErr
     let mut entries = Attrs::empty(alloc);
     put(alloc, &mut entries, "id", text_value(id)?)?;
     record(entries)
-}
-
-/// The entry of an object of the request's fields under a value, in lower case; null under null:
-/// X20.
-pub fn header_entry(
-    alloc: Global,
-    request: &Request,
-    object: HeaderObject,
-    key: &Value,
-) -> Result<Value, Failure<RunFault>>
-    ensures { AnswersAs datum_of (header_answer request.now object (datum_of key.now)) result }
-{
-    if let Value::Null = key {
-        return Ok(Value::Null);
-    }
-    let name = to_text(alloc, key)?.as_str().to_ascii_lowercase(alloc)?;
-    match headers(alloc, request, object)?.get(&name) {
-        Some(value) => Ok(value.copy()?),
-        None => Ok(Value::Null),
-    }
 }
 
 /// A target without its query.

@@ -108,7 +108,7 @@ returns-in-HeaderIndex-clause-does g c serving serves =
     op_one serving (seat_of c.args.seat.now) c.args.applied.op.now (op.HeaderIndex c.in-HeaderIndex.object) (map datum_of c.args.applied.args.now) c.args.world.now c.args.world.now c.one-in-HeaderIndex.result c.in-HeaderIndex.is c.header_entry.result c.one-in-HeaderIndex.ensures
     (λ place s. header_is serving (seat_of c.args.seat.now) place c.in-HeaderIndex.object (map datum_of c.args.applied.args.now) s)
     (result_doing c.args.world.now (header_answer serving.request c.in-HeaderIndex.object (value_at 0 (map datum_of c.args.applied.args.now))) c.header_entry.result
-    (subst (λ e. AnswersAs datum_of e c.header_entry.result) (sym asks) c.header_entry.ensures))
+    (subst (λ e. AnswersAs datum_of e c.header_entry.result) (sym asks) c.header_entry.ensures.answer))
 
 pub returns-in-ScopeIndex-clause-does : goal.returns-in-ScopeIndex-clause-does
 returns-in-ScopeIndex-clause-does g c serving serves =

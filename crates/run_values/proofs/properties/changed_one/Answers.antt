@@ -13,5 +13,5 @@ returns c =
     (datum_of c.in_ok-new.new) property parameter c.in_ok-new.ensures in
     same
     ∙ ap (λ es. Ok (Some es))
-    (sym (c.in_ok-insert.ensures.ok ∙ ap (λ name. with_entry c.in_ok-entries.entries name (datum_of c.in_ok-new.new)) c.in_ok-copy-2.ensures
-    ∙ ap (λ es. with_entry es c.args.property.now (datum_of c.in_ok-new.new)) (c.in_ok-entries.ensures ∙ c.in_ok-copy.ensures)))
+    (sym (c.in_ok-insert.ensures.ok ∙ ap (λ name. with_entry c.in_ok-entries.entries name (datum_of c.in_ok-new.new)) c.in_ok-copy.ensures
+    ∙ ap (λ es. with_entry es c.args.property.now (datum_of c.in_ok-new.new)) c.in_ok-entries.ensures))

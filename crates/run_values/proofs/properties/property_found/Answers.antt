@@ -8,4 +8,4 @@ pub returns : goal.returns
 returns c =
     let property = sym (ap (λ name. property_of name (datum_of c.args.value.now)) c.as_str.ensures) ∙ c.in_ok-property_of.ensures in
     property_found_is c.args.value.now c.in-Rec.record c.in-Rec.is c.args.property.now c.args.scope (datum_of c.in_ok-property_of.field-0) property
-    ∙ ap (λ es. Ok (record { scope = c.args.scope; entries = es; old = datum_of c.in_ok-property_of.field-0 })) (sym (c.in_ok-into_attrs.ensures ∙ c.in_ok-copy.ensures))
+    ∙ ap (λ es. Ok (record { scope = c.args.scope; entries = es; old = datum_of c.in_ok-property_of.field-0 })) (sym c.in_ok-copy.ensures)
