@@ -25,6 +25,10 @@ use Rattle.page_table.proofs.Tame.{framed}
 use Rattle.scopes.specs.Scopes.{Entries, ScopeState}
 use Rattle.site_words.specs.Law.{Answer}
 
+-- what two functions give is the same under other names
+pub between : {A B C : Type 0} (f : A → B) (h : C → B) (x y : A) (u v : C) → x ≡ y → f y ≡ h u → u ≡ v → f x ≡ h v
+between f h x y u v first same last = ap f first ∙ same ∙ ap h last
+
 -- the frames that were counted are those of a world's variables
 pub counted_so : (variables seen : ScopeState) (count : ℕ) → seen ≡ variables → count ≡ length seen.frames → count ≡ length variables.frames
 counted_so variables seen count same counted = counted ∙ ap (λ (v : ScopeState). length v.frames) same

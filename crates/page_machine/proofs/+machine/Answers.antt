@@ -17,7 +17,7 @@ use Rattle.page_machine.proofs.Looping.{begins_at, behind_turn, call_as, cell_at
 use Rattle.page_machine.proofs.PageCalls.{import_stepped, include_failed_is, include_stepped, include_unflushed, included_run_grows, page_failed, path_failed, path_on, path_page, ran_page}
 use Rattle.page_machine.proofs.TagCalls.{call_with, deeper_none, entered_grows, entered_move, finds_so, tag_code_fits, tag_deep, tag_failed, tag_gone, tag_made, tag_short}
 use Rattle.page_machine.proofs.OwnParams.{with_params}
-use Rattle.page_machine.proofs.Room.{counted_so}
+use Rattle.page_machine.proofs.Room.{between, counted_so}
 use Rattle.page_machine.specs.Pages.{include_found, included_run, params_for}
 use Rattle.page_machine.specs.Turn.{CallBegins, SeatHolds}
 use Rattle.page_meaning.specs.Attributes.{table_of}
@@ -33,7 +33,7 @@ use Rattle.page_table.specs.Finds.{CallFinds, Finds}
 use Rattle.page_table.specs.Landing.{thrown}
 use Rattle.page_table.specs.Move.{On}
 use Rattle.page_table.specs.Pages.{include_path, included}
-use Rattle.page_table.specs.Program.{absent, bad, good, plain, tag_at}
+use Rattle.page_table.specs.Program.{absent, bad, good, plain}
 use Rattle.page_table.specs.Seat.{code_at, code_of, in_tag, nothing, page_run_of, program_of as program_in, source_text}
 use Rattle.pg_text.specs.Failure.{Answers}
 use Rattle.pg_text.specs.declared.place.Place.{Place}
@@ -951,7 +951,7 @@ calls::enter_call-returns-in-Ok-give_back-clause-stepped g t c =
     let fragments = c.as_slice-2.result.now in
     let counted = counted_so (g.W.World.variables c.args.world.now) c.scopes.result.now c.frames-frames.result c.scopes.ensures c.frames-frames.ensures in
     let level : c.args.opened.now.left ≡ suc c.in-Some.left = omega (arith, c.in-Some.ensures) in
-    let made = ap (map export_of) c.as_slice-exports.ensures.value ∙ c.in-Ok.ensures ∙ ap (exports_of entries) c.as_slice.ensures in
+    let made = between (map export_of) (exports_of entries) c.as_slice-exports.result.now c.in-Ok.made.items c.as_slice.result.now tag.decl.variables c.as_slice-exports.ensures.value c.in-Ok.ensures c.as_slice.ensures in
     entered_on g.W.World.replies laws.stores_on laws.again laws.tells c.args.at.now.served.now c.args.at.now.cell.place this next seat o tag entries exports fragments c.frame-frame.result c.frames-frames.result c.in-Some.left c.args.world.now c.push_frame_of.new.self c.run_code.new.world c.requires.known c.in-Ok-push_frame_of.ensures.ok c.push_frame_of.ensures.replies
     c.frame-frame.ensures.current c.frame-frame.ensures.there counted
     (c.args.at.now.pc + 1 + c.size_of.result) (ap (λ k. c.args.at.now.pc + 1 + k) c.size_of.ensures) level made c.as_slice-2.ensures c.give_back.new.world c.go_back.new.self c.in-Normal.ensures.ran
@@ -972,7 +972,7 @@ calls::enter_call-returns-in-Normal-clause-stepped g t c =
     let fragments = c.as_slice-2.result.now in
     let counted = counted_so (g.W.World.variables c.args.world.now) c.scopes.result.now c.frames-frames.result c.scopes.ensures c.frames-frames.ensures in
     let level : c.args.opened.now.left ≡ suc c.in-Some.left = omega (arith, c.in-Some.ensures) in
-    let made = ap (map export_of) c.as_slice-exports.ensures.value ∙ c.in-Ok.ensures ∙ ap (exports_of entries) c.as_slice.ensures in
+    let made = between (map export_of) (exports_of entries) c.as_slice-exports.result.now c.in-Ok.made.items c.as_slice.result.now tag.decl.variables c.as_slice-exports.ensures.value c.in-Ok.ensures c.as_slice.ensures in
     entered_failed g.W.World.replies laws.stores_on laws.again laws.tells c.args.at.now.served.now c.args.at.now.cell.place this next seat o tag entries exports fragments c.frame-frame.result c.frames-frames.result c.in-Some.left c.args.world.now c.push_frame_of.new.self c.run_code.new.world c.requires.known c.in-Ok-push_frame_of.ensures.ok c.push_frame_of.ensures.replies
     c.frame-frame.ensures.current c.frame-frame.ensures.there counted
     (next + call_size this) refl level made c.as_slice-2.ensures c.give_back.new.world c.fail.new.world c.in-Err.failed (open_of c.fail.new.opened) c.fail.result c.in-Normal.ensures.ran
@@ -993,7 +993,7 @@ calls::enter_call-returns-in-Raised-clause-stepped g t c =
     let fragments = c.as_slice-2.result.now in
     let counted = counted_so (g.W.World.variables c.args.world.now) c.scopes.result.now c.frames-frames.result c.scopes.ensures c.frames-frames.ensures in
     let level : c.args.opened.now.left ≡ suc c.in-Some.left = omega (arith, c.in-Some.ensures) in
-    let made = ap (map export_of) c.as_slice-exports.ensures.value ∙ c.in-Ok.ensures ∙ ap (exports_of entries) c.as_slice.ensures in
+    let made = between (map export_of) (exports_of entries) c.as_slice-exports.result.now c.in-Ok.made.items c.as_slice.result.now tag.decl.variables c.as_slice-exports.ensures.value c.in-Ok.ensures c.as_slice.ensures in
     entered_thrown g.W.World.replies laws.stores_on laws.again laws.tells c.args.at.now.served.now c.args.at.now.cell.place this next seat o tag entries exports fragments c.frame-frame.result c.frames-frames.result c.in-Some.left c.args.world.now c.push_frame_of.new.self c.run_code.new.world c.requires.known c.in-Ok-push_frame_of.ensures.ok c.push_frame_of.ensures.replies
     c.frame-frame.ensures.current c.frame-frame.ensures.there counted
     (next + call_size this) refl level made c.as_slice-2.ensures c.in-Raised.fault c.in-Raised.place c.go_back-in-Raised.new.self c.throw_at.new.world (open_of c.throw_at.new.opened) c.throw_at.result c.in-Raised.ensures.ran
@@ -1012,7 +1012,7 @@ calls::enter_call-returns-clause-stepped g t c =
     let fragments = c.as_slice-2.result.now in
     let counted = counted_so (g.W.World.variables c.args.world.now) c.scopes.result.now c.frames-frames.result c.scopes.ensures c.frames-frames.ensures in
     let level : c.args.opened.now.left ≡ suc c.in-Some.left = omega (arith, c.in-Some.ensures) in
-    let made = ap (map export_of) c.as_slice-exports.ensures.value ∙ c.in-Ok.ensures ∙ ap (exports_of entries) c.as_slice.ensures in
+    let made = between (map export_of) (exports_of entries) c.as_slice-exports.result.now c.in-Ok.made.items c.as_slice.result.now tag.decl.variables c.as_slice-exports.ensures.value c.in-Ok.ensures c.as_slice.ensures in
     entered_over g.W.World.replies laws.stores_on laws.again laws.tells c.args.at.now.served.now c.args.at.now.cell.place this next seat o tag entries exports fragments c.frame-frame.result c.frames-frames.result c.in-Some.left c.args.world.now c.push_frame_of.new.self c.run_code.new.world c.requires.known c.in-Ok-push_frame_of.ensures.ok c.push_frame_of.ensures.replies
     c.frame-frame.ensures.current c.frame-frame.ensures.there counted
     (next + call_size this) refl level made c.as_slice-2.ensures c.run_code.result (λ e. c.in_default-run_code.not-Normal e) (λ f q e. c.in_default-run_code.not-Raised f q e) c.run_code.ensures.ran
