@@ -1,11 +1,18 @@
 -- Behind a run of its own as many frames stand as before it.
-use Rattle.std.proofs.Common.{◌≡◌, ◌≤◌, ℕ, Bool, List, [], ◌∷◌, ◌++◌, length, length-append, sym, ap, ◌∙◌, subst, arith}
+use Rattle.std.proofs.Common.{◌≡◌, ◌≤◌, ◌+◌, ℕ, Bool, List, [], ◌∷◌, ◌++◌, length, length-append, sym, ap, ◌∙◌, subst, arith}
 use Rattle.http_in.specs.declared.params.Param.{Param}
 use Rattle.out_buffer.specs.Writer.{has_committed}
 use Rattle.run_world.specs.Known.{ServesSo, Known}
 use Rattle.run_world.specs.Origin.{Origin}
 use Rattle.run_world.specs.Part.{given, Changes}
 use Rattle.page_machine.specs.Turn.{CodeRuns, Ran}
+use Rattle.page_meaning.specs.Context.{Export}
+use Rattle.page_meaning.specs.Variables.{entries_of_frame}
+use Rattle.page_table.specs.Act.{with_stack}
+use Rattle.pg_value.specs.Datum.{Datum}
+use Rattle.run_parts.specs.Exports.{change_of, nested_changes}
+use Rattle.run_parts.specs.declared.exports.Change as machine_change
+use Rattle.std.specs.Prelude.{drop, map, reverse, take}
 use Rattle.run_moves.specs.declared.flow.End.{End}
 use Rattle.run_world.specs.declared.served.Served as machine_served
 use Rattle.page_machine.proofs.CallExits.{EndIs}
@@ -14,7 +21,7 @@ use Rattle.page_meaning.specs.State.{State}
 use Rattle.page_meaning.specs.Went.{Did, Well, Raised, Ended, Awaits, forwards, redirects}
 use Rattle.page_table.specs.Landing.{Running}
 use Rattle.page_table.specs.Laws.{LeavesFrames}
-use Rattle.page_table.specs.Open.{fresh_open}
+use Rattle.page_table.specs.Open.{Open, fresh_open}
 use Rattle.page_table.specs.Pages.{page_begun}
 use Rattle.page_table.specs.Program.{Program, Stored, Serving}
 use Rattle.page_table.specs.Runs.{EndsBehind, PageRuns}
@@ -28,6 +35,25 @@ use Rattle.site_words.specs.Law.{Answer}
 -- what two functions give is the same under other names
 pub between : {A B C : Type 0} (f : A → B) (h : C → B) (x y : A) (u v : C) → x ≡ y → f y ≡ h u → u ≡ v → f x ≡ h v
 between f h x y u v first same last = ap f first ∙ same ∙ ap h last
+
+-- a place that many cells behind another, by a count under another name
+pub behind_so : (at n count : ℕ) → n ≡ count → at + n ≡ at + count
+behind_so at n count same = ap (λ (k : ℕ). at + k) same
+
+-- what is left of a stack, and what was taken from it, by a count under another name
+pub dropped_so : (o : Open) (stack : List Datum) (n count : ℕ) → stack ≡ drop n o.stack → n ≡ count → with_stack stack o ≡ with_stack (drop count o.stack) o
+dropped_so o stack n count left same = ap (λ (xs : List Datum). with_stack xs o) (left ∙ ap (λ (k : ℕ). drop k o.stack) same)
+
+pub taken_so : (stack top : List Datum) (n count : ℕ) → top ≡ reverse (take n stack) → n ≡ count → top ≡ reverse (take count stack)
+taken_so stack top n count taken same = taken ∙ ap (λ (k : ℕ). reverse (take k stack)) same
+
+-- the changes to a caller's variables are those that its frame decides
+pub changes_so : (exports : List Export) (slice made : List machine_change.Change) (seen now held : ScopeState) (frame : ℕ)
+    → slice ≡ made → map change_of made ≡ nested_changes exports (entries_of_frame seen seen.current) → seen ≡ now → now ≡ held → frame ≡ now.current
+    → map change_of slice ≡ nested_changes exports (entries_of_frame held frame)
+changes_so exports slice made seen now held frame same decided looked holds current =
+    ap (map change_of) same ∙ decided ∙ ap (λ (v : ScopeState). nested_changes exports (entries_of_frame v v.current)) (looked ∙ holds)
+    ∙ ap (λ (k : ℕ). nested_changes exports (entries_of_frame held k)) (sym (current ∙ ap (λ (v : ScopeState). v.current) holds))
 
 -- the frames that were counted are those of a world's variables
 pub counted_so : (variables seen : ScopeState) (count : ℕ) → seen ≡ variables → count ≡ length seen.frames → count ≡ length variables.frames

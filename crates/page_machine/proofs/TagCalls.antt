@@ -21,6 +21,7 @@ use Rattle.run_moves.proofs.Behind.{acted_spent, fell_move}
 use Rattle.page_machine.proofs.Calling.{Enters, enters_as, into_enters}
 use Rattle.run_moves.proofs.Landings.{popped_all_is}
 use Rattle.run_world.proofs.Parts.{result_doing}
+use Rattle.http_in.specs.declared.params.Param.{Param}
 use Rattle.page_meaning.specs.Attributes.{table_of}
 use Rattle.page_meaning.specs.Context.{Export}
 use Rattle.page_meaning.specs.Exports.{exports_of}
@@ -31,6 +32,7 @@ use Rattle.page_table.specs.Act.{called_out, with_stack}
 use Rattle.page_table.specs.Checked.{SeatFits, TagsFit}
 use Rattle.page_table.specs.Calls.{call_back, call_entered, call_of, tag_called}
 use Rattle.page_table.specs.Landing.{Config, Running, thrown, land}
+use Rattle.page_table.specs.Pages.{include_path}
 use Rattle.page_table.specs.Move.{Move, On, Into, Stuck, one_deeper, then_move}
 use Rattle.page_table.specs.Open.{Open, fresh_open}
 use Rattle.page_table.specs.Program.{Program, TagCode, Serving, tag_at}
@@ -83,6 +85,10 @@ call_is tag c behind entries s exports fragments frame e q f =
 -- a level less, where one is left
 pub deeper_none : (place : Place) (s : State) (o : Open) (levels : ℕ) (go : ℕ → Move) → levels ≡ 0 → one_deeper place s o levels go ≡ On (thrown fault.TooDeep place s o)
 deeper_none place s o levels go e = ap (λ n. one_deeper place s o n go) e
+
+-- an include where no deeper run may begin
+pub include_deep : (serving : Serving) (place : Place) (params : List Param) (path : List ℕ) (to : ℕ) (s : State) (o : Open) → o.left ≡ 0 → include_path serving place params path to s o ≡ On (thrown fault.TooDeep place s o)
+include_deep serving place params path to s o none = deeper_none place s o o.left _ none
 
 pub deeper_some : (place : Place) (s : State) (o : Open) (levels left : ℕ) (go : ℕ → Move) → levels ≡ suc left → one_deeper place s o levels go ≡ go left
 deeper_some place s o levels left go e = ap (λ n. one_deeper place s o n go) e

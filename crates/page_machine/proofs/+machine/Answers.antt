@@ -15,16 +15,15 @@ use Rattle.page_machine.proofs.GivenRuns.{given_known, given_on, given_over, giv
 use Rattle.page_machine.proofs.IncludedRuns.{included_known, included_left, included_on, included_over, included_redirected, included_room, included_thrown}
 use Rattle.page_machine.proofs.Looping.{begins_at, behind_turn, call_as, cell_at, finds_at, holds_more, loop_nearer, move_is, over_with, simple_of, so_far_start, standing_start, within_code}
 use Rattle.page_machine.proofs.PageCalls.{import_stepped, include_failed_is, include_stepped, include_unflushed, included_run_grows, page_failed, path_failed, path_on, path_page, ran_page}
-use Rattle.page_machine.proofs.TagCalls.{call_with, deeper_none, entered_grows, entered_move, finds_so, tag_code_fits, tag_deep, tag_failed, tag_gone, tag_made, tag_short}
+use Rattle.page_machine.proofs.TagCalls.{call_with, include_deep, entered_grows, entered_move, finds_so, tag_code_fits, tag_deep, tag_failed, tag_gone, tag_made, tag_short}
 use Rattle.page_machine.proofs.OwnParams.{with_params}
-use Rattle.page_machine.proofs.Room.{between, counted_so}
+use Rattle.page_machine.proofs.Room.{behind_so, between, changes_so, counted_so, dropped_so, taken_so}
 use Rattle.page_machine.specs.Pages.{include_found, included_run, params_for}
 use Rattle.page_machine.specs.Turn.{CallBegins, SeatHolds}
 use Rattle.page_meaning.specs.Attributes.{table_of}
 use Rattle.page_meaning.specs.Exports.{exports_of}
 use Rattle.page_meaning.specs.Meaning.{flush_if}
 use Rattle.page_meaning.specs.Tags.{first_frame}
-use Rattle.page_meaning.specs.Variables.{entries_of_frame}
 use Rattle.page_meaning.specs.Went.{Raised, Well}
 use Rattle.page_table.specs.Act.{act, called_out, move_of, with_stack}
 use Rattle.page_table.specs.Calls.{given_called}
@@ -33,7 +32,7 @@ use Rattle.page_table.specs.Finds.{CallFinds, Finds}
 use Rattle.page_table.specs.Landing.{thrown}
 use Rattle.page_table.specs.Move.{On}
 use Rattle.page_table.specs.Pages.{include_path, included}
-use Rattle.page_table.specs.Program.{absent, bad, good, plain}
+use Rattle.page_table.specs.Program.{absent, bad, plain}
 use Rattle.page_table.specs.Seat.{code_at, code_of, in_tag, nothing, page_run_of, program_of as program_in, source_text}
 use Rattle.pg_text.specs.Failure.{Answers}
 use Rattle.pg_text.specs.declared.place.Place.{Place}
@@ -46,11 +45,10 @@ use Rattle.run_moves.specs.Landing.{failing}
 use Rattle.run_moves.specs.Opened.{open_of}
 use Rattle.run_moves.specs.declared.flow.End.TheVariants as ends
 use Rattle.run_moves.specs.declared.flow.Flow.TheVariants as flows
-use Rattle.run_parts.specs.Exports.{change_of, nested_changes}
 use Rattle.run_parts.specs.Given.{given_by}
 use Rattle.run_parts.specs.Records.{IsRecordsOf}
 use Rattle.run_world.proofs.Knowing.{known_changed, known_done, serves_changed, serves_done}
-use Rattle.run_world.specs.Programs.{program_of, stored_of}
+use Rattle.run_world.specs.Programs.{program_of}
 use Rattle.run_world.specs.Seats.{call_of, export_of, seat_of}
 use Rattle.run_world.specs.Tags.{tag_of}
 use Rattle.std.proofs.Common.{Err, List, None, Ok, Some, [], ap, arith, length, refl, rules, subst, suc, sym, ◌+◌, ◌<◌, ◌^◌, ◌∙◌, ◌≡◌, ◌≤◌}
@@ -270,7 +268,7 @@ turn::turn-returns-in_default-clause-stepped g t c =
 
 pub turn::call_out-tag_call-requires : goal.turn::call_out-tag_call-requires
 turn::call_out-tag_call-requires g t c κs within =
-    let is : c.args.what.now ≡ call.Tag c.get.result.now = c.in-Tag.is ∙ ap call.Tag (sym c.get.ensures) in
+    let is : c.args.what.now ≡ call.Tag c.get.result.now = rw (c.in-Tag.is, c.get.ensures) refl in
     let begins = subst (CallBegins (code_of (seat_at c.args.at.now)) (c.args.at.now.pc + 1)) is c.requires.begins in
     let finds = subst (CallFinds (length (code_of (seat_at c.args.at.now))) (c.args.at.now.pc + 1) (open_of c.args.opened.now)) is c.requires.finds in
     search rules
@@ -278,7 +276,7 @@ turn::call_out-tag_call-requires g t c κs within =
 pub turn::call_out-returns-in-Tag-clause-stepped : goal.turn::call_out-returns-in-Tag-clause-stepped
 turn::call_out-returns-in-Tag-clause-stepped g t c =
     call_as (seat_at c.args.at.now) c.args.at.now.cell.place (c.args.at.now.pc + 1) (open_of c.args.opened.now) c.args.what.now (call.Tag c.get.result.now) c.args.world.now c.tag_call.new.world (open_of c.tag_call.new.opened) c.tag_call.result
-    (c.in-Tag.is ∙ ap call.Tag (sym c.get.ensures)) c.tag_call.ensures.stepped
+    (rw (c.in-Tag.is, c.get.ensures) refl) c.tag_call.ensures.stepped
 
 pub turn::call_out-returns-in-Body-clause-stepped : goal.turn::call_out-returns-in-Body-clause-stepped
 turn::call_out-returns-in-Body-clause-stepped g t c =
@@ -426,14 +424,14 @@ pages::include_page-returns-in-Same-clause-stepped g t c =
     let seat = seat_at c.args.at.now in
     let o = open_of c.args.opened.now in
     with_params seat c.args.at.now.cell.place (program_of c.args.page.program.now) c.args.page.left (c.args.at.now.pc + 1) o (params_for (page_run_of seat) c.args.page.params) c.params.result.now
-    (ap (params_for (page_run_of seat)) c.in-Same.is ∙ sym c.params.ensures) c.args.world.now c.included_page.new.world (open_of c.included_page.new.opened) c.included_page.result c.included_page.ensures.stepped
+    (rw (c.in-Same.is, c.params.ensures) refl) c.args.world.now c.included_page.new.world (open_of c.included_page.new.opened) c.included_page.result c.included_page.ensures.stepped
 
 pub pages::include_page-returns-in-Own-clause-stepped : goal.pages::include_page-returns-in-Own-clause-stepped
 pages::include_page-returns-in-Own-clause-stepped g t c =
     let seat = seat_at c.args.at.now in
     let o = open_of c.args.opened.now in
     with_params seat c.args.at.now.cell.place (program_of c.args.page.program.now) c.args.page.left (c.args.at.now.pc + 1) o (params_for (page_run_of seat) c.args.page.params) c.as_slice.result.now
-    (ap (params_for (page_run_of seat)) c.in-Own.is ∙ sym c.as_slice.ensures) c.args.world.now c.included_page-in-Own.new.world (open_of c.included_page-in-Own.new.opened) c.included_page-in-Own.result c.included_page-in-Own.ensures.stepped
+    (rw (c.in-Own.is, c.as_slice.ensures) refl) c.args.world.now c.included_page-in-Own.new.world (open_of c.included_page-in-Own.new.opened) c.included_page-in-Own.result c.included_page-in-Own.ensures.stepped
 
 -- an include of a target
 
@@ -444,7 +442,7 @@ pages::include-returns-in-Err-clause-stepped g t c =
     acted_stepped seat (λ serving s. include_found (page_run_of seat) serving c.args.at.now.cell.place c.args.found (c.args.at.now.pc + 1) s o) c.args.world.now c.fail.new.world (open_of c.fail.new.opened) c.fail.result
     (λ serving h.
     acted_as (λ s. include_found (page_run_of seat) serving c.args.at.now.cell.place c.args.found (c.args.at.now.pc + 1) s o) (failing c.args.at.now.cell.place o c.in-Err.failed) c.args.world.now c.fail.new.world (open_of c.fail.new.opened) c.fail.result
-    (λ s. ap (λ f. include_found (page_run_of seat) serving c.args.at.now.cell.place f (c.args.at.now.pc + 1) s o) c.in-Err.is ∙ include_failed_is (page_run_of seat) serving c.args.at.now.cell.place c.in-Err.failed (c.args.at.now.pc + 1) s o) c.fail.ensures.acted)
+    (λ s. rw c.in-Err.is (include_failed_is (page_run_of seat) serving c.args.at.now.cell.place c.in-Err.failed (c.args.at.now.pc + 1) s o)) c.fail.ensures.acted)
 
 pub pages::include-returns-in_default-clause-stepped : goal.pages::include-returns-in_default-clause-stepped
 pages::include-returns-in_default-clause-stepped g t c =
@@ -454,7 +452,7 @@ pages::include-returns-in_default-clause-stepped g t c =
     acted_stepped seat (λ serving s. include_found (page_run_of seat) serving c.args.at.now.cell.place c.args.found (c.args.at.now.pc + 1) s o) c.args.world.now c.throw.new.world (open_of c.throw.new.opened) c.throw.result
     (λ serving h.
     acted_as (λ s. include_found (page_run_of seat) serving c.args.at.now.cell.place c.args.found (c.args.at.now.pc + 1) s o) (λ s. On (thrown fault.TooDeep c.args.at.now.cell.place s o)) c.args.world.now c.throw.new.world (open_of c.throw.new.opened) c.throw.result
-    (λ s. ap (λ f. include_found (page_run_of seat) serving c.args.at.now.cell.place f (c.args.at.now.pc + 1) s o) c.in-Ok.is ∙ deeper_none c.args.at.now.cell.place s o c.args.opened.now.left _ none) c.throw.ensures.acted)
+    (λ s. rw c.in-Ok.is (include_deep serving c.args.at.now.cell.place (params_for (page_run_of seat) c.in-Ok.target.params) c.in-Ok.target.path (c.args.at.now.pc + 1) s o none)) c.throw.ensures.acted)
 
 pub pages::include-returns-in-Err-page-clause-stepped : goal.pages::include-returns-in-Err-page-clause-stepped
 pages::include-returns-in-Err-page-clause-stepped g t c =
@@ -487,7 +485,7 @@ pages::include-returns-in-Page-clause-stepped g t c =
     (λ serving h s. ap (λ f. include_found (page_run_of seat) serving c.args.at.now.cell.place f (c.args.at.now.pc + 1) s o) c.in-Ok.is)
     (path_page c.args.at.now.cell.place (c.args.at.now.pc + 1) c.in-Some.left params c.in-Ok.target.path o level seat c.in-Ok-page.paged c.args.world.now c.page.new.self
     (λ serving h. c.in-Ok-page.ensures.does serving h.stored) (program_of c.deref.result.now) c.include_page.new.world (open_of c.include_page.new.opened) c.include_page.result
-    (λ serving h. sym (c.in-Ok-page.ensures.found serving h.stored) ∙ ap stored_of c.in-Page.is ∙ ap (λ p. good (program_of p)) (sym c.deref.ensures))
+    (λ serving h. rw (← c.in-Ok-page.ensures.found serving h.stored, c.in-Page.is, c.deref.ensures) refl)
     (λ serving h. serves_done g.met.W.World.stores_on g.met.W.World.again c.args.at.now.served.now c.args.world.now c.page.new.self (Ok c.in-Ok-page.paged) serving k (c.in-Ok-page.ensures.does k.serving k.serves.stored) h)
     c.include_page.ensures.stepped)
 
@@ -502,7 +500,7 @@ pages::include-returns-in-Plain-clause-stepped g t c =
     (λ serving h s. ap (λ f. include_found (page_run_of seat) serving c.args.at.now.cell.place f (c.args.at.now.pc + 1) s o) c.in-Ok.is)
     (path_on c.args.at.now.cell.place (c.args.at.now.pc + 1) c.in-Some.left params c.in-Ok.target.path o level seat c.in-Ok-page.paged c.args.world.now c.page.new.self
     (λ serving h. c.in-Ok-page.ensures.does serving h.stored) (plain c.in-Plain.text) c.include_text.new.world (open_of c.include_text.new.opened) c.include_text.result
-    (λ serving h. sym (c.in-Ok-page.ensures.found serving h.stored) ∙ ap stored_of c.in-Plain.is) c.include_text.ensures.acted)
+    (λ serving h. rw (← c.in-Ok-page.ensures.found serving h.stored, c.in-Plain.is) refl) c.include_text.ensures.acted)
 
 pub pages::include-returns-in-Absent-clause-stepped : goal.pages::include-returns-in-Absent-clause-stepped
 pages::include-returns-in-Absent-clause-stepped g t c =
@@ -515,7 +513,7 @@ pages::include-returns-in-Absent-clause-stepped g t c =
     (λ serving h s. ap (λ f. include_found (page_run_of seat) serving c.args.at.now.cell.place f (c.args.at.now.pc + 1) s o) c.in-Ok.is)
     (path_on c.args.at.now.cell.place (c.args.at.now.pc + 1) c.in-Some.left params c.in-Ok.target.path o level seat c.in-Ok-page.paged c.args.world.now c.page.new.self
     (λ serving h. c.in-Ok-page.ensures.does serving h.stored) (absent) c.page.new.self o (flows.Go (c.args.at.now.pc + 1))
-    (λ serving h. sym (c.in-Ok-page.ensures.found serving h.stored) ∙ ap stored_of c.in-Absent.is)
+    (λ serving h. rw (← c.in-Ok-page.ensures.found serving h.stored, c.in-Absent.is) refl)
     (acted_on (λ s. included c.args.at.now.cell.place params c.in-Some.left (absent) (c.args.at.now.pc + 1) s o) c.page.new.self o (c.args.at.now.pc + 1) (λ s. refl)))
 
 pub pages::include-returns-clause-stepped : goal.pages::include-returns-clause-stepped
@@ -529,7 +527,7 @@ pages::include-returns-clause-stepped g t c =
     (λ serving h s. ap (λ f. include_found (page_run_of seat) serving c.args.at.now.cell.place f (c.args.at.now.pc + 1) s o) c.in-Ok.is)
     (path_on c.args.at.now.cell.place (c.args.at.now.pc + 1) c.in-Some.left params c.in-Ok.target.path o level seat c.in-Ok-page.paged c.args.world.now c.page.new.self
     (λ serving h. c.in-Ok-page.ensures.does serving h.stored) (bad c.in-Bad.field-0) c.page.new.self o (flows.Go (c.args.at.now.pc + 1))
-    (λ serving h. sym (c.in-Ok-page.ensures.found serving h.stored) ∙ ap stored_of c.in-Bad.is)
+    (λ serving h. rw (← c.in-Ok-page.ensures.found serving h.stored, c.in-Bad.is) refl)
     (acted_on (λ s. included c.args.at.now.cell.place params c.in-Some.left (bad c.in-Bad.field-0) (c.args.at.now.pc + 1) s o) c.page.new.self o (c.args.at.now.pc + 1) (λ s. refl)))
 
 -- an include by an address
@@ -748,7 +746,7 @@ calls::tag_call-returns-in_default-clause-stepped g t c =
     let n = length this.names in
     let next = c.args.at.now.pc + 1 in
     let p = with_stack c.drop_top.new.self o in
-    let rest = ap (λ xs. with_stack xs o) c.drop_top.ensures ∙ ap (λ k. with_stack (drop k o.stack) o) c.len-count.ensures in
+    let rest = dropped_so o c.drop_top.new.self c.len-count.result n c.drop_top.ensures c.len-count.ensures in
     let found = option_map (λ tag. tag_of tag.now) c.tag_at.result in
     let finds = finds_so this.path (program_of c.program.result.now) (program_in seat) found c.program.ensures c.tag_at.ensures in
     let size : c.args.at.now.pc + 1 + c.size_of.result ≡ next + call_size this = ap (λ k. c.args.at.now.pc + 1 + k) c.size_of.ensures in
@@ -764,11 +762,11 @@ calls::tag_call-enter_call-requires g t c κs within =
     let n = length this.names in
     let next = c.args.at.now.pc + 1 in
     let p = with_stack c.drop_top-2.new.self o in
-    let rest = ap (λ xs. with_stack xs o) c.drop_top-2.ensures ∙ ap (λ k. with_stack (drop k o.stack) o) c.len-count.ensures in
+    let rest = dropped_so o c.drop_top-2.new.self c.len-count.result n c.drop_top-2.ensures c.len-count.ensures in
     let found = option_map (λ tag. tag_of tag.now) c.tag_at.result in
     let finds = finds_so this.path (program_of c.program.result.now) (program_in seat) found c.program.ensures c.tag_at.ensures in
     let values = map datum_of c.top.result.now in
-    let taken = c.top.ensures ∙ ap (λ k. reverse (take k o.stack)) c.len-count.ensures in
+    let taken = taken_so o.stack values c.len-count.result n c.top.ensures c.len-count.ensures in
     let tag = tag_of c.in-Some.tag.now in
     let is : found ≡ Some tag = ap (option_map (λ tag. tag_of tag.now)) c.in-Some.is in
     let fits = tag_code_fits seat c.requires.seat this.path tag (finds ∙ is) in
@@ -782,15 +780,15 @@ calls::tag_call-returns-in-Ok-clause-stepped g t c =
     let n = length this.names in
     let next = c.args.at.now.pc + 1 in
     let p = with_stack c.drop_top-2.new.self o in
-    let rest = ap (λ xs. with_stack xs o) c.drop_top-2.ensures ∙ ap (λ k. with_stack (drop k o.stack) o) c.len-count.ensures in
+    let rest = dropped_so o c.drop_top-2.new.self c.len-count.result n c.drop_top-2.ensures c.len-count.ensures in
     let found = option_map (λ tag. tag_of tag.now) c.tag_at.result in
     let finds = finds_so this.path (program_of c.program.result.now) (program_in seat) found c.program.ensures c.tag_at.ensures in
     let values = map datum_of c.top.result.now in
-    let taken = c.top.ensures ∙ ap (λ k. reverse (take k o.stack)) c.len-count.ensures in
+    let taken = taken_so o.stack values c.len-count.result n c.top.ensures c.len-count.ensures in
     let tag = tag_of c.in-Some.tag.now in
     let is : found ≡ Some tag = ap (option_map (λ tag. tag_of tag.now)) c.in-Some.is in
     let entries = c.in-Ok.entries in
-    let made = ap (λ ns. first_frame tag.decl (table_of ns values)) (sym c.as_slice.ensures) ∙ c.in-Ok.ensures in
+    let made = subst (λ ns. first_frame tag.decl (table_of ns values) ≡ Ok entries) c.as_slice.ensures c.in-Ok.ensures in
     stepped_as seat (λ serving s. called_out serving seat c.args.at.now.cell.place next (call.Tag this) s o) (λ serving s. entered_move c.args.at.now.cell.place this next seat p tag entries s) c.args.world.now c.enter_call.new.world (open_of c.enter_call.new.opened) c.enter_call.result
     (λ serving h s. tag_made c.args.at.now.cell.place this next seat o p values c.requires.filled rest taken found finds serving tag is entries made s) c.enter_call.ensures.stepped
 
@@ -802,11 +800,11 @@ calls::tag_call-returns-in-Err-clause-stepped g t c =
     let n = length this.names in
     let next = c.args.at.now.pc + 1 in
     let p = with_stack c.drop_top-2.new.self o in
-    let rest = ap (λ xs. with_stack xs o) c.drop_top-2.ensures ∙ ap (λ k. with_stack (drop k o.stack) o) c.len-count.ensures in
+    let rest = dropped_so o c.drop_top-2.new.self c.len-count.result n c.drop_top-2.ensures c.len-count.ensures in
     let found = option_map (λ tag. tag_of tag.now) c.tag_at.result in
     let finds = finds_so this.path (program_of c.program.result.now) (program_in seat) found c.program.ensures c.tag_at.ensures in
     let values = map datum_of c.top.result.now in
-    let taken = c.top.ensures ∙ ap (λ k. reverse (take k o.stack)) c.len-count.ensures in
+    let taken = taken_so o.stack values c.len-count.result n c.top.ensures c.len-count.ensures in
     let tag = tag_of c.in-Some.tag.now in
     let is : found ≡ Some tag = ap (option_map (λ tag. tag_of tag.now)) c.in-Some.is in
     acted_stepped seat (λ serving s. called_out serving seat c.args.at.now.cell.place next (call.Tag this) s o) c.args.world.now c.fail.new.world (open_of c.fail.new.opened) c.fail.result
@@ -954,9 +952,9 @@ calls::enter_call-returns-in-Ok-give_back-clause-stepped g t c =
     let made = between (map export_of) (exports_of entries) c.as_slice-exports.result.now c.in-Ok.made.items c.as_slice.result.now tag.decl.variables c.as_slice-exports.ensures.value c.in-Ok.ensures c.as_slice.ensures in
     entered_on g.W.World.replies laws.stores_on laws.again laws.tells c.args.at.now.served.now c.args.at.now.cell.place this next seat o tag entries exports fragments c.frame-frame.result c.frames-frames.result c.in-Some.left c.args.world.now c.push_frame_of.new.self c.run_code.new.world c.requires.known c.in-Ok-push_frame_of.ensures.ok c.push_frame_of.ensures.replies
     c.frame-frame.ensures.current c.frame-frame.ensures.there counted
-    (c.args.at.now.pc + 1 + c.size_of.result) (ap (λ k. c.args.at.now.pc + 1 + k) c.size_of.ensures) level made c.as_slice-2.ensures c.give_back.new.world c.go_back.new.self c.in-Normal.ensures.ran
-    (λ s e. c.in-Ok-give_back.ensures.does s.scopes (ap (map change_of) c.as_slice-in-Normal.ensures.value ∙ c.in-Ok-nested_changes.ensures ∙ ap (λ v. nested_changes exports (entries_of_frame v v.current)) (c.scopes-2.ensures ∙ e)
-    ∙ ap (λ k. nested_changes exports (entries_of_frame s.scopes k)) (sym (c.frame-frame.ensures.current ∙ ap (λ v. v.current) e))))
+    (c.args.at.now.pc + 1 + c.size_of.result) (behind_so next c.size_of.result (call_size this) c.size_of.ensures) level made c.as_slice-2.ensures c.give_back.new.world c.go_back.new.self c.in-Normal.ensures.ran
+    (λ s e. c.in-Ok-give_back.ensures.does s.scopes (changes_so exports c.as_slice-in-Normal.result.now c.in-Ok-nested_changes.before.items c.scopes-2.result.now (g.W.World.variables c.args.world.now) s.scopes c.frame-frame.result
+    c.as_slice-in-Normal.ensures.value c.in-Ok-nested_changes.ensures c.scopes-2.ensures e c.frame-frame.ensures.current))
     c.go_back.ensures.back c.go_back.ensures.replies
 
 pub calls::enter_call-returns-in-Normal-clause-stepped : goal.calls::enter_call-returns-in-Normal-clause-stepped
@@ -976,8 +974,8 @@ calls::enter_call-returns-in-Normal-clause-stepped g t c =
     entered_failed g.W.World.replies laws.stores_on laws.again laws.tells c.args.at.now.served.now c.args.at.now.cell.place this next seat o tag entries exports fragments c.frame-frame.result c.frames-frames.result c.in-Some.left c.args.world.now c.push_frame_of.new.self c.run_code.new.world c.requires.known c.in-Ok-push_frame_of.ensures.ok c.push_frame_of.ensures.replies
     c.frame-frame.ensures.current c.frame-frame.ensures.there counted
     (next + call_size this) refl level made c.as_slice-2.ensures c.give_back.new.world c.fail.new.world c.in-Err.failed (open_of c.fail.new.opened) c.fail.result c.in-Normal.ensures.ran
-    (λ s e. c.in-Err.ensures.does s.scopes (ap (map change_of) c.as_slice-in-Normal.ensures.value ∙ c.in-Ok-nested_changes.ensures ∙ ap (λ v. nested_changes exports (entries_of_frame v v.current)) (c.scopes-2.ensures ∙ e)
-    ∙ ap (λ k. nested_changes exports (entries_of_frame s.scopes k)) (sym (c.frame-frame.ensures.current ∙ ap (λ v. v.current) e))))
+    (λ s e. c.in-Err.ensures.does s.scopes (changes_so exports c.as_slice-in-Normal.result.now c.in-Ok-nested_changes.before.items c.scopes-2.result.now (g.W.World.variables c.args.world.now) s.scopes c.frame-frame.result
+    c.as_slice-in-Normal.ensures.value c.in-Ok-nested_changes.ensures c.scopes-2.ensures e c.frame-frame.ensures.current))
     c.fail.ensures.acted c.fail.ensures.short
 
 pub calls::enter_call-returns-in-Raised-clause-stepped : goal.calls::enter_call-returns-in-Raised-clause-stepped
