@@ -11,7 +11,7 @@ use std::alloc::{AllocError, Global};
 use std::marker::Model;
 
 /// A code in little memory, to be kept and run: each cell is three numbers, of its instruction, its
-/// place and its shape, of which equal ones that stand near one another are there once. A cell takes
+/// place and its shape, of which equal ones that stand near one another are there once. A cell has
 /// 12 bytes, an instruction 48, a place and a shape 32 each. Contracts see the list of its cells.
 #[derive(Drop)]
 pub struct PackedCode {

@@ -29,7 +29,8 @@ impl<'a> Model for FirstReading<'a> {
 
     ghost view = { λ f. f.directives.items };
 
-    ghost invariant = { λ f. IsTurn false f.directives.items f.page_turn × IsTurn true f.directives.items f.tag_turn };
+    ghost invariant = { λ f. IsTurn false f.directives.items f.page_turn
+        × IsTurn true f.directives.items f.tag_turn };
 }
 
 impl<'a> FirstReading<'a> {

@@ -6,8 +6,8 @@ use crate::escape::{escape_at, plain_len};
 use std::alloc::{AllocError, Global};
 use std::marker::Model;
 
-// A value whose escapes are replaced, and for each of its bytes whether it is shielded: what came of
-// `\$` or `\#` is, so that it opens no expression. Contracts see the list of its signs.
+// A value whose escapes are replaced, and for each of its bytes whether it is shielded: what comes
+// of `\$` or `\#` is, so that it opens no expression. Contracts see the list of its signs.
 #[derive(Drop)]
 pub(crate) struct Unescaped {
     text: String,

@@ -47,8 +47,8 @@ pub fn serve<R: Threads + Wait + Sync, B: Bind, W: Clocks + Sync, J: Sink, K: Si
     ensures bound { result ≡ 7 → Rose (B.faults bind.old) (B.faults bind.new) }
     ensures statuses { result ≢ 1 → result ≢ 7 → result ≢ 8 → result ≡ 5 }
 
-    // What the journals have comes of rounds in which each pass did what connections do of those for
-    // whom it is.
+    // What the journals have comes of rounds in which each pass did what connections do of those
+    // for whom it is.
     ensures rounds { IsOfRounds (J.taken journals.old) (J.taken journals.new) (J.faults journals.old)
         (J.faults journals.new) }
 {

@@ -90,7 +90,8 @@ fn count_of(journals: &[u8]) -> usize {
     count
 }
 
-// Whether three rounds are right over a sink that fails at these writes, and write so many journals.
+// Whether three rounds are right over a sink that fails at these writes, and write so many
+// journals.
 fn are_written<R: Threads + Wait + Sync>(
     rt: &R,
     alloc: Global,

@@ -41,8 +41,8 @@ impl Model for Block {
 
     ghost view = { λ b. map entry_of b.entries.value.items };
 
-    ghost invariant = { λ b.
-        AreInOrder (map entry_of b.entries.value.items) × IsMeasured (rec (entries_of (map entry_of b.entries.value.items))) b.weight b.depth };
+    ghost invariant = { λ b. AreInOrder (map entry_of b.entries.value.items)
+        × IsMeasured (rec (entries_of (map entry_of b.entries.value.items))) b.weight b.depth };
 
     ghost size = { block_size };
 

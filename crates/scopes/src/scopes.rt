@@ -41,6 +41,7 @@ impl Model for Scopes {
 
 impl Scopes {
     /// One empty frame, nothing in request scope, and this session.
+    #[inline(always)]
     pub fn new(alloc: Global, session: Option<Attrs>) -> Result<Self, AllocError>
         ensures { IfOk result (λ scopes. scopes ≡ starting session) }
     {

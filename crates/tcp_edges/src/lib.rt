@@ -5,8 +5,8 @@
 //! connection ends with a fault that is counted where its peer keeps it waiting:
 //!
 //! - 5 seconds for the first byte of a request,
-//! - 20 seconds for more of a request that has begun, 20 seconds in all for its head, and behind that as long as the bytes
-//!   that came last at 500 a second, and 20 seconds more,
+//! - 20 seconds for more of a request that has begun, 20 seconds in all for its head, and behind
+//!   that as long as the bytes that came last at 500 a second, and 20 seconds more,
 //! - 20 seconds until the peer takes more of an answer.
 //!
 //! Listeners may have rounds. Two of them end together: once one has taken as many connections as

@@ -57,7 +57,8 @@ impl<'r> Model for Decided<'r> {
 
     ghost view = { λ g. g.root.now };
 
-    ghost invariant = { λ g. (g.directives ≡ all_directives (in_place g.root.now.nodes.items)) × (g.first ≡ g.root.now.first)
+    ghost invariant = { λ g. (g.directives ≡ all_directives (in_place g.root.now.nodes.items))
+        × (g.first ≡ g.root.now.first)
         × (is_among g.core ≡ is_core_prefix g.directives)
         × (g.declared ≡ attributes_of (root_directives (root_view g.root.now))) };
 }

@@ -16,8 +16,8 @@ use std::alloc::{AllocError, Global};
 use std::cmp::Ordering;
 use std::marker::Model;
 
-/// The files of a tree. The first reading of each is made once and kept, in byte order of the paths.
-/// Contracts see the tree.
+/// The files of a tree. The first reading of each is made once and kept, in byte order of the
+/// paths. Contracts see the tree.
 #[derive(Drop)]
 pub struct UnitFiles<'a> {
     alloc: Global,
