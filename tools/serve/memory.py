@@ -48,12 +48,11 @@ class Starts:
 
     def add(self, program, workers):
         """Starts it once more, and answers whether it says that nothing is there."""
-        begun = time.perf_counter()
         with Server(program, workers=workers) as server:
             self.lines.append(server.seconds_to_start * 1e3)
             with Connection(server.port) as connection:
                 answer = connection.ask("GET", "/hello.jsp")
-            self.answers.append((time.perf_counter() - begun) * 1e3)
+            self.answers.append((time.perf_counter() - server.begun) * 1e3)
             self.memory.append(server.memory())
         return answer.status == 404
 

@@ -6,6 +6,7 @@ import os
 import resource
 import signal
 import socket
+import struct
 import subprocess
 import time
 
@@ -74,7 +75,9 @@ class Server:
         ]
 
     def start(self):
-        """Starts it, and waits for its line."""
+        """Starts it, and waits for its line. It has begun when its process is there and becomes
+        the program: what this script takes to make a process isn't the program's."""
+        told, tells = os.pipe()
 
         def before():
             if self.threads:
@@ -84,8 +87,8 @@ class Server:
                 resource.setrlimit(resource.RLIMIT_NOFILE, (self.files, self.files))
             if self.stack:
                 resource.setrlimit(resource.RLIMIT_STACK, (self.stack << 10, self.stack << 10))
+            os.write(tells, struct.pack("d", time.perf_counter()))
 
-        begun = time.perf_counter()
         self.process = subprocess.Popen(
             [self.program, *self.words()],
             stdin=subprocess.DEVNULL,
@@ -94,7 +97,11 @@ class Server:
             preexec_fn=before,
         )
         self.line = self.process.stderr.readline().decode()
-        self.seconds_to_start = time.perf_counter() - begun
+        came = time.perf_counter()
+        (self.begun,) = struct.unpack("d", os.read(told, struct.calcsize("d")))
+        self.seconds_to_start = came - self.begun
+        os.close(told)
+        os.close(tells)
         if not self.line.startswith("pages: readers at "):
             self.kill()
             raise RuntimeError(f"it doesn't serve: {self.line}")
