@@ -22,7 +22,7 @@ role_of (unit.core core.When) = role.When
 role_of (unit.core core.Otherwise) = role.Otherwise
 role_of other = role.Act
 
--- with what an action adds that has no act of its own, and with the group of none that stands for it
+-- with what an attribute, a body, a param or a branch adds, and with the empty group that stands for it
 abbrev pub with_nothing : Place → (Children → Children) → Children → Children
 with_nothing place added rest = with_node (page.group page.no_nodes place) (added rest)
 

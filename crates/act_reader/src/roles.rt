@@ -220,7 +220,8 @@ fn add_otherwise<'u>(
     })
 }
 
-/// The act of an action that has none of its own.
+/// The empty group, which stands for an action that has no act of its own: an attribute, a body, a
+/// param or a branch.
 #[tactic(auto, using(page_acts::proofs::Rows::rows))]
 pub(crate) fn nothing(alloc: Global, place: &Place) -> Act<'_>
     ensures { act_of result ≡ group no_nodes place.now }

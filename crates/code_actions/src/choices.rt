@@ -14,7 +14,7 @@ use page_code::{Code, Shape};
 use pg_text::{Listed, Place, Text};
 use std::alloc::{AllocError, Global};
 
-/// The code of a test and of two parts, behind the values of attributes with these names: `test` is
+/// The code that runs one of two parts, behind the values of attributes with these names: `test` is
 /// taken, the others are dropped, and the first part runs where it is true, else the second.
 fn tested(
     alloc: Global,

@@ -19,7 +19,7 @@ pub fn sound(opening: &Opening) -> bool
     sound_counts(opening) && sound_tree(opening) && sound_app(opening) && sound_sessions(opening)
 }
 
-/// Knows that the limit is a number of 64 bits.
+/// For proofs: the limit is a number of 64 bits.
 pub(crate) fn know_limit(opening: &Opening)
     ensures { opening.now.limit < 2 ^ 64 }
 {

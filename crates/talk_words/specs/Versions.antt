@@ -22,9 +22,11 @@ pub record Beginning : Type 0 where
 abbrev pub entry_of : Beginning → Entry
 entry_of b = record { pass = b.pass; op = op.Begin b.cookie b.moment; reply = reply.Begun b.request b.version b.session }
 
--- a request has the version that is the latest where it begins; one that begins later has none that is older, whichever pass began it and whichever
--- session it found; and none has an older one than its pass had seen
+-- no version is older than one that was seen before
 pub record AreNeverOlder : Type 0 where
+  -- a request has the version that is the latest where it begins
   pub latest : (needs : Needs) (x : Opening) (front rest : List Entry) (b : Beginning) → Legal needs x (front ++ entry_of b ∷ rest) → b.version ≡ x.version + publishes front
+  -- a request that begins later has none that is older, whichever passes began the two and whichever sessions they found
   pub later : (needs : Needs) (x : Opening) (front mid rest : List Entry) (b other : Beginning) → Legal needs x (front ++ entry_of b ∷ (mid ++ entry_of other ∷ rest)) → b.version ≤ other.version
+  -- no request has an older one than its pass had seen
   pub seen : (needs : Needs) (x : Opening) (pass : ℕ) (cookie : List ℕ) (moment : ℕ) (old begun : List Entry) (begins : Begins needs x pass cookie moment old begun) → x.version + publishes old ≤ begins.version

@@ -13,8 +13,8 @@ pub(crate) const MOST_INTERRUPTIONS: u32 = 1_000;
 pub(crate) struct Link {
     pub(crate) stream: TcpStream,
 
-    /// How many pieces were written to the peer. Where there are more than before, a request was
-    /// answered.
+    /// How many pieces were written to the peer. Where there are more than before, an answer has
+    /// begun or goes on.
     pub(crate) pieces: AtomicU64,
 }
 
