@@ -11,7 +11,7 @@ mod values;
 use crate::known_ids::KnownIds;
 use crate::request::Request;
 use crate::session_list::SessionList;
-use pg_value::Attrs;
+use pg_value::Record;
 use program_store::Store;
 use site_words::Compiled;
 use source_tree::Tree;
@@ -24,7 +24,7 @@ pub struct Held<P: Compiled> {
     pub alloc: Global,
     pub tree: Arc<Tree>,
     pub version: u64,
-    pub app: Attrs,
+    pub app: Record,
     pub sessions: SessionList,
     pub ids: KnownIds,
     pub runs: Vec<Option<Request>>,

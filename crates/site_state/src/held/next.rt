@@ -24,7 +24,7 @@ impl<P: Compiled> Held<P> {
             begins: self.begins,
             freshes: self.freshes,
             moment: self.moment,
-            app: self.app.copy()?,
+            app: self.app.copy()?.into_attrs()?,
             tree: self.tree.copy()?,
             sessions: KeptSessions::new(sessions),
         })

@@ -9,6 +9,7 @@ use crate::known_ids::KnownIds;
 use crate::request::Request;
 use crate::session::{Session, Source};
 use crate::session_list::SessionList;
+use pg_value::Record;
 use program_store::Store;
 use site_words::{Compiled, KeptSession, Opening};
 use std::alloc::{AllocError, Global};
@@ -24,7 +25,7 @@ impl<P: Compiled> Held<P> {
     {
         let sessions = opened_sessions(alloc, opening.sessions.as_slice())?;
         let runs = no_runs(alloc, opening.passes)?;
-        let app = opening.app.copy()?;
+        let app = Record::new(opening.app.copy()?)?;
         let tree = Arc::new(alloc, opening.tree.copy()?)?;
         Ok(Held {
             alloc,

@@ -11,14 +11,15 @@ none_under (suc n) = ap (λ (l : List (Option UnderWay)). None ∷ l) (none_unde
 
 pub returns-clause-state : goal.returns-clause-state
 returns-clause-state g c =
-    let tree = c.in_ok-tree.ensures.ok ∙ c.in_ok-copy.ensures in
+    let app = c.in_ok-app.ensures ∙ c.in_ok-copy.ensures in
+    let tree = c.in_ok-tree.ensures.ok ∙ c.in_ok-copy-2.ensures in
     let sessions = subst (λ o. sessions_of o [] c.in_ok-sessions.sessions ≡ o) c.as_slice.ensures c.in_ok-sessions.ensures.sessions in
     let runs = ap (λ l. map under_in l) c.in_ok-runs.ensures ∙ none_under c.args.opening.now.passes in
-    let ready = ap (λ l. map kept_path l) c.new-2.ensures in
+    let ready = ap (λ l. map kept_path l) c.new-3.ensures in
     λ i. record {
       tree = tree i;
       version = c.args.opening.now.version;
-      app = c.in_ok-app.ensures i;
+      app = app i;
       sessions = sessions i;
       runs = runs i;
       begins = c.args.opening.now.begins;
