@@ -26,8 +26,8 @@ pub(crate) struct Course<'r> {
 }
 
 impl<'r> Course<'r> {
-    /// Nothing of it was read.
-    pub fn new(alloc: Global, root: &'r Root) -> Result<Self, AllocError>
+    // Nothing of it was read.
+    fn new(alloc: Global, root: &'r Root) -> Result<Self, AllocError>
         ensures root { IfOk result (λ course. course.root ≡ root.now) }
         ensures before { IfOk result (λ course. course.before ≡ nothing_before) }
         ensures own { IfOk result (λ course. IsOwn course) }
@@ -37,6 +37,18 @@ impl<'r> Course<'r> {
             before: Before::new(alloc),
             own: DeclaredBefore::new(alloc),
         })
+    }
+
+    /// The course of a page or a tag file of which nothing was read. It is in the heap: while the tag
+    /// files that a file calls are read, its own course stays.
+    #[inline(never)]
+    pub fn begun(alloc: Global, root: &'r Root) -> Result<Box<Self>, AllocError>
+        ensures root { IfOk result (λ course. course.value.root ≡ root.now) }
+        ensures before { IfOk result (λ course. course.value.before ≡ nothing_before) }
+        ensures own { IfOk result (λ course. IsOwn course.value) }
+    {
+        let course = Course::new(alloc, root)?;
+        Ok(Box::new(alloc, course)?)
     }
 
     // The faults of what a directive declares in a tag file itself.
@@ -99,6 +111,13 @@ impl<'r> Course<'r> {
     {
         self.before.meet_text(text)
     }
+}
+
+/// Lets go of a course, at the end of its file. Where that is done nothing of it is on the stack of
+/// the files that are read meanwhile.
+#[inline(never)]
+pub(crate) fn end(course: Box<Course>) {
+    drop(course);
 }
 
 // Keeps a directive behind these; after an error none is kept.

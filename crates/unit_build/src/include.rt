@@ -39,6 +39,7 @@ fn meet_entry(entry: Entry, found: &mut Found) -> (Faults, bool)
 }
 
 /// Meets an include directive: whether reading goes into its file.
+#[inline(never)]
 pub(crate) fn meet_include<'r>(
     alloc: Global,
     course: &mut Course<'r>,

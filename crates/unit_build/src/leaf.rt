@@ -33,11 +33,12 @@ fn text_faults(here: Here, text: &[u8]) -> Faults
 }
 
 /// Meets a leaf.
+#[inline(never)]
 #[tactic(auto, using(crate::proofs::FoundLemmas::read_met, crate::proofs::FoundLemmas::read_none))]
 pub(crate) fn meet_leaf<'r>(
     alloc: Global,
     course: &mut Course<'r>,
-    here: Here,
+    here: &Here,
     leaf: &'r Leaf,
     place: &'r Place,
     found: &mut Found,
@@ -46,22 +47,22 @@ pub(crate) fn meet_leaf<'r>(
     ensures root { OnOk result (course.new.root ≡ course.old.root) }
     ensures own { OnOk result (IsOwn course.new) }
     ensures met { OnOk result (IsRead found.old found.new (state_in course.new.before found.new)
-        (leaf_met (root_view course.old.root) (here_made here.entry) leaf.now place.now
+        (leaf_met (root_view course.old.root) (here_made here.now) leaf.now place.now
         (state_in course.old.before found.old))) }
 {
     match leaf {
         Leaf::Text(text) => {
-            found.meet(place, text_faults(here, text.as_bytes()))?;
+            found.meet(place, text_faults(*here, text.as_bytes()))?;
             course.meet_text(text.as_str())
         }
         Leaf::Comment => Ok(()),
         Leaf::Expr(text) => {
             let faults = expression_faults(alloc, &course.before, text.as_str())?;
-            found.meet(place, nesting_faults(here).and(faults))
+            found.meet(place, nesting_faults(*here).and(faults))
         }
         Leaf::Hash => {
             let hash = Faults::one(TranslationFault::ElNotHere);
-            found.meet(place, nesting_faults(here).and(hash))
+            found.meet(place, nesting_faults(*here).and(hash))
         }
         Leaf::Directive(name, attributes) => {
             let faults = course.meet(alloc, name.as_str(), attributes, place)?;

@@ -69,6 +69,7 @@ fn add_node(
 }
 
 // Adds what an element comes to.
+#[inline(never)]
 #[cycle(building)]
 #[tactic(auto, using(unit_nodes::proofs::NodeLemmas::joined_done))]
 fn add_element(
@@ -113,6 +114,7 @@ fn add_action(
 }
 
 // An element as an action of this kind with this body.
+#[inline(never)]
 #[tactic(auto, using(unit_nodes::proofs::NodeLemmas::action_is))]
 fn action_node(
     alloc: Global,
@@ -134,6 +136,7 @@ fn action_node(
 }
 
 // Adds a node at the end.
+#[inline(never)]
 #[tactic(auto, using(unit_nodes::proofs::NodeLemmas::nodes_push))]
 fn add(nodes: &mut Vec<UnitNode>, node: UnitNode) -> Result<(), AllocError>
     ensures { OnOk result (nodes_of nodes.new.items ≡ joined (nodes_of nodes.old.items) (node_of node)) }
@@ -143,6 +146,7 @@ fn add(nodes: &mut Vec<UnitNode>, node: UnitNode) -> Result<(), AllocError>
 }
 
 // Adds what a leaf comes to.
+#[inline(never)]
 #[tactic(auto, using(unit_nodes::proofs::NodeLemmas::joined_done))]
 fn add_leaf(
     alloc: Global,

@@ -163,22 +163,23 @@ fn meet_faults(
 }
 
 /// Meets the beginning of an element and its attributes: the tag file where this is its first call.
+#[inline(never)]
 pub(crate) fn meet_start(
     alloc: Global,
     course: &Course,
-    beginning: Beginning,
+    beginning: &Beginning,
     found: &mut Found,
 ) -> Result<Option<Arc<Tag>>, AllocError>
     ensures { IfOk result (λ entered. IsStarted found.old found.new (root_view course.now.root)
-        (kind_made beginning.entry.kind.now) (here_made beginning.entry.here)
-        (opened_of beginning.entry.element.now.head)
-        (flat (in_place beginning.entry.element.now.body.items)) course.now.before
+        (kind_made beginning.now.kind.now) (here_made beginning.now.here)
+        (opened_of beginning.now.element.now.head)
+        (flat (in_place beginning.now.element.now.body.items)) course.now.before
         (option_map (λ tag. root_view tag.value) entered)
-        (file_met (text_in found.old.site) (kind_made beginning.entry.kind.now)
-        (opened_of beginning.entry.element.now.head).tag
-        (nested (here_made beginning.entry.here) (state_in course.now.before found.old)))) }
+        (file_met (text_in found.old.site) (kind_made beginning.now.kind.now)
+        (opened_of beginning.now.element.now.head).tag
+        (nested (here_made beginning.now.here) (state_in course.now.before found.old)))) }
 {
-    let (faults, entered) = meet_nested(alloc, beginning, found)?;
-    meet_faults(alloc, course, beginning, faults, found)?;
+    let (faults, entered) = meet_nested(alloc, *beginning, found)?;
+    meet_faults(alloc, course, *beginning, faults, found)?;
     Ok(entered)
 }

@@ -10,6 +10,7 @@ use page_directives::Directive;
 use pg_text::Path;
 use std::alloc::{AllocError, Global};
 use std::marker::Model;
+use std::sync::Arc;
 use tag_decl::{AttrDecls, TagDecl, declare, is_good};
 use unit_source::{Root, directives, first_directives};
 
@@ -58,6 +59,13 @@ impl Tag {
     {
         self.declared.as_ref()
     }
+}
+
+/// Lets go of a tag file that is kept elsewhere too, and so takes no stack of the files that are read
+/// before that.
+#[inline(never)]
+pub(crate) fn let_go(tag: Arc<Tag>) {
+    drop(tag);
 }
 
 // Whether a directive stands in a file.

@@ -13,13 +13,14 @@ ghost use Rattle.unit_build.specs.ReadSteps.{left_out, left_out_still, start_ste
 ghost use Rattle.unit_build.specs.ReadSteps.{steps_met, steps_of};
 ghost use Rattle.unit_build.specs.ReadWalk.{IsOwn, IsPageMet};
 
-use crate::course::Course;
+use crate::course::{Course, end};
 use crate::found::Found;
 use crate::include::meet_include;
 use crate::leaf::meet_leaf;
 use crate::site::Site;
 use crate::start::meet_start;
 use crate::steps::Step;
+use crate::tag::let_go;
 use std::alloc::{AllocError, Global};
 use unit_judges::Beginning;
 use unit_source::{MAX_UNIT_FILES, Root};
@@ -41,18 +42,22 @@ fn left_out_still(step: &Step, count: usize) -> usize
 fn take_start(
     alloc: Global,
     course: &Course,
-    beginning: Beginning,
+    beginning: &Beginning,
     deep: usize,
     found: &mut Found,
 ) -> Result<(), AllocError>
     ensures { OnOk result (IsRead found.old found.new (state_in course.now.before found.new)
         (step_met (text_in found.old.site) (root_view course.now.root) (met_within deep (text_in found.old.site))
-        (start_step (here_made beginning.entry.here) (kind_made beginning.entry.kind.now)
-        (opened_of beginning.entry.element.now.head)
-        (flat (in_place beginning.entry.element.now.body.items))) (state_in course.now.before found.old))) }
+        (start_step (here_made beginning.now.here) (kind_made beginning.now.kind.now)
+        (opened_of beginning.now.element.now.head)
+        (flat (in_place beginning.now.element.now.body.items))) (state_in course.now.before found.old))) }
 {
     match meet_start(alloc, course, beginning, found)? {
-        Some(tag) => read_root(alloc, tag.root(), deep, found),
+        Some(tag) => {
+            let read = read_root(alloc, tag.root(), deep, found);
+            let_go(tag);
+            read
+        }
         None => Ok(()),
     }
 }
@@ -77,7 +82,7 @@ fn take_step<'r>(
 {
     match step {
         Step::Leaf { here, leaf, place } => {
-            meet_leaf(alloc, course, *here, leaf, place, found)?;
+            meet_leaf(alloc, course, here, leaf, place, found)?;
             Ok(0)
         }
         Step::Break(fault) => {
@@ -89,13 +94,12 @@ fn take_step<'r>(
             kind,
             element,
         } => {
-            let here = *here;
             let beginning = Beginning {
-                here,
+                here: *here,
                 kind,
                 element: *element,
             };
-            take_start(alloc, course, beginning, deep, found)?;
+            take_start(alloc, course, &beginning, deep, found)?;
             Ok(0)
         }
         Step::Include { directive, entry } => {
@@ -141,8 +145,10 @@ fn read_root(alloc: Global, root: &Root, deep: usize, found: &mut Found) -> Resu
     if deep == 0 {
         return Ok(());
     }
-    let mut course = Course::new(alloc, root)?;
-    take_course(alloc, &mut course, deep - 1, found)
+    let mut course = Course::begun(alloc, root)?;
+    let read = take_course(alloc, &mut course, deep - 1, found);
+    end(course);
+    read
 }
 
 // Takes the steps of a page or a tag file whose course has just begun.

@@ -15,7 +15,7 @@ pub returns-in_ok-faults-in-Expr-clause-met : goal.returns-in_ok-faults-in-Expr-
 returns-in_ok-faults-in-Expr-clause-met c =
     let old = c.args.found.now in
     let before = c.args.course.now.before in
-    let here = here_made c.args.here in
+    let here = here_made c.args.here.now in
     let text = c.in-Expr.text in
     let own : c.in_ok-faults-in-Expr.faults ≡ in_order (expression_faults (is_function_prefix before.directives) text) = search rules in
     let all = c.and.ensures.of (nesting_faults here) (expression_faults (is_function_prefix before.directives) text) c.nesting_faults.ensures own in

@@ -8,7 +8,7 @@ use Rattle.unit_build.proofs.steps.+steps.Given as goal
 
 abbrev pub invariant-push_steps-loop-node : goal.invariant-push_steps-loop-node
 invariant-push_steps-loop-node l = record {
-  here : behind_all l.directives (in_place (drop l.node-index l.nodes)) (here_made l.behind) ≡ behind_all l.directives (in_place l.nodes) (here_made l.fn.here);
-  steps : map step_made l.steps.items ++ steps_of l.directives (here_made l.behind) (in_place (drop l.node-index l.nodes))
+  here : behind_all l.directives (in_place (drop l.node-index l.nodes)) (here_made l.here) ≡ behind_all l.directives (in_place l.nodes) (here_made l.fn.here);
+  steps : map step_made l.steps.items ++ steps_of l.directives (here_made l.here) (in_place (drop l.node-index l.nodes))
       ≡ map step_made l.fn.steps.items ++ steps_of l.directives (here_made l.fn.here) (in_place l.nodes);
 }

@@ -1,5 +1,6 @@
 use Rattle.std.proofs.Common.{◌≡◌, ◌<◌, ◌≤◌, ◌-◌, ◌+◌, ◌∙◌, ap, arith, drop, length, map, refl, rules, subst, sym, zero}
 use Rattle.std.specs.Option.{option_map}
+use Rattle.page_directives.specs.Meet.{nothing_before}
 use Rattle.jstl_tags.specs.Elements.{opened_of}
 use Rattle.unit_source.specs.declared.root.Root.{Root as Kept}
 use Rattle.unit_source.specs.Files.{text_in}
@@ -87,29 +88,32 @@ read_root-returns t c =
     let files = text_in old.site in
     let root = root_view c.args.root.now in
     let less = c.args.deep - 1 in
-    let course = c.in_ok-course.course in
-    let new = c.take_course.new.found in
-    let after = state_in c.take_course.new.course.before new in
+    let course = c.deref_mut.result.now in
+    let lent : course ≡ c.in_ok-course.course.value = search rules in
+    let none : course.before ≡ nothing_before = ap (λ (g : Course). g.before) lent ∙ c.in_ok-course.ensures.before in
+    let of_root : course.root ≡ c.args.root.now = ap (λ (g : Course). g.root) lent ∙ c.in_ok-course.ensures.root in
+    let new = c.take_course-read.new.found in
+    let after = state_in c.take_course-read.new.course.before new in
     let all = steps_of root.directives outermost root.nodes in
-    on_ok c.take_course.result c.take_course.ensures
-    (λ is before. read_within before c.take_course.new.course.before c.args.deep less root all (omega arith) refl
-    (subst (λ b. IsRead old new after (steps_met files root (met_within less files) zero all (state_in b old))) c.in_ok-course.ensures.before
-    (subst (λ (r : Kept). IsRead old new after (steps_met files (root_view r) (met_within less files) zero (steps_of (root_view r).directives outermost (root_view r).nodes) (state_in course.before old))) c.in_ok-course.ensures.root is)))
+    on_ok c.take_course-read.result c.take_course-read.ensures
+    (λ is before. read_within before c.take_course-read.new.course.before c.args.deep less root all (omega arith) refl
+    (subst (λ b. IsRead old new after (steps_met files root (met_within less files) zero all (state_in b old))) none
+    (subst (λ (r : Kept). IsRead old new after (steps_met files (root_view r) (met_within less files) zero (steps_of (root_view r).directives outermost (root_view r).nodes) (state_in course.before old))) of_root is)))
 
 pub take_start-returns-in-Some : goal.take_start-returns-in-Some
 take_start-returns-in-Some t c =
     let old = c.args.found.now in
     let mid = c.meet_start.new.found in
-    let new = c.read_root.new.found in
+    let new = c.read_root-read.new.found in
     let before = c.args.course.now.before in
     let root = root_view c.args.course.now.root in
-    let kind = kind_made c.args.beginning.kind.now in
-    let here = here_made c.args.beginning.here in
-    let opened = opened_of c.args.beginning.element.now.head in
-    let body = flat (in_place c.args.beginning.element.now.body.items) in
+    let kind = kind_made c.args.beginning.now.kind.now in
+    let here = here_made c.args.beginning.now.here in
+    let opened = opened_of c.args.beginning.now.element.now.head in
+    let body = flat (in_place c.args.beginning.now.element.now.body.items) in
     let file : Called = file_met (text_in old.site) kind opened.tag (nested here (state_in before old)) in
     let tag : c.root.result.now ≡ c.in-Some.tag.value = search rules in
     let started = subst (λ o. IsStarted old mid root kind here opened body before (option_map (λ tag. root_view tag.value) o) file) c.in-Some.is c.in_ok-tag.ensures in
-    on_ok c.read_root.result c.read_root.ensures
+    on_ok c.read_root-read.result c.read_root-read.ensures
     (λ is. started_entered c.args.deep started
     (subst (λ (r : Kept). IsRead mid new (state_in before new) (met_within c.args.deep (text_in mid.site) (root_view r) (state_in before mid))) tag (is before)))
