@@ -39,8 +39,8 @@ impl<'r> Course<'r> {
         })
     }
 
-    /// The course of a page or a tag file of which nothing was read. It is in the heap: while the tag
-    /// files that a file calls are read, its own course stays.
+    /// Nothing of it was read. It is in the heap, since it stays while the tag files that its file
+    /// calls are read, up to 255 in one another.
     #[inline(never)]
     pub fn begun(alloc: Global, root: &'r Root) -> Result<Box<Self>, AllocError>
         ensures root { IfOk result (λ course. course.value.root ≡ root.now) }
@@ -113,8 +113,8 @@ impl<'r> Course<'r> {
     }
 }
 
-/// Lets go of a course, at the end of its file. Where that is done nothing of it is on the stack of
-/// the files that are read meanwhile.
+/// Lets go of a course. A function of its own, so that what this takes isn't on the stack while the
+/// file is read.
 #[inline(never)]
 pub(crate) fn end(course: Box<Course>) {
     drop(course);

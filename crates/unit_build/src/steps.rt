@@ -57,7 +57,8 @@ pub(crate) fn steps_of<'r>(
     Ok(steps)
 }
 
-// Adds a step. What it is made of is on no stack while the steps of a body or of a file are added.
+// Adds a step. None of the functions that add one step is inlined: a step isn't on the stack while
+// the steps of a body or of a file are added.
 #[inline(never)]
 fn add<'r>(steps: &mut Vec<Step<'r>>, step: Step<'r>) -> Result<(), AllocError>
     ensures { OnOk result (map step_made steps.new.items ≡ map step_made steps.old.items

@@ -61,8 +61,8 @@ impl Tag {
     }
 }
 
-/// Lets go of a tag file that is kept elsewhere too, and so takes no stack of the files that are read
-/// before that.
+/// Lets go of a tag file. A function of its own, so that what this takes isn't on the stack while
+/// the tag file is read.
 #[inline(never)]
 pub(crate) fn let_go(tag: Arc<Tag>) {
     drop(tag);
