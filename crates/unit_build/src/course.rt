@@ -97,7 +97,8 @@ impl<'r> Course<'r> {
         Ok(faults.and(declaring))
     }
 
-    /// Meets template text.
+    /// Meets template text, and notes the prefixes of the tags in it: what registers one of them
+    /// from now on comes too late.
     pub fn meet_text(&mut self, text: &str) -> Result<(), AllocError>
         requires { IsOwn self.now }
         ensures root { OnOk result (self.new.root ≡ self.old.root) }

@@ -163,7 +163,7 @@ impl<'t> Found<'t> {
         }
     }
 
-    // What the file of a class comes to.
+    // What the file of a class comes to. Its name is noted also where it is absent.
     #[tactic(auto, using(crate::proofs::BeanLemmas::bean_after))]
     fn meet_bean_file(
         &mut self,
