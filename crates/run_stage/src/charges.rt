@@ -6,7 +6,7 @@ ghost use Rattle.site_words.specs.Weights.{capped, step_weight};
 
 use page_meaning::CHARGE_LIMIT;
 use pg_text::Path;
-use site_words::{AppStep, MAX_PAGE_CHARGE, is_page, page_charge, step_weight};
+use site_words::{AppStep, MAX_PAGE_CHARGE, OP_WEIGHT, is_page, page_charge, step_weight};
 
 /// Whether this charge lets nothing more be asked.
 pub(crate) fn is_spent(charge: u64) -> bool
@@ -17,9 +17,9 @@ pub(crate) fn is_spent(charge: u64) -> bool
 
 /// What the entry of a step weighs without its answer.
 pub(crate) fn entry_weight(step: &AppStep) -> u64
-    ensures { result ≡ capped (64 + step_weight step.now) }
+    ensures { result ≡ capped (OP_WEIGHT + step_weight step.now) }
 {
-    step_weight(step).saturating_add(64)
+    step_weight(step).saturating_add(OP_WEIGHT)
 }
 
 /// Whether a page is asked for under a charge that lets nothing more be asked. Another file may
