@@ -15,9 +15,10 @@ use Rattle.page_meaning.specs.Respond.{OnFault, first_run, run_answer, target_an
 use Rattle.page_meaning.specs.Response.{Answered, end_state}
 use Rattle.page_meaning.specs.State.{State}
 use Rattle.request_pages.proofs.WithinLemmas.{within_none}
-use Rattle.request_pages.specs.Chained.{Chained, ChainedSo, IsEndOpen, IsProgramIn, chain_answers, params_of}
+use Rattle.request_pages.specs.Chained.{Chained, ChainedSo, IsEndOpen, chain_answers, params_of}
 use Rattle.request_pages.specs.PageEnd.{IsOpen}
 use Rattle.request_pages.specs.Played.{Played}
+use Rattle.request_pages.specs.Ready.{IsProgramIn}
 use Rattle.request_pages.specs.Target.{IsTargetEnd, IsTargetReply, IsWhole}
 use Rattle.request_pages.specs.Within.{GoesWithin}
 use Rattle.request_pages.specs.declared.chain.ChainEnd.{ChainEnd}

@@ -1,12 +1,11 @@
 -- What a request's page is answered.
-use Rattle.std.proofs.Common.{◌≡◌, ℕ, List, [], ◌++◌, refl, sym, ap, subst, ◌∙◌, append_assoc}
+use Rattle.std.proofs.Common.{◌≡◌, List, [], ◌++◌, refl, sym, ap, subst, ◌∙◌, append_assoc}
 use Rattle.std.specs.Arc.{arc_value}
 use Rattle.std.specs.Prelude.{Result, Ok, Err}
 use Rattle.http_in.specs.declared.params.Param.{Param}
 use Rattle.http_in.specs.declared.request.Request.{Request}
 use Rattle.http_out.specs.declared.status.Status.TheVariants as status_is
 use Rattle.out_buffer.specs.Held.{Held}
-use Rattle.compiled_pages.specs.Made.{IsPageAt, IsProgramOf}
 use Rattle.page_meaning.specs.Context.{Served}
 use Rattle.page_meaning.specs.Page.{Page}
 use Rattle.page_meaning.specs.Respond.{OnFault, level_limit, on_fault}
@@ -15,6 +14,7 @@ use Rattle.page_meaning.specs.State.{State}
 use Rattle.request_pages.proofs.CloseLemmas.{done_open}
 use Rattle.request_pages.specs.Chained.{Chained, chain_answers, params_of}
 use Rattle.request_pages.specs.Closed.{Closed, ClosedSo, fault_answers, first_answers}
+use Rattle.request_pages.specs.Ready.{IsProgramIn}
 use Rattle.request_pages.specs.declared.chain.ChainEnd.TheVariants as ended
 use Rattle.request_pages.specs.declared.chain.Failure.{Failure}
 use Rattle.request_pages.specs.declared.reply.Reply.{Reply}
@@ -32,8 +32,8 @@ first_chained served page params future s = refl
 -- what is known where a chain ended by a fault: whose program it is, and that nothing was committed
 pub failed_known : {E : Type 0} (failure : Failure) (answers : OnFault → List Answer → State → Answered) (request : Request) (tree : List File) (stands : State → Type 0) (s : State) (old new : List Answer) (held : Held)
     (chained : Chained answers request tree stands s old new held {E = E} (Ok (ended.Failed failure)))
-    → (path : List ℕ) × IsProgramOf (arc_value failure.program) tree path × IsPageAt chained.ends.0 tree path × (chained.after.writer.pieces ≡ [])
-failed_known failure answers request tree stands s old new held chained = let made = chained.ends.1 in (made.0, made.1, made.2, chained.ends.2)
+    → IsProgramIn (arc_value failure.program) tree chained.ends.0 × (chained.after.writer.pieces ≡ [])
+failed_known failure answers request tree stands s old new held chained = (chained.ends.1, chained.ends.2)
 
 -- memory ran out while the page ran
 pub first_lost : {E F : Type 0} (e : E) (f : F) → RunsGrowOn → (served : Served) (page : Page) (request : Request) (tree : List File) (ran stands : State → Type 0) (s : State) (old new : List Answer) (held : Held) → ((t : State) → ran t → stands t)

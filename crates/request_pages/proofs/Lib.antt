@@ -2,6 +2,7 @@ pub use Rattle.request_port.proofs.AskedLemmas
 pub mod PageEndLemmas
 pub mod HeadLemmas
 pub mod PlayedLemmas
+pub mod ReadyLemmas
 pub mod WithinLemmas
 pub mod TargetLemmas
 pub mod ChainLemmas

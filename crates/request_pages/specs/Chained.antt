@@ -5,7 +5,6 @@ use Rattle.http_in.specs.declared.params.Param.{Param}
 use Rattle.http_in.specs.declared.request.Request.{Request}
 use Rattle.http_out.specs.declared.status.Status.{Status}
 use Rattle.out_buffer.specs.Held.{Held}
-use Rattle.compiled_pages.specs.Made.{IsPageAt, IsProgramOf}
 use Rattle.run_pages.specs.Run.{StandsFor}
 use Rattle.page_meaning.specs.Context.{Served}
 use Rattle.page_meaning.specs.Page.{Page}
@@ -14,6 +13,7 @@ use Rattle.page_meaning.specs.Response.{Answered}
 use Rattle.page_meaning.specs.State.{State}
 use Rattle.request_pages.specs.PageEnd.{reply_answer}
 use Rattle.request_pages.specs.Point.{Point, PointStands}
+use Rattle.request_pages.specs.Ready.{IsProgramIn}
 use Rattle.request_pages.specs.Within.{GoesWithin}
 use Rattle.request_pages.specs.declared.chain.ChainEnd.{ChainEnd}
 use Rattle.request_pages.specs.declared.chain.ChainEnd.TheVariants as ended
@@ -22,7 +22,6 @@ use Rattle.response_laws.specs.Laws.{FaultsGrow, chain_of}
 use Rattle.run_world.specs.Origin.{Origin}
 use Rattle.run_world.specs.Part.{given}
 use Rattle.run_world.specs.Seats.{raise_of}
-use Rattle.run_world.specs.declared.program.Program.{Program}
 use Rattle.site_words.specs.Law.{Answer}
 use Rattle.source_tree.specs.declared.file.File.{File}
 
@@ -30,10 +29,6 @@ use Rattle.source_tree.specs.declared.file.File.{File}
 abbrev pub params_of : Request → Option (List Param) → List Param
 params_of request None = request.params
 params_of request (Some params) = params
-
--- this is the program of a page of the tree
-abbrev pub IsProgramIn : Program → List File → Page → Type 0
-IsProgramIn program tree page = (path : List ℕ) × IsProgramOf program tree path × IsPageAt page tree path
 
 -- the page whose run the chain ended in, where a fault ended it
 abbrev pub IsEndPage : List File → ChainEnd → Page → Type 0

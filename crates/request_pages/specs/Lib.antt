@@ -7,6 +7,7 @@ pub mod PageEnd
 pub mod Played
 pub mod Within
 pub mod Point
+pub mod Ready
 pub mod Chained
 pub mod Target
 pub mod Looked

@@ -25,6 +25,10 @@ pub record Point : Type 0 where
 abbrev pub point_of : {K : Type 0} → (taken : K → Option (List ℕ)) (faults : K → ℕ) → RequestState → K → Asking → Point
 point_of taken faults state sink asking = record { state = state; taken = taken sink; faults = faults sink; asking = asking }
 
+-- the same of what is asked over a port of the request
+abbrev pub point_over : {Q L K : Type 0} → (opening : Q → Opening) (pass : Q → ℕ) (seen : Q → List Entry) (taken : K → Option (List ℕ)) (faults : K → ℕ) → RequestState → K → RequestPort Q L → Point
+point_over opening pass seen taken faults state sink port = point_of taken faults state sink (asking_over opening pass seen port)
+
 -- what stands at a point stands for a state of the meaning
 abbrev pub PointStands : Origin → Point → State → Type 0
 PointStands origin point s = StandsFor origin point.state.scopes point.state.writer point.taken point.faults point.state.around point.asking s

@@ -1,8 +1,7 @@
 // What is answered at the path of a request.
-ghost use Rattle.std.specs.Prelude.{◌≡◌, ◌≤◌, ℕ, List, [], false, None, OnOk};
+ghost use Rattle.std.specs.Prelude.{◌≡◌, ◌≤◌, [], false, None, OnOk};
 ghost use Rattle.std.specs.Arc.{arc_value};
 ghost use Rattle.run_pages.specs.Run.{IsInOrder, StandsFor};
-ghost use Rattle.compiled_pages.specs.Made.{IsPageAt, IsProgramOf};
 ghost use Rattle.compiled_pages.specs.Pages.{needs_at};
 ghost use Rattle.page_meaning.specs.Page.{Page};
 ghost use Rattle.page_meaning.specs.Respond.{is_hidden};
@@ -11,7 +10,8 @@ ghost use Rattle.run_pages.specs.Meant.{served_at};
 ghost use Rattle.request_pages.specs.Closed.{ClosesFrom, ClosesUncommitted, first_answers, request_answers};
 ghost use Rattle.request_pages.specs.Headed.{IsHeaded};
 ghost use Rattle.request_pages.specs.Played.{IsFunded};
-ghost use Rattle.request_pages.specs.Point.{asking_over, point_of};
+ghost use Rattle.request_pages.specs.Point.{asking_over, point_over};
+ghost use Rattle.request_pages.specs.Ready.{HasPage, IsProgramIn, IsReady};
 ghost use Rattle.request_port.specs.Leading.{IsLast, Leads};
 ghost use Rattle.run_world.specs.Origin.{Origin};
 
@@ -55,8 +55,8 @@ pub fn answer<'a, Q: Port<Made>, L: Ledger, K: Sink>(
     ensures closed { ClosesUncommitted
         (request_answers (served_at port.old.tree.now incoming.entry.request.now state.old.around)
         incoming.entry.request.now)
-        (point_of K.taken K.faults state.old sink.old (asking_over Q.opening Q.pass Q.seen port.old))
-        (point_of K.taken K.faults state.new sink.new (asking_over Q.opening Q.pass Q.seen port.new)) result }
+        (point_over Q.opening Q.pass Q.seen K.taken K.faults state.old sink.old port.old)
+        (point_over Q.opening Q.pass Q.seen K.taken K.faults state.new sink.new port.new) result }
     ensures headed { IsHeaded incoming.entry.close incoming.entry.shown state.new.around state.new.writer }
     ensures in_order { OnOk result (IsInOrder state.new.scopes state.new.around
         (asking_over Q.opening Q.pass Q.seen port.new)) }
@@ -89,22 +89,18 @@ fn first_page<'a, Q: Port<Made>, L: Ledger, K: Sink>(
     port: &mut RequestPort<'a, Q, L>,
 ) -> Result<Reply, AllocError>
     requires uncommitted { state.old.writer.committed ≡ false }
-    requires headed { IsHeaded incoming.close incoming.shown state.old.around state.old.writer }
-    requires in_order { IsInOrder state.old.scopes state.old.around (asking_over Q.opening Q.pass Q.seen port.old) }
-    requires funded { IsFunded state.old.around (asking_over Q.opening Q.pass Q.seen port.old) }
+    requires ready { IsReady incoming.close incoming.shown
+        (point_over Q.opening Q.pass Q.seen K.taken K.faults state.old sink.old port.old) }
     requires depth { state.old.around.depth ≡ 0 }
     requires charge { state.old.around.charge ≤ MAX_ASKED_CHARGE }
     requires last { IsLast port.old.tree.now port.old.last }
-    requires known { (page : Page) × (path : List ℕ) × (origin : Origin) × (s : State) × IsProgramOf
-        (arc_value program) port.old.tree.now path × IsPageAt page port.old.tree.now path
-        × StandsFor origin state.old.scopes state.old.writer (K.taken sink.old) (K.faults sink.old)
-        state.old.around (asking_over Q.opening Q.pass Q.seen port.old) s }
-    ensures closed { (path : List ℕ) → IsProgramOf (arc_value program) port.old.tree.now path →
-        (page : Page) → IsPageAt page port.old.tree.now path → ClosesFrom
+    requires known { HasPage (arc_value program) port.old.tree.now
+        (point_over Q.opening Q.pass Q.seen K.taken K.faults state.old sink.old port.old) }
+    ensures closed { (page : Page) → IsProgramIn (arc_value program) port.old.tree.now page → ClosesFrom
         (first_answers (served_at port.old.tree.now incoming.entry.request.now state.old.around) page
         incoming.entry.request.now.params)
-        (point_of K.taken K.faults state.old sink.old (asking_over Q.opening Q.pass Q.seen port.old))
-        (point_of K.taken K.faults state.new sink.new (asking_over Q.opening Q.pass Q.seen port.new)) result }
+        (point_over Q.opening Q.pass Q.seen K.taken K.faults state.old sink.old port.old)
+        (point_over Q.opening Q.pass Q.seen K.taken K.faults state.new sink.new port.new) result }
     ensures headed { IsHeaded incoming.entry.close incoming.entry.shown state.new.around state.new.writer }
     ensures in_order { OnOk result (IsInOrder state.new.scopes state.new.around
         (asking_over Q.opening Q.pass Q.seen port.new)) }

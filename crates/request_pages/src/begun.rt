@@ -4,12 +4,13 @@ ghost use Rattle.std.specs.declared.option.Option.{Option};
 ghost use Rattle.out_buffer.specs.Held.{Stands};
 ghost use Rattle.out_buffer.specs.Writer.{Writer as Wrote};
 ghost use Rattle.run_pages.specs.Run.{IsInOrder, level_limit};
-ghost use Rattle.compiled_pages.specs.Made.{IsPageAt, IsProgramOf, TellsPages};
+ghost use Rattle.compiled_pages.specs.Made.{TellsPages};
 ghost use Rattle.page_meaning.specs.Page.{Page};
 ghost use Rattle.run_pages.specs.Meant.{served_at};
 ghost use Rattle.request_pages.specs.PageEnd.{EndsBy, EndsFrom};
 ghost use Rattle.request_pages.specs.Point.{point_of};
-ghost use Rattle.run_stage.specs.Keeping.{HasCharged, KeepsResponse, KeepsSession};
+ghost use Rattle.request_pages.specs.Ready.{IsProgramIn, KeepsRequest};
+ghost use Rattle.run_stage.specs.Keeping.{KeepsResponse};
 
 use crate::body::Body;
 use crate::reply::{PageEnd, Reply};
@@ -36,17 +37,15 @@ pub(crate) fn run_begun<P: AppPort<Program>, K: Sink>(
     requires promise { RUN_PROMISE ≤ state.old.around.charge + (P.asking port.old).left }
     requires writer { (start : Option (List ℕ)) × (before : ℕ) × (written : Wrote) × Stands start before
         state.old.writer (K.taken sink.old) (K.faults sink.old) written }
-    ensures ended { (path : List ℕ) → IsProgramOf asked.entry.program.now (P.tree port.old) path →
-        (page : Page) → IsPageAt page (P.tree port.old) path → EndsFrom
+    ensures ended { (page : Page) → IsProgramIn asked.entry.program.now (P.tree port.old) page → EndsFrom
         (served_at (P.tree port.old) asked.entry.request.now state.old.around) page asked.entry.params.now
         (level_limit - state.old.around.depth)
         (point_of K.taken K.faults state.old sink.old (P.asking port.old))
         (point_of K.taken K.faults state.new sink.new (P.asking port.new)) result }
     ensures in_order { IsInOrder state.new.scopes state.new.around (P.asking port.new) }
-    ensures charged { HasCharged state.old.around state.new.around (P.asking port.old) (P.asking port.new) }
-    ensures session { KeepsSession state.old.around state.new.around }
+    ensures keeps { KeepsRequest (point_of K.taken K.faults state.old sink.old (P.asking port.old))
+        (point_of K.taken K.faults state.new sink.new (P.asking port.new)) }
     ensures response { KeepsResponse state.old.writer state.new.writer state.old.around state.new.around }
-    ensures exception { state.new.around.exception ≡ state.old.around.exception }
     ensures tree { P.tree port.new ≡ P.tree port.old }
     ensures leads { P.leads port.old port.new }
 {

@@ -1,20 +1,16 @@
 // A page with the targets of its forwards.
-ghost use Rattle.std.specs.Prelude.{◌≡◌, ◌-◌, ℕ, List, Some, false, IfOk};
+ghost use Rattle.std.specs.Prelude.{◌≡◌, ◌-◌, List, Some, false, IfOk};
 ghost use Rattle.std.specs.Arc.{arc_value};
-ghost use Rattle.run_pages.specs.Run.{IsInOrder, StandsFor, level_limit};
-ghost use Rattle.compiled_pages.specs.Made.{IsFaultOf, IsPageAt, IsProgramOf};
+ghost use Rattle.run_pages.specs.Run.{level_limit};
+ghost use Rattle.compiled_pages.specs.Made.{IsFaultOf, IsProgramOf};
 ghost use Rattle.compiled_pages.specs.Pages.{needs_at};
 ghost use Rattle.page_meaning.specs.Page.{Page};
-ghost use Rattle.page_meaning.specs.State.{State};
 ghost use Rattle.run_pages.specs.Meant.{served_at};
 ghost use Rattle.request_pages.specs.Chained.{ChainsFrom, chain_answers, params_of};
-ghost use Rattle.request_pages.specs.Headed.{IsHeaded};
-ghost use Rattle.request_pages.specs.Played.{IsFunded};
-ghost use Rattle.request_pages.specs.Point.{asking_over, point_of};
+ghost use Rattle.request_pages.specs.Point.{point_over};
+ghost use Rattle.request_pages.specs.Ready.{HasPage, IsProgramIn, IsReady, KeepsRequest};
 ghost use Rattle.request_pages.specs.Target.{IsOther, IsTargetEnd, IsTargetReply};
 ghost use Rattle.request_port.specs.Leading.{IsLast, Leads};
-ghost use Rattle.run_stage.specs.Keeping.{HasCharged, KeepsSession};
-ghost use Rattle.run_world.specs.Origin.{Origin};
 ghost use Rattle.site_words.specs.Running.{IsPaged};
 ghost use Rattle.source_tree.specs.declared.file.File.{File};
 
@@ -72,28 +68,22 @@ pub(crate) fn run_chain<'a, Q: Port<Made>, L: Ledger, K: Sink>(
     port: &mut RequestPort<'a, Q, L>,
 ) -> Result<ChainEnd, AllocError>
     requires uncommitted { state.old.writer.committed ≡ false }
-    requires headed { IsHeaded incoming.close incoming.shown state.old.around state.old.writer }
-    requires in_order { IsInOrder state.old.scopes state.old.around (asking_over Q.opening Q.pass Q.seen port.old) }
-    requires funded { IsFunded state.old.around (asking_over Q.opening Q.pass Q.seen port.old) }
+    requires ready { IsReady incoming.close incoming.shown
+        (point_over Q.opening Q.pass Q.seen K.taken K.faults state.old sink.old port.old) }
     requires last { IsLast port.old.tree.now port.old.last }
-    requires known { (page : Page) × (path : List ℕ) × (origin : Origin) × (s : State) × IsProgramOf
-        (arc_value chain.program) port.old.tree.now path × IsPageAt page port.old.tree.now path
-        × StandsFor origin state.old.scopes state.old.writer (K.taken sink.old) (K.faults sink.old)
-        state.old.around (asking_over Q.opening Q.pass Q.seen port.old) s }
-    ensures chained { (path : List ℕ) → IsProgramOf (arc_value chain.program) port.old.tree.now path →
-        (page : Page) → IsPageAt page port.old.tree.now path → ChainsFrom
+    requires known { HasPage (arc_value chain.program) port.old.tree.now
+        (point_over Q.opening Q.pass Q.seen K.taken K.faults state.old sink.old port.old) }
+    ensures chained { (page : Page) → IsProgramIn (arc_value chain.program) port.old.tree.now page →
+        ChainsFrom
         (chain_answers (served_at port.old.tree.now incoming.entry.request.now state.old.around)
         chain.status (level_limit - state.old.around.depth) page
         (params_of incoming.entry.request.now chain.own)) incoming.entry.request.now port.old.tree.now
-        (point_of K.taken K.faults state.old sink.old (asking_over Q.opening Q.pass Q.seen port.old))
-        (point_of K.taken K.faults state.new sink.new (asking_over Q.opening Q.pass Q.seen port.new)) result }
-    ensures headed { IsHeaded incoming.entry.close incoming.entry.shown state.new.around state.new.writer }
-    ensures in_order { IsInOrder state.new.scopes state.new.around (asking_over Q.opening Q.pass Q.seen port.new) }
-    ensures funded { IsFunded state.new.around (asking_over Q.opening Q.pass Q.seen port.new) }
-    ensures charged { HasCharged state.old.around state.new.around
-        (asking_over Q.opening Q.pass Q.seen port.old) (asking_over Q.opening Q.pass Q.seen port.new) }
-    ensures session { KeepsSession state.old.around state.new.around }
-    ensures exception { state.new.around.exception ≡ state.old.around.exception }
+        (point_over Q.opening Q.pass Q.seen K.taken K.faults state.old sink.old port.old)
+        (point_over Q.opening Q.pass Q.seen K.taken K.faults state.new sink.new port.new) result }
+    ensures ready { IsReady incoming.entry.close incoming.entry.shown
+        (point_over Q.opening Q.pass Q.seen K.taken K.faults state.new sink.new port.new) }
+    ensures keeps { KeepsRequest (point_over Q.opening Q.pass Q.seen K.taken K.faults state.old sink.old port.old)
+        (point_over Q.opening Q.pass Q.seen K.taken K.faults state.new sink.new port.new) }
     ensures tree { port.new.tree.now ≡ port.old.tree.now }
     ensures leads { Leads needs_at Q.pass Q.opening Q.home Q.seen port.old port.new }
 {

@@ -1,19 +1,16 @@
 // What is answered where a fault ended a page's run before anything was committed.
-ghost use Rattle.std.specs.Prelude.{◌≡◌, ◌≤◌, ℕ, List, [], false, OnOk};
+ghost use Rattle.std.specs.Prelude.{◌≡◌, ◌≤◌, false, OnOk};
 ghost use Rattle.std.specs.Arc.{arc_value};
-ghost use Rattle.run_pages.specs.Run.{IsInOrder, StandsFor};
-ghost use Rattle.compiled_pages.specs.Made.{IsPageAt, IsProgramOf};
+ghost use Rattle.run_pages.specs.Run.{IsInOrder};
 ghost use Rattle.compiled_pages.specs.Pages.{needs_at};
 ghost use Rattle.page_meaning.specs.Page.{Page};
-ghost use Rattle.page_meaning.specs.State.{State};
 ghost use Rattle.run_pages.specs.Meant.{served_at};
 ghost use Rattle.request_pages.specs.Chained.{params_of};
 ghost use Rattle.request_pages.specs.Closed.{ClosesUncommitted, fault_answers};
 ghost use Rattle.request_pages.specs.Headed.{IsHeaded};
-ghost use Rattle.request_pages.specs.Played.{IsFunded};
-ghost use Rattle.request_pages.specs.Point.{asking_over, point_of};
+ghost use Rattle.request_pages.specs.Point.{asking_over, point_over};
+ghost use Rattle.request_pages.specs.Ready.{HasPage, IsProgramIn, IsReady};
 ghost use Rattle.request_port.specs.Leading.{IsLast, Leads};
-ghost use Rattle.run_world.specs.Origin.{Origin};
 ghost use Rattle.run_world.specs.Seats.{raise_of};
 
 use crate::chain::{Chain, ChainEnd, Failure, run_chain};
@@ -40,21 +37,18 @@ pub(crate) fn run_error<'a, Q: Port<Made>, L: Ledger, K: Sink>(
     port: &mut RequestPort<'a, Q, L>,
 ) -> Result<Reply, AllocError>
     requires uncommitted { state.old.writer.committed ≡ false }
-    requires headed { IsHeaded incoming.close incoming.shown state.old.around state.old.writer }
-    requires in_order { IsInOrder state.old.scopes state.old.around (asking_over Q.opening Q.pass Q.seen port.old) }
-    requires funded { IsFunded state.old.around (asking_over Q.opening Q.pass Q.seen port.old) }
+    requires ready { IsReady incoming.close incoming.shown
+        (point_over Q.opening Q.pass Q.seen K.taken K.faults state.old sink.old port.old) }
     requires charge { state.old.around.charge ≤ MAX_ASKED_CHARGE }
     requires last { IsLast port.old.tree.now port.old.last }
-    requires known { (page : Page) × (path : List ℕ) × (origin : Origin) × (s : State) × IsProgramOf
-        (arc_value failure.program) port.old.tree.now path × IsPageAt page port.old.tree.now path
-        × StandsFor origin state.old.scopes state.old.writer (K.taken sink.old) (K.faults sink.old)
-        state.old.around (asking_over Q.opening Q.pass Q.seen port.old) s × (s.writer.pieces ≡ []) }
-    ensures closed { (path : List ℕ) → IsProgramOf (arc_value failure.program) port.old.tree.now path →
-        (page : Page) → IsPageAt page port.old.tree.now path → ClosesUncommitted
+    requires known { HasPage (arc_value failure.program) port.old.tree.now
+        (point_over Q.opening Q.pass Q.seen K.taken K.faults state.old sink.old port.old) }
+    ensures closed { (page : Page) → IsProgramIn (arc_value failure.program) port.old.tree.now page →
+        ClosesUncommitted
         (fault_answers (served_at port.old.tree.now incoming.entry.request.now state.old.around) page
         (params_of incoming.entry.request.now failure.own) (raise_of failure.raise))
-        (point_of K.taken K.faults state.old sink.old (asking_over Q.opening Q.pass Q.seen port.old))
-        (point_of K.taken K.faults state.new sink.new (asking_over Q.opening Q.pass Q.seen port.new)) result }
+        (point_over Q.opening Q.pass Q.seen K.taken K.faults state.old sink.old port.old)
+        (point_over Q.opening Q.pass Q.seen K.taken K.faults state.new sink.new port.new) result }
     ensures headed { IsHeaded incoming.entry.close incoming.entry.shown state.new.around state.new.writer }
     ensures in_order { OnOk result (IsInOrder state.new.scopes state.new.around
         (asking_over Q.opening Q.pass Q.seen port.new)) }

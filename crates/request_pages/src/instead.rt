@@ -3,7 +3,6 @@ ghost use Rattle.std.specs.Prelude.{◌≡◌, ◌≤◌, ℕ, List};
 ghost use Rattle.std.specs.Arc.{arc_value};
 ghost use Rattle.http_in.specs.declared.params.Param.{Param};
 ghost use Rattle.run_pages.specs.Run.{IsInOrder};
-ghost use Rattle.compiled_pages.specs.Made.{IsPageAt, IsProgramOf};
 ghost use Rattle.compiled_pages.specs.Pages.{needs_at, paged_at};
 ghost use Rattle.page_meaning.specs.Context.{Served};
 ghost use Rattle.page_meaning.specs.Page.{Page};
@@ -11,6 +10,7 @@ ghost use Rattle.request_pages.specs.Closed.{fault_answers};
 ghost use Rattle.request_pages.specs.Instead.{FindsInstead, UnlessShort};
 ghost use Rattle.request_pages.specs.Played.{IsFunded};
 ghost use Rattle.request_pages.specs.Point.{asking_over};
+ghost use Rattle.request_pages.specs.Ready.{IsProgramIn};
 ghost use Rattle.request_port.specs.Leading.{Leads};
 ghost use Rattle.run_world.specs.Seats.{raise_of};
 ghost use Rattle.scopes.specs.Scopes.{ScopeState};
@@ -49,12 +49,11 @@ pub(crate) fn find_instead<'a, Q: Port<Made>, L: Ledger>(
 ) -> Instead
     requires charge { around.old.charge ≤ MAX_ASKED_CHARGE }
     requires funded { IsFunded around.old (asking_over Q.opening Q.pass Q.seen port.old) }
-    ensures found { (path : List ℕ) → IsProgramOf (arc_value failure.now.program) port.old.tree.now path →
-        (page : Page) → IsPageAt page port.old.tree.now path → (served : Served) →
-        ((p : List ℕ) → served.pages p ≡ paged_at port.old.tree.now p) → (params : List Param) → FindsInstead
-        (fault_answers served page params (raise_of failure.now.raise)) port.old.tree.now page
-        (raise_of failure.now.raise) around.old around.new (asking_over Q.opening Q.pass Q.seen port.old)
-        (asking_over Q.opening Q.pass Q.seen port.new) result }
+    ensures found { (page : Page) → IsProgramIn (arc_value failure.now.program) port.old.tree.now page →
+        (served : Served) → ((p : List ℕ) → served.pages p ≡ paged_at port.old.tree.now p) →
+        (params : List Param) → FindsInstead (fault_answers served page params (raise_of failure.now.raise))
+        port.old.tree.now page (raise_of failure.now.raise) around.old around.new
+        (asking_over Q.opening Q.pass Q.seen port.old) (asking_over Q.opening Q.pass Q.seen port.new) result }
     ensures in_order { (scopes : ScopeState) →
         IsInOrder scopes around.old (asking_over Q.opening Q.pass Q.seen port.old) →
         UnlessShort result (IsInOrder scopes around.new (asking_over Q.opening Q.pass Q.seen port.new)) }

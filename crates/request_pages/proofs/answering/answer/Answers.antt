@@ -1,14 +1,15 @@
 use Rattle.std.proofs.Common.{ap, refl, sym, subst, ◌∙◌}
 use Rattle.std.specs.Arc.{arc_value}
 use Rattle.compiled_pages.proofs.PageLemmas.{paged_absent, paged_bad, paged_good, paged_plain}
-use Rattle.compiled_pages.specs.Made.{IsPageAt, IsProgramOf}
 use Rattle.page_meaning.specs.Context.{absent, bad, plain}
 use Rattle.page_meaning.specs.Work.{fetched}
 use Rattle.run_pages.specs.Meant.{served_at}
 use Rattle.request_pages.proofs.CloseLemmas.{closed_as, closed_whole, reached, reached_looked}
 use Rattle.request_pages.proofs.FirstLemmas.{same_first}
+use Rattle.request_pages.proofs.HeadLemmas.{headed_looked}
 use Rattle.request_pages.proofs.RequestLemmas.{request_first, request_looked, says_at, says_hidden, says_nowhere}
 use Rattle.request_pages.proofs.answering.answer.Goals as goal
+use Rattle.request_pages.specs.Ready.{IsProgramIn}
 use Rattle.request_port.specs.LeadingLaws.{leads_here, leads_on}
 use Rattle.run_world.specs.declared.around.Around.{Around}
 
@@ -55,21 +56,26 @@ returns-in-Err-clause-closed g c = λ origin s stands none.
     closed_as _ _ _ s _ _ _ _ (λ t h. reached_looked origin _ _ _ _ c.args.state.now.around c.look.new.around _ t c.in-Err.ensures.around h)
     (request_looked c.responses.ensures.grow (served_at tree c.args.incoming.request.now c.args.state.now.around) tree (λ p. refl) c.args.incoming.request.now c.in-Some.path c.in-Some.is (sym c.is_hidden.ensures ∙ c.if-is_hidden.false) s none _ origin _ _ _ _ _ _ _ stands (c.in-Err.ensures.looked origin _ _ _ _ s stands))
 
+pub first_page-requires-clause-ready : goal.first_page-requires-clause-ready
+first_page-requires-clause-ready g c = record {
+  headed = headed_looked c.args.incoming.close c.args.incoming.shown c.args.state.now.around c.look.new.around c.args.state.now.writer c.in-Ok-Page.ensures.around c.requires.headed;
+  in_order = c.in-Ok-Page.ensures.in_order c.args.state.now.scopes c.requires.in_order;
+  funded = c.in-Ok-Page.ensures.funded;
+}
+
 pub first_page-requires-clause-known : goal.first_page-requires-clause-known
 first_page-requires-clause-known g c =
     let (origin, s, stands, none) = c.requires.stands in
     let path = c.in-Some.path in
     let found = rw c.in-Ok-Page.field-0-is at (c.in-Ok-Page.ensures.looked origin _ _ _ _ s stands) in
     let next = found.0.1 in
-    let same = c.in-Ok-Page.ensures.tree in (
-      next.page,
-      path,
-      origin,
-      fetched path s,
-      subst (λ t. IsProgramOf (arc_value c.in-Ok-Page.program) t path) (sym same) next,
-      subst (λ t. IsPageAt next.page t path) (sym same) next.stands,
-      found.1,
-    )
+    record {
+      page = next.page;
+      made = subst (λ t. IsProgramIn (arc_value c.in-Ok-Page.program) t next.page) (sym c.in-Ok-Page.ensures.tree) (path, next, next.stands);
+      origin = origin;
+      state = fetched path s;
+      stands = found.1;
+    }
 
 pub returns-in-Ok-Page-clause-closed : goal.returns-in-Ok-Page-clause-closed
 returns-in-Ok-Page-clause-closed g c = λ origin s stands none.
@@ -79,7 +85,7 @@ returns-in-Ok-Page-clause-closed g c = λ origin s stands none.
     let found = rw c.in-Ok-Page.field-0-is at (c.in-Ok-Page.ensures.looked origin _ _ _ _ s stands) in
     let next = found.0.1 in
     let same = c.in-Ok-Page.ensures.tree in
-    let first = c.first_page.ensures.closed path (subst (λ t. IsProgramOf (arc_value c.in-Ok-Page.program) t path) (sym same) next) next.page (subst (λ t. IsPageAt next.page t path) (sym same) next.stands) origin (fetched path s) found.1 in
+    let first = c.first_page.ensures.closed next.page (subst (λ t. IsProgramIn (arc_value c.in-Ok-Page.program) t next.page) (sym same) (path, next, next.stands)) origin (fetched path s) found.1 in
     request_first served c.args.incoming.request.now path next.page _ s _ _ _ _ c.first_page.result c.in-Some.is (sym c.is_hidden.ensures ∙ c.if-is_hidden.false) (paged_good tree path next.page found.0.0 next.stands) found.2
     (same_first served _ next.page c.args.incoming.request.now.params _ (fetched path s) _ _ _ c.first_page.result
     (ap (λ t. served_at t c.args.incoming.request.now c.look.new.around) same ∙ ap (λ (a : Around). served_at tree c.args.incoming.request.now a) c.in-Ok-Page.ensures.around) first)

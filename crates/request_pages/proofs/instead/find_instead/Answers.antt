@@ -17,18 +17,20 @@ pub returns-in-Ok-None-clause-leads : goal.returns-in-Ok-None-clause-leads
 returns-in-Ok-None-clause-leads g c = leads_here c.args.port.now
 
 pub returns-in-Err-clause-found : goal.returns-in-Err-clause-found
-returns-in-Err-clause-found g c = λ path made page is served pages params origin scopes held taken faults s stands none.
+returns-in-Err-clause-found g c = λ page known served pages params origin scopes held taken faults s stands none.
     record { so = closed_short c.responses.ensures.grow served page params (raise_of c.args.failure.now.raise) _ s _ _ _ _ refl (reached _ _ _ _ _ _ _ s stands) none }
 
 pub returns-in-Ok-None-clause-found : goal.returns-in-Ok-None-clause-found
-returns-in-Ok-None-clause-found g c = λ path made page is served pages params origin scopes held taken faults s stands none.
+returns-in-Ok-None-clause-found g c = λ page known served pages params origin scopes held taken faults s stands none.
+    let (path, made, is) = known in
     let tree = c.args.port.now.tree.now in
     let program = arc_value c.args.failure.now.program in
     let named = c.in-Ok-None.ensures page (ap (λ p. p.path) c.deref.ensures ∙ path_same program tree path page made is) (ap (λ p. p.settings) c.deref.ensures ∙ settings_same program tree path page made is) in
     record { so = closed_whole _ _ s s _ _ _ _ _ _ _ c.run_fault.result refl (reached _ _ _ _ _ _ _ s stands) none c.run_fault.ensures (λ future. says_none served page params (raise_of c.args.failure.now.raise) s future (sym named ∙ c.in-Ok-None.field-0-is)) }
 
 pub returns-in-Err-look-clause-found : goal.returns-in-Err-look-clause-found
-returns-in-Err-look-clause-found g c = λ path made page is served pages params origin scopes held taken faults s stands none.
+returns-in-Err-look-clause-found g c = λ page known served pages params origin scopes held taken faults s stands none.
+    let (path, made, is) = known in
     let tree = c.args.port.now.tree.now in
     let program = arc_value c.args.failure.now.program in
     let named = c.in-Ok-Some.ensures page (ap (λ p. p.path) c.deref.ensures ∙ path_same program tree path page made is) (ap (λ p. p.settings) c.deref.ensures ∙ settings_same program tree path page made is) in
@@ -38,7 +40,8 @@ returns-in-Err-look-clause-found g c = λ path made page is served pages params 
     }
 
 pub returns-in-Ok-Absent-clause-found : goal.returns-in-Ok-Absent-clause-found
-returns-in-Ok-Absent-clause-found g c = λ path made page is served pages params origin scopes held taken faults s stands none.
+returns-in-Ok-Absent-clause-found g c = λ page known served pages params origin scopes held taken faults s stands none.
+    let (path, made, is) = known in
     let tree = c.args.port.now.tree.now in
     let program = arc_value c.args.failure.now.program in
     let named = c.in-Ok-Some.ensures page (ap (λ p. p.path) c.deref.ensures ∙ path_same program tree path page made is) (ap (λ p. p.settings) c.deref.ensures ∙ settings_same program tree path page made is) in
@@ -49,7 +52,8 @@ returns-in-Ok-Absent-clause-found g c = λ path made page is served pages params
     }
 
 pub returns-in-Ok-Bad-clause-found : goal.returns-in-Ok-Bad-clause-found
-returns-in-Ok-Bad-clause-found g c = λ path made page is served pages params origin scopes held taken faults s stands none.
+returns-in-Ok-Bad-clause-found g c = λ page known served pages params origin scopes held taken faults s stands none.
+    let (path, made, is) = known in
     let tree = c.args.port.now.tree.now in
     let program = arc_value c.args.failure.now.program in
     let named = c.in-Ok-Some.ensures page (ap (λ p. p.path) c.deref.ensures ∙ path_same program tree path page made is) (ap (λ p. p.settings) c.deref.ensures ∙ settings_same program tree path page made is) in
@@ -60,7 +64,8 @@ returns-in-Ok-Bad-clause-found g c = λ path made page is served pages params or
     }
 
 pub returns-in-Ok-Plain-clause-found : goal.returns-in-Ok-Plain-clause-found
-returns-in-Ok-Plain-clause-found g c = λ path made page is served pages params origin scopes held taken faults s stands none.
+returns-in-Ok-Plain-clause-found g c = λ page known served pages params origin scopes held taken faults s stands none.
+    let (path, made, is) = known in
     let tree = c.args.port.now.tree.now in
     let program = arc_value c.args.failure.now.program in
     let named = c.in-Ok-Some.ensures page (ap (λ p. p.path) c.deref.ensures ∙ path_same program tree path page made is) (ap (λ p. p.settings) c.deref.ensures ∙ settings_same program tree path page made is) in
@@ -72,7 +77,8 @@ returns-in-Ok-Plain-clause-found g c = λ path made page is served pages params 
     }
 
 pub returns-in_default-clause-found : goal.returns-in_default-clause-found
-returns-in_default-clause-found g c = λ path made page is served pages params origin scopes held taken faults s stands none.
+returns-in_default-clause-found g c = λ page known served pages params origin scopes held taken faults s stands none.
+    let (path, made, is) = known in
     let tree = c.args.port.now.tree.now in
     let program = arc_value c.args.failure.now.program in
     let named = c.in-Ok-Some.ensures page (ap (λ p. p.path) c.deref.ensures ∙ path_same program tree path page made is) (ap (λ p. p.settings) c.deref.ensures ∙ settings_same program tree path page made is) in
@@ -84,7 +90,8 @@ returns-in_default-clause-found g c = λ path made page is served pages params o
     }
 
 pub returns-clause-found : goal.returns-clause-found
-returns-clause-found g c = λ path made page is served pages params origin scopes held taken faults s stands none.
+returns-clause-found g c = λ page known served pages params origin scopes held taken faults s stands none.
+    let (path, made, is) = known in
     let tree = c.args.port.now.tree.now in
     let program = arc_value c.args.failure.now.program in
     let named = c.in-Ok-Some.ensures page (ap (λ p. p.path) c.deref.ensures ∙ path_same program tree path page made is) (ap (λ p. p.settings) c.deref.ensures ∙ settings_same program tree path page made is) in
