@@ -9,6 +9,7 @@ pub mod Lending
 pub mod Looping
 pub mod OwnParams
 pub mod PageCalls
+pub mod Returned
 pub mod Room
 pub mod TagCalls
 pub mod Turning
