@@ -2,6 +2,7 @@ pub use Rattle.page_table.specs.Program
 pub mod Asking
 pub mod Known
 pub mod Origin
+pub mod Params
 pub mod Part
 pub mod Programs
 pub mod Seats

@@ -1,7 +1,9 @@
 -- Where a code runs, in the words of the table.
 use Rattle.std.specs.Prelude.{map}
+use Rattle.run_world.specs.Params.{params_of}
 use Rattle.run_world.specs.Programs.{program_of}
 use Rattle.run_world.specs.Tags.{tag_of}
+use Rattle.run_world.specs.declared.params.Params.{Params}
 use Rattle.run_world.specs.declared.raised.Raise as machine_raise
 use Rattle.run_world.specs.declared.seat.CallSeat as machine_call
 use Rattle.run_world.specs.declared.seat.Export as machine_export
@@ -21,8 +23,13 @@ call_of call = record { tag = tag_of call.tag.now; exports = map export_of call.
 
 -- where a code runs
 abbrev pub seat_of : machine_seat.Seat → Seat
-seat_of (InPage program params) = in_page (program_of program.now) params.now
+seat_of (InPage program params) = in_page (program_of program.now) (params_of params.now)
 seat_of (InTag' call q caller) = in_tag (call_of call.now) (seat_of caller)
+
+-- the parameters of the page that runs
+abbrev pub params_at : machine_seat.Seat → Params
+params_at (InPage program params) = params.now
+params_at (InTag' call q caller) = params_at caller
 
 -- a fault with its place
 abbrev pub raise_of : machine_raise.Raise → Raise

@@ -6,6 +6,7 @@
 #![tactic(auto)]
 
 mod around;
+mod params;
 mod program;
 mod raised;
 mod seat;
@@ -13,6 +14,7 @@ mod served;
 mod world;
 
 pub use around::Around;
+pub use params::Params;
 pub use program::{Program, TagProgram, know_tags};
 pub use raised::Raise;
 pub use seat::{CallSeat, Export, Seat};

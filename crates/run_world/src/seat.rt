@@ -2,11 +2,12 @@
 ghost use Rattle.std.specs.Prelude.{◌≡◌};
 ghost use Rattle.page_meaning.specs.Context.{is_strict};
 ghost use Rattle.page_table.specs.Seat.{code_of, here_of, page_run_of, program_of as program_in};
+ghost use Rattle.run_world.specs.Params.{params_of};
 ghost use Rattle.run_world.specs.Programs.{program_of};
-ghost use Rattle.run_world.specs.Seats.{seat_of};
+ghost use Rattle.run_world.specs.Seats.{params_at, seat_of};
 
+use crate::params::Params;
 use crate::program::{Program, TagProgram};
-use http_in::Param;
 use page_code::{CallBody, Fragment, PackedCode};
 use pg_text::Text;
 use tag_decl::VarScope;
@@ -35,7 +36,7 @@ pub struct CallSeat<'a> {
 /// A page with its parameters, or a tag file that was called from somewhere in it.
 #[derive(Drop)]
 pub enum Seat<'a> {
-    InPage(&'a Program, &'a [Param]),
+    InPage(&'a Program, &'a Params<'a>),
     InTag(&'a CallSeat<'a>, &'a Seat<'a>),
 }
 
@@ -61,8 +62,9 @@ impl<'a> Seat<'a> {
     }
 
     /// The parameters of the page run.
-    pub fn params(&self) -> &'a [Param]
-        ensures { result.now ≡ (page_run_of (seat_of self.now)).params }
+    pub fn params(&self) -> &'a Params<'a>
+        ensures found { result.now ≡ params_at self.now }
+        ensures list { params_of result.now ≡ (page_run_of (seat_of self.now)).params }
     {
         match self {
             Seat::InPage(_, params) => params,
