@@ -10,7 +10,7 @@ ghost use Rattle.page_meaning.specs.Went.{Well, result_of, then_do};
 ghost use Rattle.page_meaning.specs.Work.{ask};
 ghost use Rattle.page_table.specs.Operands.{implicit_of, keyed_scope};
 ghost use Rattle.page_table.specs.Program.{Serving, served_of};
-ghost use Rattle.page_table.specs.Seat.{here_of, page_run_of};
+ghost use Rattle.page_table.specs.Seat.{here_of};
 ghost use Rattle.pg_text.specs.Failure.{Answers, AnswersAs};
 ghost use Rattle.pg_value.specs.Attrs.{entry_at};
 ghost use Rattle.pg_value.specs.Datum.{entries_of, rec};
@@ -19,7 +19,7 @@ ghost use Rattle.run_parts.specs.Objects.{whole_answer};
 ghost use Rattle.run_parts.specs.Records.{IsRecordsOf};
 ghost use Rattle.run_world.specs.Known.{ServesSo};
 ghost use Rattle.run_world.specs.Part.{Doing};
-ghost use Rattle.run_world.specs.Seats.{seat_of};
+ghost use Rattle.run_world.specs.Seats.{params_at, seat_of};
 ghost use Rattle.site_words.specs.PageSteps.{told_value};
 ghost use Rattle.site_words.specs.declared.words.AppStep.TheVariants as step;
 
@@ -73,9 +73,9 @@ pub(crate) fn implicit_value<W: World>(
     world: &mut W,
 ) -> Result<Value, Failure<RunFault>>
     requires covered { W.covered world.old }
-    requires records { IsRecordsOf served.now.request.now (page_run_of (seat_of seat.now)).params records.old }
+    requires records { IsRecordsOf served.now.request.now (params_at seat.now) records.old }
     ensures covered { W.covered world.new }
-    ensures records { IsRecordsOf served.now.request.now (page_run_of (seat_of seat.now)).params records.new }
+    ensures records { IsRecordsOf served.now.request.now (params_at seat.now) records.new }
     ensures does { (serving : Serving) → ServesSo W.stores served.now world.old serving →
         Doing W.reached W.replies datum_of (λ place. implicit_value (served_of serving)
         (here_of (seat_of seat.now)) place (implicit_of object)) world.old world.new result }

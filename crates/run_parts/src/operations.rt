@@ -6,7 +6,6 @@ ghost use Rattle.page_code.specs.Ops.{takes};
 ghost use Rattle.page_meaning.specs.Core.{set_or_remove};
 ghost use Rattle.page_table.specs.Operations.{operation, visits};
 ghost use Rattle.page_table.specs.Program.{Serving};
-ghost use Rattle.page_table.specs.Seat.{page_run_of};
 ghost use Rattle.pg_text.specs.Failure.{AnswersAs};
 ghost use Rattle.pg_value.specs.Value.{datum_of};
 ghost use Rattle.run_parts.specs.Answers.{left_by, none_of, one_of};
@@ -14,7 +13,7 @@ ghost use Rattle.run_parts.specs.Operations.{HasOnePlace, IsComputed, computed};
 ghost use Rattle.run_parts.specs.Records.{IsRecordsOf};
 ghost use Rattle.run_world.specs.Known.{ServesSo};
 ghost use Rattle.run_world.specs.Part.{Doing};
-ghost use Rattle.run_world.specs.Seats.{seat_of};
+ghost use Rattle.run_world.specs.Seats.{params_at, seat_of};
 
 use crate::applied::Applied;
 use crate::objects::{implicit_value, scope_entry};
@@ -131,11 +130,11 @@ pub fn operate<W: World>(
     world: &mut W,
 ) -> Result<Option<Value>, Failure<RunFault>>
     requires covered { W.covered world.old }
-    requires records { IsRecordsOf served.now.request.now (page_run_of (seat_of seat.now)).params records.old }
+    requires records { IsRecordsOf served.now.request.now (params_at seat.now) records.old }
     requires args { length applied.args.now ≡ takes applied.op.now }
     requires placed { HasOnePlace applied.op.now }
     ensures covered { W.covered world.new }
-    ensures records { IsRecordsOf served.now.request.now (page_run_of (seat_of seat.now)).params records.new }
+    ensures records { IsRecordsOf served.now.request.now (params_at seat.now) records.new }
     ensures does { (serving : Serving) → ServesSo W.stores served.now world.old serving →
         Doing W.reached W.replies left_by (λ place. operation serving (seat_of seat.now) place
         applied.entry.op.now (map datum_of applied.entry.args.now)) world.old world.new result }
@@ -152,7 +151,7 @@ pub fn operate<W: World>(
         Op::RemoveAll(name) => none(unassign_all(name, world)),
         Op::SetProperty(name, mode) => {
             let change = PropertyChange { name, mode, args };
-            none(set_property(alloc, seat, &mut records.param, &change, world))
+            none(set_property(alloc, seat, &mut records.params, &change, world))
         }
         Op::GetProperty(name) => one(get_property(name, text_of(&args[0]), world)),
         Op::Find(name) => one(find(seat.is_strict(), name, world)),

@@ -6,16 +6,17 @@ ghost use Rattle.pg_value.specs.Value.{datum_of};
 ghost use Rattle.run_parts.specs.Objects.{page_context_of, request_value};
 ghost use Rattle.run_parts.specs.Records.{AreFieldsOf, IsRecordsOf};
 ghost use Rattle.run_values.specs.Objects.{header_answer};
+ghost use Rattle.run_world.specs.Params.{params_of};
 ghost use Rattle.run_world.specs.Seats.{raise_of};
 
 use crate::request_records::{FieldRecords, RequestRecords, cookie, header, param, param_values};
 use el_coercion::to_text;
-use http_in::{Param, Request};
+use http_in::Request;
 use page_code::{HeaderObject, Implicit};
 use pg_text::{Failure, Text};
 use pg_value::{Attrs, RunFault, Value};
 use run_values::{fault_record, put, record, request_record, session_value};
-use run_world::{Raise, Served};
+use run_world::{Params, Raise, Served};
 use std::alloc::{AllocError, Global};
 
 // The fault that an error page sees, as a record.
@@ -51,7 +52,7 @@ fn page_context(alloc: Global, served: &Served, id: Option<&Text>) -> Result<Val
 pub(crate) fn request_value(
     alloc: Global,
     served: &Served,
-    params: &[Param],
+    params: &Params,
     records: &mut RequestRecords,
     id: Option<&Text>,
     object: Implicit,
@@ -59,14 +60,14 @@ pub(crate) fn request_value(
     requires { IsRecordsOf served.now.request.now params.now records.old }
     ensures value { IfOk result (λ made. datum_of made ≡ request_value served.now.request.now
         (option_map (λ raise. raise_of raise.now) served.now.exception) (option_map (λ id. id.now) id.entry)
-        params.now object) }
+        (params_of params.now) object) }
     ensures records { IsRecordsOf served.now.request.now params.now records.new }
 {
     match object {
         Implicit::PageContext => page_context(alloc, served, id),
-        Implicit::Param => Ok(Value::Rec(param(alloc, params, &mut records.param)?)),
+        Implicit::Param => Ok(Value::Rec(param(alloc, params, &mut records.params)?)),
         Implicit::ParamValues => {
-            let made = param_values(alloc, params, &mut records.param_values)?;
+            let made = param_values(alloc, params, &mut records.params)?;
             Ok(Value::Rec(made))
         }
         Implicit::Header(object) => {

@@ -3,7 +3,6 @@ ghost use Rattle.std.specs.Prelude.{◌≡◌, [], ◌∷◌, length, map};
 ghost use Rattle.page_code.specs.Ops.{mode_takes};
 ghost use Rattle.page_code.specs.declared.operands.PropertyMode.TheVariants as mode;
 ghost use Rattle.page_meaning.specs.Beans.{property_of};
-ghost use Rattle.page_meaning.specs.Request.{first_values};
 ghost use Rattle.page_meaning.specs.Variables.{look_up};
 ghost use Rattle.page_meaning.specs.Went.{then_do, result_of};
 ghost use Rattle.page_table.specs.Operations.{property_set};
@@ -11,14 +10,14 @@ ghost use Rattle.page_table.specs.Seat.{page_run_of};
 ghost use Rattle.pg_value.specs.Value.{datum_of};
 ghost use Rattle.run_parts.specs.Operations.{ModeHasOnePlace};
 ghost use Rattle.run_parts.specs.Properties.{found_property, put_back, written};
-ghost use Rattle.run_parts.specs.Records.{IsKept};
+ghost use Rattle.run_parts.specs.Records.{AreParamsOf};
+ghost use Rattle.run_world.specs.Params.{params_of};
 ghost use Rattle.run_values.specs.Properties.{found_of};
 ghost use Rattle.run_world.specs.Part.{Doing};
-ghost use Rattle.run_world.specs.Seats.{seat_of};
+ghost use Rattle.run_world.specs.Seats.{params_at, seat_of};
 
-use crate::request_records::param;
+use crate::request_records::{ParamRecords, param};
 use crate::variables::{assign, look_up};
-use http_in::Param;
 use page_code::{Name, PropertyMode, Shared};
 use pg_text::{Failure, Text};
 use pg_value::{Record, RunFault, Scope, Value};
@@ -26,7 +25,7 @@ use run_values::{
     FoundProperty, changed_all, changed_one, measured_record, property_found, property_of,
     property_replaced, text_of,
 };
-use run_world::{Seat, World};
+use run_world::{Params, Seat, World};
 use std::alloc::Global;
 
 /// The property of a variable: X14, X5.
@@ -120,16 +119,16 @@ fn set_entry<W: World>(
 fn set_all<W: World>(
     alloc: Global,
     name: &Name,
-    params: &[Param],
-    kept: &mut Option<Record>,
+    params: &Params,
+    kept: &mut ParamRecords,
     world: &mut W,
 ) -> Result<(), Failure<RunFault>>
     requires covered { W.covered world.old }
-    requires kept { IsKept (first_values params.now) kept.old }
+    requires kept { AreParamsOf params.now kept.old }
     ensures covered { W.covered world.new }
-    ensures kept { IsKept (first_values params.now) kept.new }
+    ensures kept { AreParamsOf params.now kept.new }
     ensures does { Doing W.reached W.replies (λ u. u)
-        (λ place. property_set place name.now mode.Parameters params.now []) world.old world.new result }
+        (λ place. property_set place name.now mode.Parameters (params_of params.now) []) world.old world.new result }
 {
     let values = param(alloc, params, kept)?;
     let found = look_up(name, world)?;
@@ -150,16 +149,16 @@ struct ByParameter<'a> {
 fn set_one<W: World>(
     alloc: Global,
     setting: &ByParameter,
-    params: &[Param],
-    kept: &mut Option<Record>,
+    params: &Params,
+    kept: &mut ParamRecords,
     world: &mut W,
 ) -> Result<(), Failure<RunFault>>
     requires covered { W.covered world.old }
-    requires kept { IsKept (first_values params.now) kept.old }
+    requires kept { AreParamsOf params.now kept.old }
     ensures covered { W.covered world.new }
-    ensures kept { IsKept (first_values params.now) kept.new }
+    ensures kept { AreParamsOf params.now kept.new }
     ensures does { Doing W.reached W.replies (λ u. u) (λ place. property_set place setting.now.name.now
-        (mode.Parameter setting.now.property.now setting.now.parameter.now) params.now [])
+        (mode.Parameter setting.now.property.now setting.now.parameter.now) (params_of params.now) [])
         world.old world.new result }
 {
     let ByParameter {
@@ -188,16 +187,16 @@ pub(crate) struct PropertyChange<'a> {
 pub(crate) fn set_property<W: World>(
     alloc: Global,
     seat: &Seat,
-    kept: &mut Option<Record>,
+    kept: &mut ParamRecords,
     change: &PropertyChange,
     world: &mut W,
 ) -> Result<(), Failure<RunFault>>
     requires covered { W.covered world.old }
-    requires kept { IsKept (first_values (page_run_of (seat_of seat.now)).params) kept.old }
+    requires kept { AreParamsOf (params_at seat.now) kept.old }
     requires args { length change.now.args.now ≡ mode_takes change.now.mode.now }
     requires placed { ModeHasOnePlace change.now.mode.now }
     ensures covered { W.covered world.new }
-    ensures kept { IsKept (first_values (page_run_of (seat_of seat.now)).params) kept.new }
+    ensures kept { AreParamsOf (params_at seat.now) kept.new }
     ensures does { Doing W.reached W.replies (λ u. u) (λ place. property_set place change.now.name.now
         change.now.mode.now (page_run_of (seat_of seat.now)).params (map datum_of change.now.args.now))
         world.old world.new result }

@@ -1,6 +1,7 @@
 use Rattle.std.proofs.Common.{subst, sym, ◌∙◌}
 use Rattle.std.specs.Option.{option_map}
 use Rattle.jstl_functions.specs.Functions.{measured}
+use Rattle.run_world.specs.Params.{params_of}
 use Rattle.run_world.proofs.Parts.{short_at}
 use Rattle.run_world.specs.Part.{Doing}
 use Rattle.run_world.specs.Seats.{raise_of, seat_of}
@@ -22,8 +23,8 @@ returns-in_err-value-clause-does g c serving serves =
 
 pub returns-in_default-clause-does : goal.returns-in_default-clause-does
 returns-in_default-clause-does g c serving serves =
-    request_doing c.args.world.now serving (here_of (seat_of c.args.seat.now)) c.args.object c.args.served.now.request.now (option_map (λ raise. raise_of raise.now) c.args.served.now.exception) (option_map (λ id. id.now) c.id.result) c.params.result.now c.in_ok-value.value
-    (λ first origin s stands. c.id.ensures first origin s stands) serves.request serves.exception c.params.ensures c.in_default.not-Scope c.in_ok-value.ensures.value
+    request_doing c.args.world.now serving (here_of (seat_of c.args.seat.now)) c.args.object c.args.served.now.request.now (option_map (λ raise. raise_of raise.now) c.args.served.now.exception) (option_map (λ id. id.now) c.id.result) (params_of c.params.result.now) c.in_ok-value.value
+    (λ first origin s stands. c.id.ensures first origin s stands) serves.request serves.exception c.params.ensures.list c.in_default.not-Scope c.in_ok-value.ensures.value
 
 pub returns-in-Some-clause-does : goal.returns-in-Some-clause-does
 returns-in-Some-clause-does g c serving serves =

@@ -2,22 +2,23 @@ use Rattle.run_world.proofs.Exits.{err_as}
 use Rattle.run_world.proofs.Parts.{short_at}
 use Rattle.run_parts.proofs.PropertySets.{all_changed, all_failed, all_set_adds, all_unchanged}
 use Rattle.run_parts.proofs.set_properties.set_all.Goals as goal
+use Rattle.run_world.specs.Params.{params_of}
 
 pub returns-in_err-values-clause-does : goal.returns-in_err-values-clause-does
-returns-in_err-values-clause-does g c = short_at c.args.world.now c.from_residual.result c.from_residual.ensures.1 (λ place. all_set_adds place c.args.name.now c.args.params.now)
+returns-in_err-values-clause-does g c = short_at c.args.world.now c.from_residual.result c.from_residual.ensures.1 (λ place. all_set_adds place c.args.name.now (params_of c.args.params.now))
 
 pub returns-in_err-found-clause-does : goal.returns-in_err-found-clause-does
 returns-in_err-found-clause-does g c =
     err_as c.from_residual-in_err-found.result c.in_err-found.field-0.0 c.from_residual-in_err-found.ensures.1
-    (all_failed c.args.name.now c.args.params.now c.args.world.now c.look_up.new.world c.in_err-found.field-0.0 c.in_err-found.ensures.does)
+    (all_failed c.args.name.now (params_of c.args.params.now) c.args.world.now c.look_up.new.world c.in_err-found.field-0.0 c.in_err-found.ensures.does)
 
 pub returns-in_err-changed-clause-does : goal.returns-in_err-changed-clause-does
 returns-in_err-changed-clause-does g c =
     err_as c.from_residual-in_err-changed.result c.in_err-changed.field-0.0 c.from_residual-in_err-changed.ensures.1
-    (all_unchanged c.args.name.now c.args.params.now c.args.world.now c.look_up.new.world c.in_ok-values.values c.in_ok-found.found c.in_err-changed.field-0.0 c.in_ok-values.ensures.made c.in_ok-found.ensures.does
+    (all_unchanged c.args.name.now (params_of c.args.params.now) c.args.world.now c.look_up.new.world c.in_ok-values.values c.in_ok-found.found c.in_err-changed.field-0.0 c.in_ok-values.ensures.made c.in_ok-found.ensures.does
     c.in_err-changed.ensures)
 
 pub returns-clause-does : goal.returns-clause-does
 returns-clause-does g c =
-    all_changed c.args.name.now c.args.params.now c.args.world.now c.look_up.new.world c.write_record.new.world c.in_ok-values.values c.in_ok-found.found c.in_ok-changed.changed c.write_record.result
+    all_changed c.args.name.now (params_of c.args.params.now) c.args.world.now c.look_up.new.world c.write_record.new.world c.in_ok-values.values c.in_ok-found.found c.in_ok-changed.changed c.write_record.result
     c.in_ok-values.ensures.made c.in_ok-found.ensures.does c.in_ok-changed.ensures c.write_record.ensures.does
