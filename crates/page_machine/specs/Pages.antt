@@ -1,5 +1,5 @@
 -- Other pages, as an include finds them, for proofs alone.
-use Rattle.std.specs.Prelude.{◌≡◌, ℕ, Bool, true, false, List, Result, Ok, Err, ⊤}
+use Rattle.std.specs.Prelude.{◌≡◌, ℕ, Bool, true, false, List, ◌++◌, Result, Ok, Err, ⊤}
 use Rattle.http_in.specs.declared.params.Param.{Param}
 use Rattle.page_machine.specs.declared.targets.Target as machine_target
 use Rattle.page_machine.specs.declared.targets.TargetParams.{TargetParams}
@@ -30,7 +30,7 @@ IsNoPath (Err reason) = ⊤
 -- the parameters that a target's are, where a page run names it
 abbrev pub params_for : Run → TargetParams → List Param
 params_for run named.Same = run.params
-params_for run (named.Own params) = params
+params_for run (named.Own own) = own ++ run.params
 
 -- the target that the values on top name for a page run: its path and its parameters, or X11
 abbrev pub TargetSo : Run → List Datum → Result machine_target.Target (Failure RunFault) → Type 0

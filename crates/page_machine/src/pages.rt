@@ -21,18 +21,18 @@ ghost use Rattle.run_moves.specs.Opened.{open_of};
 ghost use Rattle.run_moves.specs.declared.flow.End.TheVariants as end;
 ghost use Rattle.run_moves.specs.declared.flow.Flow.TheVariants as flow;
 ghost use Rattle.run_parts.specs.Records.{IsRecordsOf};
+ghost use Rattle.run_world.specs.Params.{params_of};
 ghost use Rattle.run_world.specs.Known.{Known, ServesSo};
 ghost use Rattle.run_world.specs.Part.{Changes, Doing};
 ghost use Rattle.run_world.specs.Programs.{program_of};
 
 use crate::targets::{Target, TargetParams, find_target, import_target};
 use crate::turn::{CodeStart, run_code};
-use http_in::Param;
 use pg_text::{Failure, Text};
 use pg_value::RunFault;
 use run_moves::{At, End, Flow, Open, fail, throw};
 use run_parts::RequestRecords;
-use run_world::{Program, Seat, Served, World, know_tags};
+use run_world::{Params, Program, Seat, Served, World, know_tags};
 use site_words::Paged;
 use std::alloc::{AllocError, Global};
 
@@ -40,11 +40,11 @@ use std::alloc::{AllocError, Global};
 #[derive(Drop)]
 pub(crate) struct PageStart<'a> {
     pub program: &'a Program,
-    pub params: &'a [Param],
+    pub params: &'a Params<'a>,
     pub left: u32,
 }
 
-// A page that a target names, with the target's parameters and so many levels left below it.
+// A page that a target names, with its parameters and so many levels left below it.
 #[derive(Drop)]
 struct TargetPage<'a> {
     program: &'a Program,
@@ -195,8 +195,8 @@ fn include_text<W: World>(
     }
 }
 
-// Includes a page. One that runs with the parameters of the page that names it shares the records
-// that were made of the request.
+// Includes a page. It shares the records that were made of the request, but for those of the
+// parameters where it has some of its own.
 #[cycle(machine)]
 fn include_page<W: World>(
     alloc: Global,
@@ -232,14 +232,17 @@ fn include_page<W: World>(
             };
             included_page(alloc, at, records, start, opened, world)
         }
-        TargetParams::Own(params) => {
+        TargetParams::Own(own) => {
+            let params = Params::Before(own.as_slice(), at.seat.params());
             let start = PageStart {
                 program,
-                params: params.as_slice(),
+                params: &params,
                 left,
             };
-            let mut own = RequestRecords::none();
-            included_page(alloc, at, &mut own, start, opened, world)
+            let aside = records.set_params_aside();
+            let flow = included_page(alloc, at, records, start, opened, world);
+            records.put_params_back(aside);
+            flow
         }
     }
 }
@@ -263,8 +266,8 @@ fn included_page<W: World>(
     ensures records { IsRecordsOf at.now.served.now.request.now start.entry.params.now records.new }
     ensures stepped { Stepped W.reached W.replies (ServesSo W.stores at.now.served.now) (seat_at at.now)
         (λ serving s. included_run at.now.cell.place (program_of start.entry.program.now)
-        start.entry.params.now start.entry.left (at.now.pc + 1) s (open_of opened.old)) world.old world.new
-        (open_of opened.new) result }
+        (params_of start.entry.params.now) start.entry.left (at.now.pc + 1) s (open_of opened.old)) world.old
+        world.new (open_of opened.new) result }
     ensures left { opened.new.left ≡ opened.old.left }
 {
     let bodies = world.bodies();
@@ -328,7 +331,7 @@ pub(crate) fn enter_page<W: World>(
     ensures covered { W.covered world.new }
     ensures records { IsRecordsOf served.now.request.now start.entry.params.now records.new }
     ensures ran { Ran W.reached W.replies (ServesSo W.stores served.now) (λ serving s d.
-        PageRuns serving (program_of start.entry.program.now) start.entry.params.now start.entry.left s d)
+        PageRuns serving (program_of start.entry.program.now) (params_of start.entry.params.now) start.entry.left s d)
         world.old world.new result }
 {
     let PageStart {

@@ -23,7 +23,7 @@ use pg_value::RunFault;
 use run_moves::End;
 use run_parts::RequestRecords;
 use run_stage::{RUN_PROMISE, Stage};
-use run_world::{Around, Program, Raise, Served, World};
+use run_world::{Around, Params, Program, Raise, Served, World};
 use scopes::Scopes;
 use site_words::AppPort;
 use std::alloc::Global;
@@ -80,12 +80,7 @@ pub fn run<P: AppPort<Program>, K: Sink>(
         around,
         port,
     };
-    let start = PageStart {
-        program: asked.program,
-        params: asked.params,
-        left,
-    };
-    let end = run_with_exception(alloc, start, asked.request, &exception, &mut stage);
+    let end = run_with_exception(alloc, asked, left, &exception, &mut stage);
     stage.around.exception = exception;
     end_run(end, stage.around)
 }
@@ -93,22 +88,28 @@ pub fn run<P: AppPort<Program>, K: Sink>(
 // Runs a page that sees this fault, where it is an error page.
 fn run_with_exception<'a, W: World>(
     alloc: Global,
-    start: PageStart,
-    request: &'a Request,
+    asked: AskedPage<'a>,
+    left: u32,
     exception: &'a Option<Raise>,
     world: &mut W,
 ) -> End
     requires covered { W.covered world.old }
-    requires known { KnownSo W.reached W.stores request.now exception.now world.old }
+    requires known { KnownSo W.reached W.stores asked.request.now exception.now world.old }
     ensures covered { W.covered world.new }
-    ensures ran { Ran W.reached W.replies (SeesSo W.stores request.now exception.now) (λ serving s d.
-        PageRuns serving (program_of start.entry.program.now) start.entry.params.now start.entry.left s d)
+    ensures ran { Ran W.reached W.replies (SeesSo W.stores asked.entry.request.now exception.now) (λ serving s d.
+        PageRuns serving (program_of asked.entry.program.now) asked.entry.params.now left s d)
         world.old world.new result }
 {
     let seen = exception.as_ref();
     let served = Served {
-        request,
+        request: asked.request,
         exception: seen,
+    };
+    let params = Params::Listed(asked.params);
+    let start = PageStart {
+        program: asked.program,
+        params: &params,
+        left,
     };
     let mut records = RequestRecords::none();
     enter_page(alloc, &served, start, &mut records, world)

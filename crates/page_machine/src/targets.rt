@@ -3,6 +3,7 @@ ghost use Rattle.std.specs.Prelude.{◌≡◌, ◌≤◌, IfOk, codes, is_some, 
 ghost use Rattle.http_in.specs.Target.{query_of};
 ghost use Rattle.jstl_functions.specs.Texts.{contains_part};
 ghost use Rattle.page_machine.specs.Pages.{ImportSo, TargetSo, params_for};
+ghost use Rattle.page_meaning.specs.Context.{Run};
 ghost use Rattle.page_meaning.specs.Includes.{target_params};
 ghost use Rattle.page_table.specs.Operations.{params_in, text_at};
 ghost use Rattle.page_table.specs.Seat.{page_run_of};
@@ -13,13 +14,13 @@ use http_in::Param;
 use pg_text::{Failure, Listed, Path};
 use pg_value::{RunFault, Value};
 use run_moves::named_path;
-use run_parts::target_params;
+use run_parts::own_params;
 use run_values::text_of;
 use run_world::Seat;
 use std::alloc::{AllocError, Global};
 
-/// The parameters with which the page of a target runs: those of the page that names it, or a list
-/// of its own.
+/// The parameters with which the page of a target runs: those of the page that names it, alone or
+/// behind others.
 #[derive(Drop)]
 pub(crate) enum TargetParams {
     Same,
@@ -42,20 +43,15 @@ fn has_query(address: &str) -> bool
 
 // The parameters of a target: those of the page that names it, where it has no query and is given
 // none.
-fn find_params(
-    alloc: Global,
-    seat: &Seat,
-    address: &str,
-    given: &[Value],
-) -> Result<TargetParams, AllocError>
-    ensures { IfOk result (λ params. params_for (page_run_of (seat_of seat.now)) params ≡ target_params
-        (page_run_of (seat_of seat.now)) address.now (params_in (map datum_of given.now))) }
+fn find_params(alloc: Global, address: &str, given: &[Value]) -> Result<TargetParams, AllocError>
+    ensures { (run : Run) → IfOk result (λ params. params_for run params ≡ target_params run address.now
+        (params_in (map datum_of given.now))) }
 {
     if given.is_empty() && !has_query(address) {
         return Ok(TargetParams::Same);
     }
-    let params = target_params(alloc, seat, address, given)?;
-    Ok(TargetParams::Own(params))
+    let own = own_params(alloc, address, given)?;
+    Ok(TargetParams::Own(own))
 }
 
 /// What the values of an include or an import name: the first is its address, the others are its
@@ -70,7 +66,7 @@ pub(crate) fn find_target(
 {
     let address = text_of(&values[0]);
     let path = named_path(alloc, seat, address)?;
-    let params = find_params(alloc, seat, address, &values[1..])?;
+    let params = find_params(alloc, address, &values[1..])?;
     Ok(Target { path, params })
 }
 

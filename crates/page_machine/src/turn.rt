@@ -8,13 +8,13 @@ ghost use Rattle.page_machine.specs.Turn.{CallBegins, CodeRuns, Ran, SeatHolds, 
 ghost use Rattle.page_table.specs.Act.{called_out, move_of};
 ghost use Rattle.page_table.specs.Checked.{SeatFits};
 ghost use Rattle.page_table.specs.Finds.{CallFinds};
-ghost use Rattle.page_table.specs.Seat.{code_of, page_run_of};
+ghost use Rattle.page_table.specs.Seat.{code_of};
 ghost use Rattle.run_moves.specs.At.{IsRecordsAt, seat_at};
 ghost use Rattle.run_moves.specs.Opened.{open_of};
 ghost use Rattle.run_moves.specs.Quick.{is_quick};
 ghost use Rattle.run_parts.specs.Records.{IsRecordsOf};
 ghost use Rattle.run_world.specs.Known.{Known, ServesSo};
-ghost use Rattle.run_world.specs.Seats.{seat_of};
+ghost use Rattle.run_world.specs.Seats.{params_at, seat_of};
 
 use crate::calls::{given_call, tag_call};
 use crate::pages::{import_call, include_call};
@@ -42,14 +42,13 @@ pub(crate) fn run_code<'a, W: World>(
     world: &mut W,
 ) -> End
     requires covered { W.covered world.old }
-    requires records { IsRecordsOf served.now.request.now (page_run_of (seat_of start.seat.now)).params records.old }
+    requires records { IsRecordsOf served.now.request.now (params_at start.seat.now) records.old }
     requires known { Known W.reached W.stores served.now world.old }
     requires seat { SeatFits (seat_of start.seat.now) }
     requires holds { SeatHolds (seat_of start.seat.now) (length (W.variables world.old).frames) }
     requires at { Carries (code_of (seat_of start.seat.now)) start.pc empty_shape }
     ensures covered { W.covered world.new }
-    ensures records { IsRecordsOf served.now.request.now (page_run_of (seat_of start.entry.seat.now)).params
-        records.new }
+    ensures records { IsRecordsOf served.now.request.now (params_at start.entry.seat.now) records.new }
     ensures ran { Ran W.reached W.replies (ServesSo W.stores served.now)
         (CodeRuns (seat_of start.entry.seat.now) start.entry.pc start.entry.left) world.old world.new result }
 {

@@ -46,12 +46,14 @@ use Rattle.run_moves.specs.Opened.{open_of}
 use Rattle.run_moves.specs.declared.flow.End.TheVariants as ends
 use Rattle.run_moves.specs.declared.flow.Flow.TheVariants as flows
 use Rattle.run_parts.specs.Given.{given_by}
-use Rattle.run_parts.specs.Records.{IsRecordsOf}
+use Rattle.run_parts.specs.Records.{AreParamsOf, IsRecordsOf}
+use Rattle.run_world.specs.Params.{params_of}
 use Rattle.run_world.proofs.Knowing.{known_changed, known_done, serves_changed, serves_done}
 use Rattle.run_world.specs.Programs.{program_of}
-use Rattle.run_world.specs.Seats.{call_of, export_of, seat_of}
+use Rattle.run_world.specs.declared.params.Params.{Before}
+use Rattle.run_world.specs.Seats.{call_of, export_of, params_at, seat_of}
 use Rattle.run_world.specs.Tags.{tag_of}
-use Rattle.std.proofs.Common.{Err, List, None, Ok, Some, [], ap, arith, length, refl, rules, subst, suc, sym, ◌+◌, ◌<◌, ◌^◌, ◌∙◌, ◌≡◌, ◌≤◌}
+use Rattle.std.proofs.Common.{Err, List, None, Ok, Some, [], ap, arith, length, refl, rules, subst, suc, sym, ◌+◌, ◌++◌, ◌<◌, ◌^◌, ◌∙◌, ◌≡◌, ◌≤◌}
 use Rattle.std.specs.Prelude.{drop, map, option_map, reverse, take}
 
 -- some place: the beginning of a page's run stands at none
@@ -302,7 +304,7 @@ turn::call_out-returns-in-Import-clause-stepped g t c =
 
 pub pages::enter_page-returns-in_default-clause-ran : goal.pages::enter_page-returns-in_default-clause-ran
 pages::enter_page-returns-in_default-clause-ran g t c =
-    page_failed no_place (program_of c.args.start.program.now) c.args.start.params.now c.args.start.left c.args.world.now c.make_session.new.world c.in_default.field-0 c.in_default.ensures.does
+    page_failed no_place (program_of c.args.start.program.now) (params_of c.args.start.params.now) c.args.start.left c.args.world.now c.make_session.new.world c.in_default.field-0 c.in_default.ensures.does
 
 pub pages::enter_page-run_code-requires : goal.pages::enter_page-run_code-requires
 pages::enter_page-run_code-requires g t c κs within =
@@ -315,7 +317,7 @@ pages::enter_page-run_code-requires g t c κs within =
 
 pub pages::enter_page-returns-clause-ran : goal.pages::enter_page-returns-clause-ran
 pages::enter_page-returns-clause-ran g t c =
-    ran_page no_place (program_of c.args.start.program.now) c.args.start.params.now c.args.start.left c.args.world.now c.make_session.new.world c.run_code.new.world c.run_code.result c.in-Ok.ensures.does
+    ran_page no_place (program_of c.args.start.program.now) (params_of c.args.start.params.now) c.args.start.left c.args.world.now c.make_session.new.world c.run_code.new.world c.run_code.result c.in-Ok.ensures.does
     (λ serving h. serves_done g.met.W.World.stores_on g.met.W.World.again c.args.served.now c.args.world.now c.make_session.new.world (Ok tt) serving c.requires.known c.in-Ok.ensures.does h) c.run_code.ensures.ran
 
 -- an included page
@@ -325,16 +327,16 @@ pages::included_page-returns-in_default-clause-stepped g t c =
     let seat = seat_at c.args.at.now in
     let o = open_of c.args.opened.now in
     let program = program_of c.args.start.program.now in
-    acted_stepped seat (λ serving s. included_run c.args.at.now.cell.place program c.args.start.params.now c.args.start.left (c.args.at.now.pc + 1) s o) c.args.world.now c.push_frame.new.self o (flows.Over ends.NoMemory)
+    acted_stepped seat (λ serving s. included_run c.args.at.now.cell.place program (params_of c.args.start.params.now) c.args.start.left (c.args.at.now.pc + 1) s o) c.args.world.now c.push_frame.new.self o (flows.Over ends.NoMemory)
     (λ serving h.
-    acted_spent (λ s. included_run c.args.at.now.cell.place program c.args.start.params.now c.args.start.left (c.args.at.now.pc + 1) s o) c.args.world.now c.push_frame.new.self o
-    (λ s. included_run_grows c.args.at.now.cell.place program c.args.start.params.now c.args.start.left (c.args.at.now.pc + 1) s o) c.in_default.ensures.err c.push_frame.ensures.replies)
+    acted_spent (λ s. included_run c.args.at.now.cell.place program (params_of c.args.start.params.now) c.args.start.left (c.args.at.now.pc + 1) s o) c.args.world.now c.push_frame.new.self o
+    (λ s. included_run_grows c.args.at.now.cell.place program (params_of c.args.start.params.now) c.args.start.left (c.args.at.now.pc + 1) s o) c.in_default.ensures.err c.push_frame.ensures.replies)
 
 pub pages::included_page-enter_page-requires : goal.pages::included_page-enter_page-requires
 pages::included_page-enter_page-requires g t c κs within =
     let laws = g.met.W.World in
     let counted = counted_so (g.W.World.variables c.args.world.now) c.scopes.result.now c.frames-frames.result c.scopes.ensures c.frames-frames.ensures in
-    let known = included_known g.W.World.replies laws.stores_on laws.again laws.tells c.args.at.now.served.now (program_of c.args.start.program.now) c.args.start.params.now c.args.start.left c.frame-frame.result c.frames-frames.result c.args.world.now c.push_frame.new.self c.args.world.now
+    let known = included_known g.W.World.replies laws.stores_on laws.again laws.tells c.args.at.now.served.now (program_of c.args.start.program.now) (params_of c.args.start.params.now) c.args.start.left c.frame-frame.result c.frames-frames.result c.args.world.now c.push_frame.new.self c.args.world.now
     c.requires.known c.in-Ok.ensures.ok c.push_frame.ensures.replies c.frame-frame.ensures.current counted in
     search rules
 
@@ -342,7 +344,7 @@ pub pages::included_page-go_back-requires : goal.pages::included_page-go_back-re
 pages::included_page-go_back-requires g t c =
     let laws = g.met.W.World in
     let counted = counted_so (g.W.World.variables c.args.world.now) c.scopes.result.now c.frames-frames.result c.scopes.ensures c.frames-frames.ensures in
-    let room = included_room g.W.World.replies laws.stores_on laws.again laws.tells c.args.at.now.served.now (program_of c.args.start.program.now) c.args.start.params.now c.args.start.left c.frame-frame.result c.frames-frames.result c.args.world.now c.push_frame.new.self c.enter_page.new.world
+    let room = included_room g.W.World.replies laws.stores_on laws.again laws.tells c.args.at.now.served.now (program_of c.args.start.program.now) (params_of c.args.start.params.now) c.args.start.left c.frame-frame.result c.frames-frames.result c.args.world.now c.push_frame.new.self c.enter_page.new.world
     c.requires.known c.in-Ok.ensures.ok c.push_frame.ensures.replies c.frame-frame.ensures.current counted ends.Normal (λ x. Well tt x) normal_is (λ n t h. h) c.in-Normal.ensures.ran in
     let there : c.frame-frame.result < c.frames-frames.result = omega (arith, c.frame-frame.ensures.there, counted) in
     search rules
@@ -351,7 +353,7 @@ pub pages::included_page-go_back-requires-in-Raised : goal.pages::included_page-
 pages::included_page-go_back-requires-in-Raised g t c =
     let laws = g.met.W.World in
     let counted = counted_so (g.W.World.variables c.args.world.now) c.scopes.result.now c.frames-frames.result c.scopes.ensures c.frames-frames.ensures in
-    let room = included_room g.W.World.replies laws.stores_on laws.again laws.tells c.args.at.now.served.now (program_of c.args.start.program.now) c.args.start.params.now c.args.start.left c.frame-frame.result c.frames-frames.result c.args.world.now c.push_frame.new.self c.enter_page.new.world
+    let room = included_room g.W.World.replies laws.stores_on laws.again laws.tells c.args.at.now.served.now (program_of c.args.start.program.now) (params_of c.args.start.params.now) c.args.start.left c.frame-frame.result c.frames-frames.result c.args.world.now c.push_frame.new.self c.enter_page.new.world
     c.requires.known c.in-Ok.ensures.ok c.push_frame.ensures.replies c.frame-frame.ensures.current counted (ends.Raised c.in-Raised.fault c.in-Raised.place) (λ x. Raised c.in-Raised.fault c.in-Raised.place x) (raised_is c.in-Raised.fault c.in-Raised.place) (λ n t h. h) c.in-Raised.ensures.ran in
     let there : c.frame-frame.result < c.frames-frames.result = omega (arith, c.frame-frame.ensures.there, counted) in
     search rules
@@ -360,7 +362,7 @@ pub pages::included_page-go_back-requires-in-Redirect : goal.pages::included_pag
 pages::included_page-go_back-requires-in-Redirect g t c =
     let laws = g.met.W.World in
     let counted = counted_so (g.W.World.variables c.args.world.now) c.scopes.result.now c.frames-frames.result c.scopes.ensures c.frames-frames.ensures in
-    let room = included_left g.W.World.replies laws.stores_on laws.again laws.tells c.args.at.now.served.now (program_of c.args.start.program.now) c.args.start.params.now c.args.start.left c.frame-frame.result c.frames-frames.result c.args.world.now c.push_frame.new.self c.enter_page.new.world
+    let room = included_left g.W.World.replies laws.stores_on laws.again laws.tells c.args.at.now.served.now (program_of c.args.start.program.now) (params_of c.args.start.params.now) c.args.start.left c.frame-frame.result c.frames-frames.result c.args.world.now c.push_frame.new.self c.enter_page.new.world
     c.requires.known c.in-Ok.ensures.ok c.push_frame.ensures.replies c.frame-frame.ensures.current counted c.in-Redirect.field-0 c.bodies-bodies.result c.drop_bodies.new.self c.in-Redirect.ensures.ran c.drop_bodies.ensures.left in
     let there : c.frame-frame.result < c.frames-frames.result = omega (arith, c.frame-frame.ensures.there, counted) in
     search rules
@@ -370,7 +372,7 @@ pages::included_page-returns-in-Normal-clause-stepped g t c =
     let laws = g.met.W.World in
     let counted = counted_so (g.W.World.variables c.args.world.now) c.scopes.result.now c.frames-frames.result c.scopes.ensures c.frames-frames.ensures in
     let seat = seat_at c.args.at.now in
-    included_on g.W.World.replies laws.stores_on laws.again laws.tells c.args.at.now.served.now (program_of c.args.start.program.now) c.args.start.params.now c.args.start.left c.frame-frame.result c.frames-frames.result c.args.world.now c.push_frame.new.self c.enter_page.new.world
+    included_on g.W.World.replies laws.stores_on laws.again laws.tells c.args.at.now.served.now (program_of c.args.start.program.now) (params_of c.args.start.params.now) c.args.start.left c.frame-frame.result c.frames-frames.result c.args.world.now c.push_frame.new.self c.enter_page.new.world
     c.requires.known c.in-Ok.ensures.ok c.push_frame.ensures.replies c.frame-frame.ensures.current counted c.args.at.now.cell.place (c.args.at.now.pc + 1) (open_of c.args.opened.now) seat
     c.go_back.new.self c.in-Normal.ensures.ran c.go_back.ensures.back c.go_back.ensures.replies
 
@@ -379,7 +381,7 @@ pages::included_page-returns-in-Raised-clause-stepped g t c =
     let laws = g.met.W.World in
     let counted = counted_so (g.W.World.variables c.args.world.now) c.scopes.result.now c.frames-frames.result c.scopes.ensures c.frames-frames.ensures in
     let seat = seat_at c.args.at.now in
-    included_thrown g.W.World.replies laws.stores_on laws.again laws.tells c.args.at.now.served.now (program_of c.args.start.program.now) c.args.start.params.now c.args.start.left c.frame-frame.result c.frames-frames.result c.args.world.now c.push_frame.new.self c.enter_page.new.world
+    included_thrown g.W.World.replies laws.stores_on laws.again laws.tells c.args.at.now.served.now (program_of c.args.start.program.now) (params_of c.args.start.params.now) c.args.start.left c.frame-frame.result c.frames-frames.result c.args.world.now c.push_frame.new.self c.enter_page.new.world
     c.requires.known c.in-Ok.ensures.ok c.push_frame.ensures.replies c.frame-frame.ensures.current counted c.args.at.now.cell.place (c.args.at.now.pc + 1) (open_of c.args.opened.now) seat
     c.in-Raised.fault c.in-Raised.place c.go_back-in-Raised.new.self c.throw.new.world (open_of c.throw.new.opened) c.throw.result c.in-Raised.ensures.ran c.go_back-in-Raised.ensures.back c.go_back-in-Raised.ensures.replies
     c.throw.ensures.acted
@@ -389,7 +391,7 @@ pages::included_page-returns-in-Redirect-clause-stepped g t c =
     let laws = g.met.W.World in
     let counted = counted_so (g.W.World.variables c.args.world.now) c.scopes.result.now c.frames-frames.result c.scopes.ensures c.frames-frames.ensures in
     let seat = seat_at c.args.at.now in
-    included_redirected g.W.World.replies laws.stores_on laws.again laws.tells c.args.at.now.served.now (program_of c.args.start.program.now) c.args.start.params.now c.args.start.left c.frame-frame.result c.frames-frames.result c.args.world.now c.push_frame.new.self c.enter_page.new.world
+    included_redirected g.W.World.replies laws.stores_on laws.again laws.tells c.args.at.now.served.now (program_of c.args.start.program.now) (params_of c.args.start.params.now) c.args.start.left c.frame-frame.result c.frames-frames.result c.args.world.now c.push_frame.new.self c.enter_page.new.world
     c.requires.known c.in-Ok.ensures.ok c.push_frame.ensures.replies c.frame-frame.ensures.current counted c.args.at.now.cell.place (c.args.at.now.pc + 1) (open_of c.args.opened.now) seat
     c.in-Redirect.field-0 c.bodies-bodies.result c.drop_bodies.new.self c.go_back-in-Redirect.new.self c.bodies-bodies.ensures c.in-Redirect.ensures.ran c.drop_bodies.ensures.left c.drop_bodies.ensures.replies
     c.go_back-in-Redirect.ensures.back c.go_back-in-Redirect.ensures.replies
@@ -399,7 +401,7 @@ pages::included_page-returns-in_default-enter_page-clause-stepped g t c =
     let laws = g.met.W.World in
     let counted = counted_so (g.W.World.variables c.args.world.now) c.scopes.result.now c.frames-frames.result c.scopes.ensures c.frames-frames.ensures in
     let seat = seat_at c.args.at.now in
-    included_over g.W.World.replies laws.stores_on laws.again laws.tells c.args.at.now.served.now (program_of c.args.start.program.now) c.args.start.params.now c.args.start.left c.frame-frame.result c.frames-frames.result c.args.world.now c.push_frame.new.self c.enter_page.new.world
+    included_over g.W.World.replies laws.stores_on laws.again laws.tells c.args.at.now.served.now (program_of c.args.start.program.now) (params_of c.args.start.params.now) c.args.start.left c.frame-frame.result c.frames-frames.result c.args.world.now c.push_frame.new.self c.enter_page.new.world
     c.requires.known c.in-Ok.ensures.ok c.push_frame.ensures.replies c.frame-frame.ensures.current counted c.args.at.now.cell.place (c.args.at.now.pc + 1) (open_of c.args.opened.now) seat
     c.enter_page.result (λ l e. c.in_default-enter_page.not-Redirect l e) (λ e. c.in_default-enter_page.not-Normal e) (λ f p e. c.in_default-enter_page.not-Raised f p e) c.enter_page.ensures.ran
 
@@ -407,31 +409,35 @@ pages::included_page-returns-in_default-enter_page-clause-stepped g t c =
 
 pub pages::include_page-included_page-requires : goal.pages::include_page-included_page-requires
 pages::include_page-included_page-requires g t c κs within =
-    let records = subst (λ ps. IsRecordsOf c.args.at.now.served.now.request.now ps c.args.records.now) (sym c.params.ensures) c.requires.records in
+    let records = subst (λ ps. IsRecordsOf c.args.at.now.served.now.request.now ps c.args.records.now) (sym c.params.ensures.found) c.requires.records in
     search rules
 
-pub pages::include_page-included_page-requires-in-Own : goal.pages::include_page-included_page-requires-in-Own
-pages::include_page-included_page-requires-in-Own g t c κs within =
-    let records = c.none-own.ensures c.args.at.now.served.now.request.now c.as_slice.result.now in
+pub pages::include_page-included_page-flow-requires : goal.pages::include_page-included_page-flow-requires
+pages::include_page-included_page-flow-requires g t c κs within =
+    let records = c.set_params_aside-aside.ensures.others c.args.at.now.served.now.request.now (params_at c.args.at.now.seat.now) (Before c.as_slice.result c.params-in-Own.result) c.requires.records in
     search rules
 
 pub pages::include_page-returns-in-Same-clause-records : goal.pages::include_page-returns-in-Same-clause-records
 pages::include_page-returns-in-Same-clause-records g t c =
-    subst (λ ps. IsRecordsOf c.args.at.now.served.now.request.now ps c.included_page.new.records) c.params.ensures c.included_page.ensures.records
+    subst (λ ps. IsRecordsOf c.args.at.now.served.now.request.now ps c.included_page.new.records) c.params.ensures.found c.included_page.ensures.records
 
 pub pages::include_page-returns-in-Same-clause-stepped : goal.pages::include_page-returns-in-Same-clause-stepped
 pages::include_page-returns-in-Same-clause-stepped g t c =
     let seat = seat_at c.args.at.now in
     let o = open_of c.args.opened.now in
-    with_params seat c.args.at.now.cell.place (program_of c.args.page.program.now) c.args.page.left (c.args.at.now.pc + 1) o (params_for (page_run_of seat) c.args.page.params) c.params.result.now
-    (rw (c.in-Same.is, c.params.ensures) refl) c.args.world.now c.included_page.new.world (open_of c.included_page.new.opened) c.included_page.result c.included_page.ensures.stepped
+    with_params seat c.args.at.now.cell.place (program_of c.args.page.program.now) c.args.page.left (c.args.at.now.pc + 1) o (params_for (page_run_of seat) c.args.page.params) (params_of c.params.result.now)
+    (rw (c.in-Same.is, c.params.ensures.list) refl) c.args.world.now c.included_page.new.world (open_of c.included_page.new.opened) c.included_page.result c.included_page.ensures.stepped
+
+pub pages::include_page-returns-in-Own-clause-records : goal.pages::include_page-returns-in-Own-clause-records
+pages::include_page-returns-in-Own-clause-records g t c =
+    c.put_params_back.ensures c.args.at.now.served.now.request.now (params_at c.args.at.now.seat.now) _ (subst (AreParamsOf (params_at c.args.at.now.seat.now)) (sym c.set_params_aside-aside.ensures.aside) c.requires.records.params) c.included_page-flow.ensures.records
 
 pub pages::include_page-returns-in-Own-clause-stepped : goal.pages::include_page-returns-in-Own-clause-stepped
 pages::include_page-returns-in-Own-clause-stepped g t c =
     let seat = seat_at c.args.at.now in
     let o = open_of c.args.opened.now in
-    with_params seat c.args.at.now.cell.place (program_of c.args.page.program.now) c.args.page.left (c.args.at.now.pc + 1) o (params_for (page_run_of seat) c.args.page.params) c.as_slice.result.now
-    (rw (c.in-Own.is, c.as_slice.ensures) refl) c.args.world.now c.included_page-in-Own.new.world (open_of c.included_page-in-Own.new.opened) c.included_page-in-Own.result c.included_page-in-Own.ensures.stepped
+    with_params seat c.args.at.now.cell.place (program_of c.args.page.program.now) c.args.page.left (c.args.at.now.pc + 1) o (params_for (page_run_of seat) c.args.page.params) (c.as_slice.result.now ++ params_of c.params-in-Own.result.now)
+    (rw (c.in-Own.is, c.as_slice.ensures, c.params-in-Own.ensures.list) refl) c.args.world.now c.included_page-flow.new.world (open_of c.included_page-flow.new.opened) c.included_page-flow.result c.included_page-flow.ensures.stepped
 
 -- an include of a target
 
@@ -602,7 +608,7 @@ calls::given_call-run_code-requires g t c κs within =
     let stands = holds_more caller n m (omega (arith, c.copy_out.ensures.frames, c.turn_to.ensures.frames)) holds.2 in
     let at = begins_given name call caller c.in-Code.pc seated.1 (c.in-Code.ensures caller) in
     let fits = seated.2 in
-    let records = subst (λ x. IsRecordsOf c.args.at.now.served.now.request.now (page_run_of x).params c.args.records.now) (ap seat_of c.in-InTag.is) c.requires.records in
+    let records = subst (λ x. IsRecordsOf c.args.at.now.served.now.request.now (params_at x) c.args.records.now) c.in-InTag.is c.requires.records in
     search rules
 
 pub calls::given_call-go_back-requires : goal.calls::given_call-go_back-requires
@@ -635,7 +641,7 @@ calls::given_call-returns-in-InPage-clause-stepped g t c =
     let o = open_of c.args.opened.now in
     let name = option_map (λ n. n.now) c.args.name in
     acted_stepped seat (λ serving s. given_called c.args.at.now.cell.place (given_by name seat) seat (c.args.at.now.pc + 1) s o) c.args.world.now c.args.world.now o (flows.Go (c.args.at.now.pc + 1))
-    (λ serving h. given_page c.args.at.now.cell.place (c.args.at.now.pc + 1) o name seat c.args.world.now (program_of c.in-InPage.field-0.now) c.in-InPage.field-1.now (ap seat_of c.in-InPage.is))
+    (λ serving h. given_page c.args.at.now.cell.place (c.args.at.now.pc + 1) o name seat c.args.world.now (program_of c.in-InPage.field-0.now) (params_of c.in-InPage.field-1.now) (ap seat_of c.in-InPage.is))
 
 pub calls::given_call-returns-in-Nothing-clause-stepped : goal.calls::given_call-returns-in-Nothing-clause-stepped
 calls::given_call-returns-in-Nothing-clause-stepped g t c =
@@ -726,15 +732,15 @@ calls::given_call-returns-in_default-run_code-clause-stepped g t c =
 
 pub calls::given_call-returns-in-Normal-clause-records : goal.calls::given_call-returns-in-Normal-clause-records
 calls::given_call-returns-in-Normal-clause-records g t c =
-    subst (λ x. IsRecordsOf c.args.at.now.served.now.request.now (page_run_of x).params c.run_code.new.records) (sym (ap seat_of c.in-InTag.is)) c.run_code.ensures.records
+    subst (λ x. IsRecordsOf c.args.at.now.served.now.request.now (params_at x) c.run_code.new.records) (sym c.in-InTag.is) c.run_code.ensures.records
 
 pub calls::given_call-returns-in-Raised-clause-records : goal.calls::given_call-returns-in-Raised-clause-records
 calls::given_call-returns-in-Raised-clause-records g t c =
-    subst (λ x. IsRecordsOf c.args.at.now.served.now.request.now (page_run_of x).params c.run_code.new.records) (sym (ap seat_of c.in-InTag.is)) c.run_code.ensures.records
+    subst (λ x. IsRecordsOf c.args.at.now.served.now.request.now (params_at x) c.run_code.new.records) (sym c.in-InTag.is) c.run_code.ensures.records
 
 pub calls::given_call-returns-in_default-run_code-clause-records : goal.calls::given_call-returns-in_default-run_code-clause-records
 calls::given_call-returns-in_default-run_code-clause-records g t c =
-    subst (λ x. IsRecordsOf c.args.at.now.served.now.request.now (page_run_of x).params c.run_code.new.records) (sym (ap seat_of c.in-InTag.is)) c.run_code.ensures.records
+    subst (λ x. IsRecordsOf c.args.at.now.served.now.request.now (params_at x) c.run_code.new.records) (sym c.in-InTag.is) c.run_code.ensures.records
 
 -- a call of a tag file
 

@@ -1,13 +1,13 @@
 use Rattle.std.proofs.Common.{◌≡◌, ◌+◌, ◌-◌, ◌*◌, length}
 use Rattle.run_world.specs.Known.{Known, ServesSo}
 use Rattle.run_moves.specs.Opened.{open_of}
-use Rattle.run_world.specs.Seats.{seat_of}
+use Rattle.run_world.specs.Seats.{params_at, seat_of}
 use Rattle.page_machine.specs.Turn.{SeatHolds, StandsInCode}
 use Rattle.page_machine.proofs.Looping.{RunSoFar}
 use Rattle.page_machine.proofs.+machine.Given as goal
 use Rattle.page_meaning.specs.Work.{visit_limit}
 use Rattle.page_table.specs.Measure.{span, weight}
-use Rattle.page_table.specs.Seat.{code_of, page_run_of}
+use Rattle.page_table.specs.Seat.{code_of}
 use Rattle.run_parts.specs.Records.{IsRecordsOf}
 
 abbrev pub decreases-turn::run_code : goal.decreases-turn::run_code
@@ -56,7 +56,7 @@ invariant-turn::run_code-loop-op g l = record {
   left : l.opened.left ≡ l.start.left;
   covered : g.W.World.covered l.world;
   known : Known g.W.World.reached g.W.World.stores l.served l.world;
-  records : IsRecordsOf l.served.request.now (page_run_of (seat_of l.start.seat.now)).params l.records;
+  records : IsRecordsOf l.served.request.now (params_at l.start.seat.now) l.records;
   holds : SeatHolds (seat_of l.start.seat.now) (length (g.W.World.variables l.world).frames);
   standing : StandsInCode (seat_of l.start.seat.now) l.pc (g.W.World.kept l.world) (open_of l.opened);
   so_far : RunSoFar g.W.World.reached g.W.World.replies (ServesSo g.W.World.stores l.served) (seat_of l.start.seat.now) l.start.pc l.start.left l.fn.world l.world l.pc (open_of l.opened);

@@ -15,7 +15,7 @@ enter_page-requires-clause-known g c =
     }
 
 pub enter_page-requires-clause-records : goal.enter_page-requires-clause-records
-enter_page-requires-clause-records g c = c.none-records.ensures c.args.request.now c.args.start.params.now
+enter_page-requires-clause-records g c = c.none-records.ensures c.args.asked.request.now _
 
 pub returns-clause-ran : goal.returns-clause-ran
 returns-clause-ran g c = record {

@@ -17,4 +17,4 @@ returns-in_err-params c = target_short (page_run_of (seat_of c.args.seat.now)) (
 pub returns : goal.returns
 returns c =
     target_found (page_run_of (seat_of c.args.seat.now)) c.args.values.now c.text_of-address.result.now (c.text_of-address.ensures ∙ first_is c.args.values.now c.index-values-0.result c.requires c.index-values-0.is) c.in_ok-path.path
-    (params_for (page_run_of (seat_of c.args.seat.now)) c.in_ok-params.params) c.in_ok-path.ensures c.in_ok-params.ensures
+    (params_for (page_run_of (seat_of c.args.seat.now)) c.in_ok-params.params) c.in_ok-path.ensures (c.in_ok-params.ensures (page_run_of (seat_of c.args.seat.now)))
