@@ -1,7 +1,7 @@
 // What is answered at the path of a request.
 ghost use Rattle.std.specs.Prelude.{◌≡◌, ◌≤◌, [], false, None, OnOk};
 ghost use Rattle.std.specs.Arc.{arc_value};
-ghost use Rattle.run_pages.specs.Run.{IsInOrder, StandsFor};
+ghost use Rattle.run_pages.specs.Run.{IsInOrder};
 ghost use Rattle.compiled_pages.specs.Pages.{needs_at};
 ghost use Rattle.page_meaning.specs.Page.{Page};
 ghost use Rattle.page_meaning.specs.Respond.{is_hidden};
@@ -9,8 +9,7 @@ ghost use Rattle.page_meaning.specs.State.{State};
 ghost use Rattle.run_pages.specs.Meant.{served_at};
 ghost use Rattle.request_pages.specs.Closed.{ClosesFrom, ClosesUncommitted, first_answers, request_answers};
 ghost use Rattle.request_pages.specs.Headed.{IsHeaded};
-ghost use Rattle.request_pages.specs.Played.{IsFunded};
-ghost use Rattle.request_pages.specs.Point.{asking_over, point_over};
+ghost use Rattle.request_pages.specs.Point.{PointStands, asking_over, point_over};
 ghost use Rattle.request_pages.specs.Ready.{HasPage, IsProgramIn, IsReady};
 ghost use Rattle.request_port.specs.Leading.{IsLast, Leads};
 ghost use Rattle.run_world.specs.Origin.{Origin};
@@ -43,15 +42,14 @@ pub fn answer<'a, Q: Port<Made>, L: Ledger, K: Sink>(
     sink: &mut K,
     port: &mut RequestPort<'a, Q, L>,
 ) -> Result<Reply, AllocError>
-    requires headed { IsHeaded incoming.close incoming.shown state.old.around state.old.writer }
-    requires in_order { IsInOrder state.old.scopes state.old.around (asking_over Q.opening Q.pass Q.seen port.old) }
-    requires funded { IsFunded state.old.around (asking_over Q.opening Q.pass Q.seen port.old) }
+    requires ready { IsReady incoming.close incoming.shown
+        (point_over Q.opening Q.pass Q.seen K.taken K.faults state.old sink.old port.old) }
     requires begun { (state.old.around.depth ≡ 0) × (state.old.around.charge ≡ 0) ×
         (state.old.around.exception ≡ None) }
     requires last { IsLast port.old.tree.now port.old.last }
-    requires stands { (origin : Origin) × (s : State) × StandsFor origin state.old.scopes state.old.writer
-        (K.taken sink.old) (K.faults sink.old) state.old.around (asking_over Q.opening Q.pass Q.seen port.old)
-        s × (s.writer.pieces ≡ []) }
+    requires stands { (origin : Origin) × (s : State) × PointStands origin
+        (point_over Q.opening Q.pass Q.seen K.taken K.faults state.old sink.old port.old) s
+        × (s.writer.pieces ≡ []) }
     ensures closed { ClosesUncommitted
         (request_answers (served_at port.old.tree.now incoming.entry.request.now state.old.around)
         incoming.entry.request.now)

@@ -13,22 +13,15 @@ use Rattle.run_world.specs.declared.around.Around.{Around}
 use Rattle.site_words.specs.Answers.{IsSamePort}
 use Rattle.site_words.specs.Law.{Answer}
 
-pub answer-replied-requires-clause-headed : goal.answer-replied-requires-clause-headed
-answer-replied-requires-clause-headed g c =
-    let o = c.requires.opened in
-    begun_headed c.args.under_way.incoming.request.now.cookie o.0 o.1 c.args.under_way.incoming.close c.args.under_way.incoming.shown c.args.state.now o.3
-
-pub answer-replied-requires-clause-in_order : goal.answer-replied-requires-clause-in_order
-answer-replied-requires-clause-in_order g c =
+pub answer-replied-requires-clause-ready : goal.answer-replied-requires-clause-ready
+answer-replied-requires-clause-ready g c =
     let o = c.requires.opened in
     let port = c.args.port.now in
-    begun_in_order c.args.under_way.incoming.request.now.cookie o.0 o.1 c.args.under_way.incoming.close c.args.under_way.incoming.shown c.args.state.now o.3 (g.Q.Port.opening port) (g.Q.Port.pass port) (g.Q.Port.seen port) c.args.under_way.number o.0 c.args.under_way.tree.now o.2 refl o.4
-
-pub answer-replied-requires-clause-funded : goal.answer-replied-requires-clause-funded
-answer-replied-requires-clause-funded g c =
-    let o = c.requires.opened in
-    let port = c.args.port.now in
-    begun_funded c.args.under_way.incoming.request.now.cookie o.0 o.1 c.args.under_way.incoming.close c.args.under_way.incoming.shown c.args.state.now o.3 (g.Q.Port.opening port) (g.Q.Port.pass port) (g.Q.Port.seen port) c.args.under_way.number o.0 c.args.under_way.tree.now o.2
+    record {
+      headed = begun_headed c.args.under_way.incoming.request.now.cookie o.0 o.1 c.args.under_way.incoming.close c.args.under_way.incoming.shown c.args.state.now o.3;
+      in_order = begun_in_order c.args.under_way.incoming.request.now.cookie o.0 o.1 c.args.under_way.incoming.close c.args.under_way.incoming.shown c.args.state.now o.3 (g.Q.Port.opening port) (g.Q.Port.pass port) (g.Q.Port.seen port) c.args.under_way.number o.0 c.args.under_way.tree.now o.2 refl o.4;
+      funded = begun_funded c.args.under_way.incoming.request.now.cookie o.0 o.1 c.args.under_way.incoming.close c.args.under_way.incoming.shown c.args.state.now o.3 (g.Q.Port.opening port) (g.Q.Port.pass port) (g.Q.Port.seen port) c.args.under_way.number o.0 c.args.under_way.tree.now o.2;
+    }
 
 pub answer-replied-requires-clause-stands : goal.answer-replied-requires-clause-stands
 answer-replied-requires-clause-stands g c =

@@ -58,8 +58,8 @@ returns-in-Err-clause-closed g c = λ origin s stands none.
 
 pub first_page-requires-clause-ready : goal.first_page-requires-clause-ready
 first_page-requires-clause-ready g c = record {
-  headed = headed_looked c.args.incoming.close c.args.incoming.shown c.args.state.now.around c.look.new.around c.args.state.now.writer c.in-Ok-Page.ensures.around c.requires.headed;
-  in_order = c.in-Ok-Page.ensures.in_order c.args.state.now.scopes c.requires.in_order;
+  headed = headed_looked c.args.incoming.close c.args.incoming.shown c.args.state.now.around c.look.new.around c.args.state.now.writer c.in-Ok-Page.ensures.around c.requires.ready.headed;
+  in_order = c.in-Ok-Page.ensures.in_order c.args.state.now.scopes c.requires.ready.in_order;
   funded = c.in-Ok-Page.ensures.funded;
 }
 
