@@ -4,7 +4,8 @@ ghost use Rattle.act_reader.specs.Contents.{Adds, before, content_before, conten
 ghost use Rattle.act_reader.specs.Contents.{with_branch, with_given, with_held, with_param};
 ghost use Rattle.page_acts.specs.Views.{act_of, attribute_before, attributes_of, branch_before};
 ghost use Rattle.page_acts.specs.Views.{param_before};
-ghost use Rattle.unit_meaning.specs.Shape.{Children as Standing, Content as Inside, has_attributes};
+ghost use Rattle.unit_meaning.specs.Shape.{Children as ChildrenMeant, Content as ContentMeant};
+ghost use Rattle.unit_meaning.specs.Shape.{has_attributes};
 ghost use Rattle.unit_meaning.specs.Shape.{no_content, with_node};
 
 use page_acts::{Act, ActAttribute, ActBranch, ActParam};
@@ -24,7 +25,7 @@ impl<'u> Content<'u> {
     /// Nothing.
     pub fn empty(alloc: Global) -> Self
         ensures view { content_view result ≡ no_content }
-        ensures before { (rest : Inside) → content_before result rest ≡ rest }
+        ensures before { (rest : ContentMeant) → content_before result rest ≡ rest }
     {
         Content {
             acts: Vec::new(alloc),
@@ -53,7 +54,7 @@ pub(crate) struct Children<'u> {
 impl<'u> Children<'u> {
     /// None.
     pub fn empty(alloc: Global) -> Self
-        ensures { (rest : Standing) → before result rest ≡ rest }
+        ensures { (rest : ChildrenMeant) → before result rest ≡ rest }
     {
         Children {
             own: Content::empty(alloc),

@@ -32,7 +32,7 @@ fn tested(
 
 /// The code of `c:if`, behind the values of its attributes. The test's value is kept in the
 /// variable, where one is given.
-pub(crate) fn tested_once(
+pub(crate) fn if_code(
     alloc: Global,
     ground: &Shape,
     place: &Place,

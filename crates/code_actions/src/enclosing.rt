@@ -4,7 +4,7 @@ ghost use Rattle.code_actions.specs.Enclosing.{enclosing_code, enclosing_evaluat
 ghost use Rattle.code_actions.specs.Enclosing.{enclosing_ground};
 
 use crate::bodies::{set, set_entry};
-use crate::choices::tested_once;
+use crate::choices::if_code;
 use crate::evaluations::Evaluations;
 use crate::loops::{each, loop_kind};
 use crate::outputs::{out, out_ground};
@@ -61,7 +61,7 @@ pub fn enclosing_code(
         Enclosing::Out => out(alloc, ground, place, &names, body),
         Enclosing::Set(variable) => set(alloc, ground, place, variable, &names, body),
         Enclosing::SetEntry(target) => set_entry(alloc, ground, place, target, &names, body),
-        Enclosing::If(variable) => tested_once(alloc, ground, place, variable, &names, body),
+        Enclosing::If(variable) => if_code(alloc, ground, place, variable, &names, body),
         Enclosing::ForEach { variable, status } => {
             let kind = loop_kind(Over::Items, names, variable, status)?;
             each(alloc, ground, place, kind, body)

@@ -27,13 +27,13 @@ first_some (None ∷ others) = first_some others
 first_some (Some value ∷ others) = Some value
 
 -- whether a value can be the id of a session: 48 hexadecimal digits in lower case
-abbrev pub is_id : List ℕ → Bool
-is_id value = (length value == SESSION_ID_BYTES) && list_all (λ b. is_in_range 48 57 b || is_in_range 97 102 b) value
+abbrev pub can_be_id : List ℕ → Bool
+can_be_id value = (length value == SESSION_ID_BYTES) && list_all (λ b. is_in_range 48 57 b || is_in_range 97 102 b) value
 
 -- the value, where it can be an id
 abbrev pub id_or_none : Option (List ℕ) → List ℕ
 id_or_none None = []
-id_or_none (Some value) = if is_id value then value else []
+id_or_none (Some value) = if can_be_id value then value else []
 
 -- the id that the first of the session's cookies in the Cookie fields has, or no bytes
 abbrev pub session_of : List Field → List ℕ

@@ -1,6 +1,6 @@
 ghost use Rattle.std.specs.Prelude.{◌≡◌, ◌≤◌, IfOk, codes, length, map};
 ghost use Rattle.std.specs.Option.{option_map};
-ghost use Rattle.http_in.specs.Cookie.{first_some, is_id, is_session, session_in, session_of};
+ghost use Rattle.http_in.specs.Cookie.{can_be_id, first_some, is_session, session_in, session_of};
 ghost use Rattle.http_in.specs.Fields.{values_of};
 
 use crate::Field;
@@ -22,7 +22,7 @@ pub fn session_of(alloc: Global, fields: &[Field]) -> Result<Text, AllocError>
     ensures short { IfOk result (λ id. length id ≤ SESSION_ID_BYTES) }
 {
     match first_session(fields) {
-        Some(value) if is_id(value) => Text::copy_of(alloc, text_of(value)),
+        Some(value) if can_be_id(value) => Text::copy_of(alloc, text_of(value)),
         _ => Text::copy_of(alloc, ""),
     }
 }
@@ -58,8 +58,8 @@ fn is_session(piece: &[u8]) -> bool
 }
 
 // Whether a value can be the id of a session.
-fn is_id(value: &[u8]) -> bool
-    ensures { result ≡ is_id value.now }
+fn can_be_id(value: &[u8]) -> bool
+    ensures { result ≡ can_be_id value.now }
 {
     value.len() == SESSION_ID_BYTES
         && value

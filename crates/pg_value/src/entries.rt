@@ -80,8 +80,8 @@ impl Entries {
         }
     }
 
-    // Whether the record weighs the same and is as deep with this value at this place. Where it
-    // tells no, it may be so.
+    // `true` where weight and depth surely stay as they are when this value is put at this place;
+    // `false` promises nothing.
     #[inline(always)]
     pub fn keeps_measures(&self, at: usize, value: &Value) -> bool
         requires { at < length (in_entries self.now) }

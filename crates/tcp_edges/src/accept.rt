@@ -1,7 +1,7 @@
 ghost use Rattle.std.specs.Prelude.{◌≡◌};
 
 use crate::link::{Link, Shared};
-use crate::round::{Place, SharedRound};
+use crate::round::{SharedRound, Side};
 use crate::sink::TcpSink;
 use crate::source::TcpSource;
 use edges::{Accept, Accepted, Failed};
@@ -37,7 +37,7 @@ pub struct TcpAccept<'a, R: Clock> {
     /// For how many numbers a connection came, or none could be had.
     pub(crate) settled: AtomicU64,
     pub(crate) round: SharedRound,
-    pub(crate) place: Place,
+    pub(crate) side: Side,
 }
 
 /// The mark that a round is over.
@@ -60,7 +60,7 @@ impl<'a, R: Net<Stream = TcpStream> + Clock> TcpAccept<'a, R> {
 
     // Waits for the next connection. None comes where the round ended meanwhile.
     fn next(&self) -> Option<io::Result<TcpStream>> {
-        let door = self.round.door(self.place);
+        let door = self.round.door(self.side);
         door.enter();
         if self.round.is_over() {
             door.leave();

@@ -1,7 +1,7 @@
 ghost use Rattle.std.specs.Prelude.{◌≡◌, IfOk};
 
 use crate::accept::TcpAccept;
-use crate::round::{Place, Round, SharedRound, local};
+use crate::round::{Round, SharedRound, Side, local};
 use edges::{Bind, Failed};
 use std::alloc::Global;
 use std::io;
@@ -40,8 +40,8 @@ impl<'a, R: Net<Listener = TcpListener, Stream = TcpStream> + Clock> TcpBind<'a,
         ensures port { IfOk result (λ on. on.port ≡ port) }
     {
         let listener = TcpListener::bind(self.rt, local(port))?;
-        let (round, place) = self.next_round()?;
-        round.door(place).open(listener.local_addr()?.port());
+        let (round, side) = self.next_round()?;
+        round.door(side).open(listener.local_addr()?.port());
         Ok(TcpAccept {
             rt: self.rt,
             alloc: self.alloc,
@@ -51,20 +51,20 @@ impl<'a, R: Net<Listener = TcpListener, Stream = TcpStream> + Clock> TcpBind<'a,
             drawn: AtomicU64::new(0),
             settled: AtomicU64::new(0),
             round,
-            place,
+            side,
         })
     }
 
-    // The round of the next listener, and its place there.
-    fn next_round(&mut self) -> io::Result<(SharedRound, Place)>
+    // The round of the next listener, and its side there.
+    fn next_round(&mut self) -> io::Result<(SharedRound, Side)>
         ensures { self.new.faults ≡ self.old.faults }
     {
         if let Some(round) = self.half.take() {
-            return Ok((round, Place::Second));
+            return Ok((round, Side::Second));
         }
         let round: SharedRound = Arc::new(self.alloc, Round::new())?;
         self.half = Some(Arc::try_clone(&round)?);
-        Ok((round, Place::First))
+        Ok((round, Side::First))
     }
 }
 

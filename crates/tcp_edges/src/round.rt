@@ -20,7 +20,7 @@ pub(crate) type SharedRound = Arc<Round, Global>;
 
 /// Which of the two listeners of a round.
 #[derive(Clone, Copy, Drop)]
-pub(crate) enum Place {
+pub(crate) enum Side {
     First,
     Second,
 }
@@ -42,10 +42,10 @@ impl Round {
     }
 
     /// The door of a listener.
-    pub(crate) fn door(&self, place: Place) -> &Door {
-        match place {
-            Place::First => &self.first,
-            Place::Second => &self.second,
+    pub(crate) fn door(&self, side: Side) -> &Door {
+        match side {
+            Side::First => &self.first,
+            Side::Second => &self.second,
         }
     }
 

@@ -41,7 +41,7 @@ pub fn is_white(text: &[u8]) -> bool
 }
 
 // An element as it stands there.
-fn standing_of<'n>(head: &'n Element) -> Standing<'n>
+fn element_standing<'n>(head: &'n Element) -> Standing<'n>
     ensures { standing_made result ≡ tag (opened_of head.now).tag }
 {
     Standing::Element {
@@ -88,7 +88,7 @@ fn push_node<'n>(node: &'n PlacedNode, found: &mut Vec<Standing<'n>>) -> Result<
     match node {
         PlacedNode::Leaf(leaf, _) => push_leaf(leaf, found),
         PlacedNode::Element(element) => {
-            found.push(standing_of(&element.head))?;
+            found.push(element_standing(&element.head))?;
             Ok(())
         }
         PlacedNode::Broken(_) => Ok(()),

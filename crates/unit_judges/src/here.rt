@@ -5,7 +5,7 @@ ghost use Rattle.jstl_tags.specs.Content.{takes_parts};
 ghost use Rattle.jstl_tags.specs.Elements.{opened_of};
 ghost use Rattle.jstl_tags.specs.Hosts.{host_made};
 ghost use Rattle.jstl_tags.specs.Rows.{row_made};
-ghost use Rattle.unit_words.specs.Elements.{deeper, host, outermost, row_in, within};
+ghost use Rattle.unit_words.specs.Elements.{host, outermost, row_in, within};
 ghost use Rattle.unit_words.specs.Walk.{behind};
 ghost use Rattle.unit_judges.specs.Made.{around_made, here_made, kind_made};
 
@@ -13,7 +13,7 @@ use crate::kind::Kind;
 use jstl_tags::{CoreName, Host, Row, takes_parts};
 use page_reader::Element;
 use std::alloc::{AllocError, Global};
-use unit_source::MAX_NESTING;
+use unit_source::level_within;
 
 /// The elements around a node, of which the two innermost count, the innermost first.
 #[derive(Clone, Copy)]
@@ -66,12 +66,6 @@ fn row_of(kind: &Kind, head: &Element) -> Option<Row>
     } else {
         None
     }
-}
-
-fn deeper(deep: usize) -> usize
-    ensures { result ≡ deeper deep }
-{
-    if deep <= MAX_NESTING { deep + 1 } else { deep }
 }
 
 // A host in which an `otherwise` stood.
@@ -184,7 +178,7 @@ impl<'n> Here<'n> {
         Here {
             around: self.around.within(host(kind, head)),
             row: row_of(kind, head),
-            deep: deeper(self.deep),
+            deep: level_within(self.deep),
         }
     }
 

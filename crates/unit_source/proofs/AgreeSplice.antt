@@ -14,7 +14,7 @@ use Rattle.unit_source.specs.First.{First, included_path, own_directives, firsts
 use Rattle.unit_source.specs.InPlace.{InPlace, done, leaf, element, broken, included}
 use Rattle.unit_source.specs.Laws.{Agree}
 use Rattle.unit_source.specs.Root.{root_of, second_reading, with_first, rooted}
-use Rattle.unit_source.specs.Splice.{Going, Spliced, deeper, full, registered, with_prefixes, with_file, Inner, Enter, most_nested, nothing_read, file_read, room_read, text_read, target_read, include_read, leaf_then, element_then, broken_then, include_then, nodes_read, file_nodes, with_names, file_with, spliced_within}
+use Rattle.unit_source.specs.Splice.{Going, Spliced, full, level_within, registered, with_prefixes, with_file, Inner, Enter, most_nested, nothing_read, file_read, room_read, text_read, target_read, include_read, leaf_then, element_then, broken_then, include_then, nodes_read, file_nodes, with_names, file_with, spliced_within}
 use Rattle.unit_source.specs.Volume.{has_room, one_file}
 use Rattle.unit_source.proofs.AgreeFirst.{agree_left, agree_right, within_same, firsts_same}
 
@@ -85,10 +85,10 @@ nodes_same f g r s h brought around done going a = refl
 nodes_same f g r s h brought around (leaf kind place next) going a = ap (leaf_then kind place) (nodes_same f g r s h brought around next (with_prefixes (registered kind place) going) a)
 nodes_same f g r s h brought around (broken fault next) going a = ap (broken_then fault) (nodes_same f g r s h brought around next going a)
 nodes_same f g r s h brought around (element opened body next) going a =
-    let inner : Spliced = nodes_read r brought (deeper around) body going in
+    let inner : Spliced = nodes_read r brought (level_within around) body going in
     let later : Spliced = nodes_read r brought around next inner.going in
     ap (element_then opened inner) (nodes_same f g r s h brought around next inner.going (agree_right f g inner.names later.names a))
-    ∙ ap (λ i. element_then opened i (nodes_read s brought around next i.going)) (nodes_same f g r s h brought (deeper around) body going (agree_left f g inner.names later.names a))
+    ∙ ap (λ i. element_then opened i (nodes_read s brought around next i.going)) (nodes_same f g r s h brought (level_within around) body going (agree_left f g inner.names later.names a))
 nodes_same f g r s h brought around (included d entry body next) going a =
     let inner : Inner = r around d going in
     let later : Spliced = nodes_read r brought around next (with_prefixes (brought_at d.place.byte brought) inner.going) in

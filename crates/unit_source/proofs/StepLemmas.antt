@@ -14,7 +14,7 @@ use Rattle.unit_source.specs.InPlace.{InPlace, done, leaf, element, broken, incl
 use Rattle.unit_source.specs.Placed.{in_place, node_in_place}
 use Rattle.unit_source.specs.ReadSplice.{Gone, gone, behind_file, found_of, step_of, taken_of}
 use Rattle.unit_source.specs.ReadSteps.{Step, registers, includes, steps_of, Found, Taken, found_in, taken, both_taken, filled_by, leaf_filled, filled}
-use Rattle.unit_source.specs.Splice.{Going, Inner, Spliced, deeper, nodes_read, registered, with_prefixes}
+use Rattle.unit_source.specs.Splice.{Going, Inner, Spliced, level_within, nodes_read, registered, with_prefixes}
 use Rattle.unit_source.proofs.PlacedLemmas.{element_placed, include_placed}
 
 -- the steps of nodes, one after the other
@@ -22,7 +22,7 @@ pub steps_followed : (around : ℕ) (a b : InPlace) → steps_of around (followe
 steps_followed around done b = refl
 steps_followed around (leaf kind place next) b = ap (λ s. registers (registered kind place) ∷ s) (steps_followed around next b)
 steps_followed around (element opened body next) b =
-    ap (λ s. steps_of (deeper around) body ++ s) (steps_followed around next b) ∙ sym (append_assoc (steps_of (deeper around) body) (steps_of around next) (steps_of around b))
+    ap (λ s. steps_of (level_within around) body ++ s) (steps_followed around next b) ∙ sym (append_assoc (steps_of (level_within around) body) (steps_of around next) (steps_of around b))
 steps_followed around (broken fault next) b = steps_followed around next b
 steps_followed around (included d entry body next) b = ap (λ s. includes around d ∷ s) (steps_followed around next b)
 
@@ -43,8 +43,8 @@ next_stepped around all i node before steps total lt is whole more =
     split : drop i all ≡ node ∷ drop (i + 1) all
     split = drop-cons all i node lt ∙ ap (λ n. get_or all i node ∷ drop n all) (sym (add-one i)) ∙ ap (λ x. x ∷ drop (i + 1) all) (sym is)
 
-pub element_steps : (around : ℕ) (e : PlacedElement) → steps_of around (node_in_place (Element e)) ≡ steps_of (deeper around) (in_place e.body.items)
-element_steps around e = ap (steps_of around) (element_placed e) ∙ append-nil (steps_of (deeper around) (in_place e.body.items))
+pub element_steps : (around : ℕ) (e : PlacedElement) → steps_of around (node_in_place (Element e)) ≡ steps_of (level_within around) (in_place e.body.items)
+element_steps around e = ap (steps_of around) (element_placed e) ∙ append-nil (steps_of (level_within around) (in_place e.body.items))
 
 pub include_steps : (around : ℕ) (i : PlacedInclude) → steps_of around (node_in_place (Included i)) ≡ includes around i.directive ∷ []
 include_steps around i = ap (steps_of around) (include_placed i)
@@ -142,11 +142,11 @@ is_taken read brought around (included d entry body next) more going =
       going = later.going;
     }
 is_taken read brought around (element opened body next) more going =
-    in_element (append_assoc (steps_of (deeper around) body) (steps_of around next) more) (is_taken read brought (deeper around) body (steps_of around next ++ more) going)
-    (is_taken read brought around next more (nodes_read read brought (deeper around) body going).going)
+    in_element (append_assoc (steps_of (level_within around) body) (steps_of around next) more) (is_taken read brought (level_within around) body (steps_of around next ++ more) going)
+    (is_taken read brought around next more (nodes_read read brought (level_within around) body going).going)
   where
     inner : Spliced
-    inner = nodes_read read brought (deeper around) body going
+    inner = nodes_read read brought (level_within around) body going
 
     later : Spliced
     later = nodes_read read brought around next inner.going
@@ -157,8 +157,8 @@ is_taken read brought around (element opened body next) more going =
     rest : Taken
     rest = taken read brought (steps_of around next ++ more) inner.going
 
-    in_element : {steps : List Step} → steps ≡ steps_of (deeper around) body ++ (steps_of around next ++ more)
-        → IsTaken body (taken read brought (steps_of (deeper around) body ++ (steps_of around next ++ more)) going) rest inner
+    in_element : {steps : List Step} → steps ≡ steps_of (level_within around) body ++ (steps_of around next ++ more)
+        → IsTaken body (taken read brought (steps_of (level_within around) body ++ (steps_of around next ++ more)) going) rest inner
         → IsTaken next rest last later
         → IsTaken (element opened body next) (taken read brought steps going) last (nodes_read read brought around (element opened body next) going)
     in_element {steps} is one two = record {

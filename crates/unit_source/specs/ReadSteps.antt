@@ -5,7 +5,7 @@ use Rattle.page_pieces.specs.Settings.{brought_at}
 use Rattle.page_directives.specs.Directive.{Directive}
 use Rattle.unit_source.specs.declared.entry.Entry.{Entry}
 use Rattle.unit_source.specs.InPlace.{InPlace, done, leaf, element, broken, included, followed}
-use Rattle.unit_source.specs.Splice.{Going, Inner, deeper, registered, with_prefixes}
+use Rattle.unit_source.specs.Splice.{Going, Inner, level_within, registered, with_prefixes}
 
 -- what changes how it goes on: prefixes that are registered, or an include directive within so many open elements
 pub data Step : Type 0 where
@@ -16,7 +16,7 @@ pub data Step : Type 0 where
 abbrev pub steps_of : ℕ → InPlace → List Step
 steps_of around done = []
 steps_of around (leaf kind place next) = registers (registered kind place) ∷ steps_of around next
-steps_of around (element opened body next) = steps_of (deeper around) body ++ steps_of around next
+steps_of around (element opened body next) = steps_of (level_within around) body ++ steps_of around next
 steps_of around (broken fault next) = steps_of around next
 steps_of around (included d entry body next) = includes around d ∷ steps_of around next
 

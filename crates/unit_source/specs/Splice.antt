@@ -70,8 +70,8 @@ abbrev pub file_read : List ℕ → List ℕ → Spliced → Going → Inner
 file_read target text inner going = record { entry = Entered (length text); names = target ∷ inner.names; nodes = inner.nodes; going = with_counts inner.going going }
 
 -- one open element more, counted no further than to where nothing is read
-abbrev pub deeper : ℕ → ℕ
-deeper around = if nat_le around most_nested then around + 1 else around
+abbrev pub level_within : ℕ → ℕ
+level_within around = if nat_le around most_nested then around + 1 else around
 
 -- what reads a file within so many open elements
 abbrev pub Enter : Type 0
@@ -123,7 +123,7 @@ abbrev pub nodes_read : (ℕ → Directive → Going → Inner) → List Brought
 nodes_read read brought around done going = spliced done [] going
 nodes_read read brought around (leaf kind place next) going = leaf_then kind place (nodes_read read brought around next (with_prefixes (registered kind place) going))
 nodes_read read brought around (element opened body next) going =
-    let inner = nodes_read read brought (deeper around) body going in
+    let inner = nodes_read read brought (level_within around) body going in
     element_then opened inner (nodes_read read brought around next inner.going)
 nodes_read read brought around (broken fault next) going = broken_then fault (nodes_read read brought around next going)
 nodes_read read brought around (included d entry body next) going =

@@ -34,4 +34,5 @@ pub use placed::{PlacedElement, PlacedInclude, PlacedNode};
 pub use progress::MAX_NESTING;
 pub use reading_order::{directives, first_directives};
 pub use root::Root;
+pub use steps::level_within;
 pub use volume::{MAX_UNIT_BYTES, MAX_UNIT_FILES};

@@ -3,7 +3,7 @@ ghost use Rattle.pg_text.specs.declared.place.Place.{Place};
 ghost use Rattle.unit_source.specs.Placed.{in_place, node_in_place};
 ghost use Rattle.unit_source.specs.ReadSteps.{steps_of};
 ghost use Rattle.unit_source.specs.ReadSplice.{step_of};
-ghost use Rattle.unit_source.specs.Splice.{deeper, registered};
+ghost use Rattle.unit_source.specs.Splice.{level_within, registered};
 
 use crate::prefixes::push_own;
 use crate::progress::MAX_NESTING;
@@ -32,9 +32,9 @@ fn registered(alloc: Global, kind: &Leaf) -> Result<Listed<Text>, AllocError>
     Ok(prefixes)
 }
 
-// One open element more.
-fn deeper(around: usize) -> usize
-    ensures { result ≡ deeper around }
+/// How many elements are open within one more, counted no further than one over [`MAX_NESTING`].
+pub fn level_within(around: usize) -> usize
+    ensures { result ≡ level_within around }
 {
     if around <= MAX_NESTING {
         around + 1
@@ -79,7 +79,12 @@ fn add_node_steps(
             steps.push(Step::Registers(registered(alloc, kind)?))?;
             Ok(())
         }
-        PlacedNode::Element(element) => add_steps(alloc, &element.body, deeper(around), steps),
+        PlacedNode::Element(element) => add_steps(
+            alloc,
+            &element.body,
+            level_within(around),
+            steps,
+        ),
         PlacedNode::Broken(_) => Ok(()),
         PlacedNode::Included(include) => {
             steps.push(Step::Includes(around, include.directive.copy()?))?;

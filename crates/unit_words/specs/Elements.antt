@@ -16,7 +16,7 @@ use Rattle.jstl_tags.specs.Check.{row_faults, core_faults, child_faults, place_f
 use Rattle.unit_nodes.specs.declared.jsp_name.JspName.{JspName}
 use Rattle.unit_nodes.specs.declared.jsp_name.JspName.TheVariants as jsp
 use Rattle.unit_words.specs.Calls.{call_faults, call_value_faults}
-use Rattle.unit_source.specs.Splice.{most_nested}
+use Rattle.unit_source.specs.Splice.{level_within, most_nested}
 use Rattle.unit_words.specs.Kinds.{Kind, core, standard, call, refused}
 use Rattle.unit_words.specs.State.{Event, faults_at}
 use Rattle.unit_words.specs.Values.{part_faults}
@@ -44,12 +44,9 @@ row_in (core found) = Some found.1
 row_in (standard found) = Some found.1
 row_in _ = None
 
-abbrev pub deeper : ℕ → ℕ
-deeper deep = if nat_le deep most_nested then deep + 1 else deep
-
 -- within an element
 abbrev pub within : Kind → Tag → Here → Here
-within kind tag here = record { around = host kind tag ∷ take 1 here.around; row = if takes_parts tag then row_in kind else None; deep = deeper here.deep }
+within kind tag here = record { around = host kind tag ∷ take 1 here.around; row = if takes_parts tag then row_in kind else None; deep = level_within here.deep }
 
 -- the fault of an attribute that `jsp:attribute` gives, by what it takes; one that is unknown or left out is refused at its action
 abbrev pub given_value_faults : Option Takes → List TranslationFault

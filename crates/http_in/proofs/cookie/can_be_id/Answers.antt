@@ -2,7 +2,7 @@ use Rattle.std.proofs.Common.{◌||◌, rules, tests}
 use Rattle.std.specs.Int.{is_in_range}
 use Rattle.std.proofs.lemmas.Iterator.{YieldsList-from_slice}
 use Rattle.std.proofs.lemmas.Iterator.Search.{all_from_yields_List}
-use Rattle.http_in.proofs.cookie.is_id.Goals as goal
+use Rattle.http_in.proofs.cookie.can_be_id.Goals as goal
 
 pub returns-then-value-eq-SESSION_ID_BYTES : goal.returns-then-value-eq-SESSION_ID_BYTES
 returns-then-value-eq-SESSION_ID_BYTES c =
