@@ -1,5 +1,5 @@
 -- The faults of an element at its beginning, and of the values of its attributes.
-use Rattle.std.specs.Prelude.{ℕ, ◌+◌, Bool, false, ◌&&◌, List, [], ◌∷◌, ◌++◌, codes, Option, Some, None, nat_le, take, if◌then◌else◌}
+use Rattle.std.specs.Prelude.{ℕ, Bool, false, ◌&&◌, List, [], ◌∷◌, ◌++◌, codes, Option, Some, None, nat_le, take, if◌then◌else◌}
 use Rattle.page_pieces.specs.declared.attribute.Attribute.{Attribute}
 use Rattle.page_pieces.specs.declared.piece.Tag.{Tag}
 use Rattle.page_pieces.specs.Settings.{contains_text, value_of}
