@@ -29,7 +29,7 @@ const LONG: &str = "abcdefghijklmnopqrstuvwxyz012345";
 const SIXTEEN: &str = "a,b,c,d,e,f,g,h,i,j,k,l,m,n,o,p";
 
 // Where the target belongs among contexts with the names that the word tells.
-fn told(alloc: Global, word: &str, target: &str) -> Result<String, AllocError> {
+fn target_told(alloc: Global, word: &str, target: &str) -> Result<String, AllocError> {
     let Some(names) = read_names(alloc, word)? else {
         return String::from_str(alloc, "no names");
     };
@@ -42,7 +42,7 @@ fn told(alloc: Global, word: &str, target: &str) -> Result<String, AllocError> {
 #[test]
 fn a_target_belongs_to_the_context_that_it_names(rt: HostRuntime) -> Result<(), Fail> {
     for &(word, target, wanted) in &TARGETS {
-        let text = told(rt.alloc(), word, target)?;
+        let text = target_told(rt.alloc(), word, target)?;
         assert_eq!(rt; text.as_str(), wanted);
     }
     Ok(())
@@ -58,7 +58,7 @@ fn names_have_their_limits(rt: HostRuntime) -> Result<(), Fail> {
     ] {
         let mut names = String::from_str(rt.alloc(), word)?;
         names.push_str(more)?;
-        let text = told(rt.alloc(), names.as_str(), "/none/x.jsp")?;
+        let text = target_told(rt.alloc(), names.as_str(), "/none/x.jsp")?;
         assert_eq!(rt; text.as_str(), wanted);
     }
     Ok(())

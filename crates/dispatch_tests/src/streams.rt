@@ -71,7 +71,7 @@ fn streamed<N: Ledger>(alloc: Global, blank: Blank, visit: &Visit<'_>) -> Result
 }
 
 // The same under the only name of a ledger.
-fn told(alloc: Global, visit: &Visit<'_>) -> Result<String, Fail> {
+fn visit_told(alloc: Global, visit: &Visit<'_>) -> Result<String, Fail> {
     streamed::<Brand>(alloc, Blank::new(1), visit)
 }
 
@@ -115,7 +115,7 @@ fn what_is_committed_goes_out_at_once(rt: HostRuntime) -> Result<(), Fail> {
             method,
             files: &files,
         };
-        assert_eq!(rt; told(rt.alloc(), &visit)?.as_str(), wanted.as_str());
+        assert_eq!(rt; visit_told(rt.alloc(), &visit)?.as_str(), wanted.as_str());
     }
     Ok(())
 }

@@ -51,14 +51,14 @@ const FAULTS: [(EditorFault, &str); 3] = [
     ),
 ];
 
-fn told(alloc: Global, fault: EditorFault) -> Result<String, AllocError> {
+fn fault_told(alloc: Global, fault: EditorFault) -> Result<String, AllocError> {
     status_line(alloc, &Err(Failure::Fault(fault)))
 }
 
 #[test]
 fn faults_are_told_with_their_numbers(rt: HostRuntime) -> Result<(), Fail> {
     for &(fault, lines) in &FAULTS {
-        assert_eq!(rt; told(rt.alloc(), fault)?.as_str(), lines);
+        assert_eq!(rt; fault_told(rt.alloc(), fault)?.as_str(), lines);
     }
     Ok(())
 }

@@ -33,7 +33,7 @@ fn first_line(
     last(alloc, editing, &request, often.times)
 }
 
-fn told_by(
+fn talk_told_by(
     alloc: Global,
     editing: &mut Editing,
     talk: &Talk<'_>,
@@ -46,15 +46,15 @@ fn told_by(
     Ok(lines)
 }
 
-fn told_of(alloc: Global, talk: &Talk<'_>) -> Result<String, Failure<Unsound>> {
+fn talk_told(alloc: Global, talk: &Talk<'_>) -> Result<String, Failure<Unsound>> {
     let mut editing = Editing::open(alloc, talk.limit)?;
-    told_by(alloc, &mut editing, talk)
+    talk_told_by(alloc, &mut editing, talk)
 }
 
 #[test]
 fn editors_are_answered(rt: HostRuntime) -> Result<(), Fail> {
     for talk in &TALKS {
-        assert_eq!(rt; told_of(rt.alloc(), talk)?.as_str(), talk.told);
+        assert_eq!(rt; talk_told(rt.alloc(), talk)?.as_str(), talk.told);
     }
     Ok(())
 }

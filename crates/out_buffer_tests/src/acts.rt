@@ -47,7 +47,7 @@ pub struct Row<'a> {
 }
 
 /// What is told of a page.
-pub fn told_of(alloc: Global, row: &Row) -> Result<String, AllocError> {
+pub fn row_told(alloc: Global, row: &Row) -> Result<String, AllocError> {
     let mut sink = MemSink::new(alloc, fails(alloc, row.fails)?);
     let mut told = String::new(alloc);
     run(alloc, row, &mut sink, &mut told)?;

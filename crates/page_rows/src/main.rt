@@ -53,7 +53,7 @@ fn end(rt: &HostRuntime, row: &mut Vec<String>) -> io::Result<()> {
 
 // What is told of these lines, or what is wrong with them.
 fn row_told(alloc: Global, lines: &[String]) -> Result<String, AllocError> {
-    match tree_row::told(alloc, lines) {
+    match tree_row::page_told(alloc, lines) {
         Ok(told) => Ok(told),
         Err(Unreadable::Word(what)) => String::from_str(alloc, what),
         Err(Unreadable::NoMemory) => Err(AllocError),

@@ -27,7 +27,7 @@ pub struct Ran<'a> {
 /// What these words ask: `end` for how a run ended, `rest` between brackets for what stands in the
 /// buffer, behind a star where something was committed, `asked` for the steps, `sent` for what the
 /// sink has; or counts.
-pub fn told(alloc: Global, words: &str, ran: Ran<'_>) -> Result<String, AllocError> {
+pub fn words_told(alloc: Global, words: &str, ran: Ran<'_>) -> Result<String, AllocError> {
     let mut told = String::new(alloc);
     for word in words.split(' ') {
         add_part(alloc, &mut told, word, ran)?;

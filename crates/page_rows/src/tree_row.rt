@@ -71,10 +71,10 @@ impl Row {
     }
 
     // What is told once these lines were added.
-    fn told(&mut self, alloc: Global, lines: &[String]) -> Result<String, Unreadable> {
+    fn page_told(&mut self, alloc: Global, lines: &[String]) -> Result<String, Unreadable> {
         self.add_all(alloc, lines)?;
         match &self.page {
-            Some(page) => told_of(alloc, &self.edits, page, &mut self.surroundings),
+            Some(page) => tree_told(alloc, &self.edits, page, &mut self.surroundings),
             None => Err(Unreadable::Word("no page runs")),
         }
     }
@@ -88,24 +88,24 @@ fn tree_of(alloc: Global, edits: &Edits) -> Result<Tree, Unreadable> {
 }
 
 /// What is told of the page of these lines.
-pub fn told(alloc: Global, lines: &[String]) -> Result<String, Unreadable> {
+pub fn page_told(alloc: Global, lines: &[String]) -> Result<String, Unreadable> {
     let mut row = Row::empty(alloc)?;
     row.told(alloc, lines)
 }
 
 // What is told of the page at a path of a tree of these edits.
-fn told_of(
+fn tree_told(
     alloc: Global,
     edits: &Edits,
     page: &Path,
     surroundings: &mut Surroundings,
 ) -> Result<String, Unreadable> {
     let tree = tree_of(alloc, edits)?;
-    told_at::<Brand>(alloc, Blank::new(1), &tree, page, surroundings)
+    run_told::<Brand>(alloc, Blank::new(1), &tree, page, surroundings)
 }
 
 // What is told of the page at a path.
-fn told_at<N: Ledger>(
+fn run_told<N: Ledger>(
     alloc: Global,
     blank: Blank,
     tree: &Tree,

@@ -6,7 +6,7 @@ ghost use Rattle.source_tree.specs.Limits.{IsWithinLimits};
 ghost use Rattle.unit_source.specs.Files.{text_in};
 
 use crate::surroundings::{Surroundings, buffer_size, first_attributes, head};
-use crate::told::{Ran, told};
+use crate::told::{Ran, words_told};
 use edges::{Counting, MemSink, Steps};
 use out_buffer::Writer;
 use page_meaning::VISIT_LIMIT;
@@ -99,5 +99,5 @@ pub fn run_page<N: Ledger>(
         asked: &asked,
         bytes: steps.count(),
     };
-    told(alloc, surroundings.tell.as_str(), ran)
+    words_told(alloc, surroundings.tell.as_str(), ran)
 }

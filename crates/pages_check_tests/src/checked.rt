@@ -44,7 +44,7 @@ fn checked<N: Ledger>(
 }
 
 /// The same in one line: the status, a blank, and what was written.
-pub fn told(
+pub fn check_told(
     alloc: Global,
     words: &[&str],
     input: &[u8],

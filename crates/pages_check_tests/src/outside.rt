@@ -1,4 +1,4 @@
-use crate::checked::{Outside, told};
+use crate::checked::{Outside, check_told};
 use std::test::Fail;
 
 #[test]
@@ -20,7 +20,7 @@ fn other_words_are_refused(rt: HostRuntime) -> Result<(), Fail> {
         &["check", ""],
         &["check", "/a\\b.jsp"],
     ] {
-        let told = told(rt.alloc(), words, b"x", &outside)?;
+        let told = check_told(rt.alloc(), words, b"x", &outside)?;
         assert_eq!(rt; told.as_str(), "1 ");
     }
     Ok(())
@@ -41,7 +41,7 @@ fn faults_of_the_outside_are_told(rt: HostRuntime) -> Result<(), Fail> {
             read_fails,
             write_fails,
         };
-        let told = told(rt.alloc(), &["check", "/a.jsp"], b"hello", &outside)?;
+        let told = check_told(rt.alloc(), &["check", "/a.jsp"], b"hello", &outside)?;
         assert_eq!(rt; told.as_str(), wanted);
     }
     Ok(())

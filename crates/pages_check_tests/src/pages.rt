@@ -1,4 +1,4 @@
-use crate::checked::{Outside, told};
+use crate::checked::{Outside, check_told};
 use std::alloc::{AllocError, Global};
 use std::test::Fail;
 
@@ -42,7 +42,7 @@ fn each_page_has_its_line(rt: HostRuntime) -> Result<(), Fail> {
                 read_fails: &[],
                 write_fails: &[],
             };
-            let told = told(rt.alloc(), &["check", path], text, &outside)?;
+            let told = check_told(rt.alloc(), &["check", path], text, &outside)?;
             assert_eq!(rt; told.as_str(), wanted);
         }
     }
@@ -50,13 +50,13 @@ fn each_page_has_its_line(rt: HostRuntime) -> Result<(), Fail> {
 }
 
 // What is told of a page of these bytes, each read of which may give all.
-fn told_at_once(alloc: Global, path: &str, text: &[u8]) -> Result<String, AllocError> {
+fn page_told(alloc: Global, path: &str, text: &[u8]) -> Result<String, AllocError> {
     let outside = Outside {
         piece: 65_536,
         read_fails: &[],
         write_fails: &[],
     };
-    told(alloc, &["check", path], text, &outside)
+    check_told(alloc, &["check", path], text, &outside)
 }
 
 #[test]
@@ -68,26 +68,26 @@ fn a_page_has_its_limit(rt: HostRuntime) -> Result<(), Fail> {
         (1_048_577, b'\xff', "6 E20 TooLarge /a.jsp:1:1\n"),
     ] {
         let text = vec![in rt.alloc(); byte; size]?;
-        let told = told_at_once(rt.alloc(), "/a.jsp", &text)?;
+        let told = page_told(rt.alloc(), "/a.jsp", &text)?;
         assert_eq!(rt; told.as_str(), wanted);
     }
     Ok(())
 }
 
 // What is told of a page of elements within one another.
-fn told_nested(alloc: Global, levels: usize) -> Result<String, AllocError> {
+fn nested_told(alloc: Global, levels: usize) -> Result<String, AllocError> {
     let starts = "<c:if test=\"true\">".repeat(alloc, levels)?;
     let ends = "</c:if>".repeat(alloc, levels)?;
     let text = format!(in alloc;
         "<%@ taglib prefix=\"c\" uri=\"jakarta.tags.core\" %>{starts}x{ends}"
     )?;
-    told_at_once(alloc, "/n.jsp", text.as_bytes())
+    page_told(alloc, "/n.jsp", text.as_bytes())
 }
 
 #[test]
 fn elements_stand_64_deep(rt: HostRuntime) -> Result<(), Fail> {
     for &(levels, wanted) in &[(64, "0 ok\n"), (65, "6 E20 TooLarge /n.jsp:1:1201\n")] {
-        assert_eq!(rt; told_nested(rt.alloc(), levels)?.as_str(), wanted);
+        assert_eq!(rt; nested_told(rt.alloc(), levels)?.as_str(), wanted);
     }
     Ok(())
 }

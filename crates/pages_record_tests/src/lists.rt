@@ -1,4 +1,4 @@
-use crate::recorded::told;
+use crate::recorded::record_told;
 use std::alloc::{AllocError, Global};
 use std::test::Fail;
 
@@ -51,7 +51,7 @@ fn journals_of(alloc: Global, count: usize) -> Result<Vec<u8>, AllocError> {
 #[test]
 fn an_empty_connection_is_a_journal(rt: HostRuntime) -> Result<(), Fail> {
     let wanted = journals_of(rt.alloc(), 1)?;
-    let (status, text) = told(rt.alloc(), b"0\n", 1, &[0], &[])?;
+    let (status, text) = record_told(rt.alloc(), b"0\n", 1, &[0], &[])?;
     assert!(rt; status == 0 && text.as_slice() == wanted.as_slice());
     Ok(())
 }
@@ -59,7 +59,7 @@ fn an_empty_connection_is_a_journal(rt: HostRuntime) -> Result<(), Fail> {
 #[test]
 fn nothing_is_written_for_what_is_no_list(rt: HostRuntime) -> Result<(), Fail> {
     for input in &FAULTY {
-        let (status, text) = told(rt.alloc(), input.as_bytes(), 4_096, &[0], &[])?;
+        let (status, text) = record_told(rt.alloc(), input.as_bytes(), 4_096, &[0], &[])?;
         assert!(rt; status == 2 && text.is_empty());
     }
     Ok(())
@@ -70,7 +70,7 @@ fn nothing_is_written_for_what_is_no_list(rt: HostRuntime) -> Result<(), Fail> {
 fn a_failed_write_ends_it(rt: HostRuntime) -> Result<(), Fail> {
     for &(call, count) in &FAILING {
         let wanted = journals_of(rt.alloc(), count)?;
-        let (status, text) = told(rt.alloc(), b"0\n0\n0\n", 4_096, &[0], &[call])?;
+        let (status, text) = record_told(rt.alloc(), b"0\n0\n0\n", 4_096, &[0], &[call])?;
         assert!(rt; status == 4 && text.as_slice() == wanted.as_slice());
     }
     Ok(())

@@ -1,4 +1,4 @@
-use crate::recorded::told;
+use crate::recorded::record_told;
 use std::alloc::{AllocError, Global};
 use std::test::Fail;
 
@@ -27,10 +27,10 @@ fn connection(alloc: Global) -> Result<Vec<u8>, AllocError> {
 #[test]
 fn a_journal_is_cut_off_where_a_write_fails(rt: HostRuntime) -> Result<(), Fail> {
     let list = connection(rt.alloc())?;
-    let (status, wanted) = told(rt.alloc(), &list, 4_096, &[0], &[WRITES])?;
+    let (status, wanted) = record_told(rt.alloc(), &list, 4_096, &[0], &[WRITES])?;
     assert_eq!(rt; status, 0);
     for call in 0..WRITES {
-        let (status, text) = told(rt.alloc(), &list, 4_096, &[0], &[call])?;
+        let (status, text) = record_told(rt.alloc(), &list, 4_096, &[0], &[call])?;
         let is_cut = text.len() < wanted.len() && wanted.starts_with(&text);
         assert!(rt; status == 4 && is_cut);
     }

@@ -8,7 +8,7 @@ use std::sync::ledger::{Blank, Ledger};
 
 /// The status of `record` over this input, which comes in pieces of that size, and what it wrote.
 /// Its clock answers these moments, and the sink fails at these calls.
-pub fn told(
+pub fn record_told(
     alloc: Global,
     input: &[u8],
     piece: usize,

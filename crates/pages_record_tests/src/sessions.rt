@@ -1,4 +1,4 @@
-use crate::recorded::told;
+use crate::recorded::record_told;
 use std::alloc::{AllocError, Global};
 use std::test::Fail;
 
@@ -31,7 +31,7 @@ fn list_of(alloc: Global, texts: &[&str]) -> Result<Vec<u8>, AllocError> {
 #[test]
 fn the_next_connection_finds_the_session(rt: HostRuntime) -> Result<(), Fail> {
     let list = list_of(rt.alloc(), &[FIRST, SECOND])?;
-    let (status, text) = told(rt.alloc(), &list, 7, &[0], &[])?;
+    let (status, text) = record_told(rt.alloc(), &list, 7, &[0], &[])?;
     let mut end = ANSWERS.as_bytes().to_vec(rt.alloc())?;
     end.push(0)?;
     let marks = text

@@ -1,4 +1,4 @@
-use crate::wants::{Want, told};
+use crate::wants::{Want, wants_told};
 use std::test::Fail;
 
 // What is wanted of dependencies one after the other, and a line for each answer.
@@ -53,7 +53,7 @@ const ROWS: [(&[Want<'static>], &str); 3] = [
 #[test]
 fn dependencies_are_told(rt: HostRuntime) -> Result<(), Fail> {
     for &(wants, wanted) in &ROWS {
-        assert_eq!(rt; told(rt.alloc(), wants)?.as_str(), wanted);
+        assert_eq!(rt; wants_told(rt.alloc(), wants)?.as_str(), wanted);
     }
     Ok(())
 }

@@ -67,7 +67,7 @@ const ROWS: [(&[&[&str]], &[Ask<'static>], &str); 3] = [
     ),
 ];
 
-fn told(alloc: Global, changes: &[&[&str]], asks: &[Ask]) -> Result<String, Failure<BadPath>> {
+fn asks_told(alloc: Global, changes: &[&[&str]], asks: &[Ask]) -> Result<String, Failure<BadPath>> {
     let trees = of_changes(alloc, changes)?;
     asked(alloc, &trees, asks)
 }
@@ -75,7 +75,7 @@ fn told(alloc: Global, changes: &[&[&str]], asks: &[Ask]) -> Result<String, Fail
 #[test]
 fn what_is_kept_is_told(rt: HostRuntime) -> Result<(), Fail> {
     for &(changes, asks, wanted) in &ROWS {
-        assert_eq!(rt; told(rt.alloc(), changes, asks)?.as_str(), wanted);
+        assert_eq!(rt; asks_told(rt.alloc(), changes, asks)?.as_str(), wanted);
     }
     Ok(())
 }

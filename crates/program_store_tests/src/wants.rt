@@ -14,7 +14,7 @@ pub enum Want<'a> {
 }
 
 /// What each comes to, one after the other, a line for each.
-pub fn told(alloc: Global, wants: &[Want]) -> Result<String, Failure<BadPath>> {
+pub fn wants_told(alloc: Global, wants: &[Want]) -> Result<String, Failure<BadPath>> {
     let mut deps = Deps::new(alloc);
     let mut lines = String::new(alloc);
     for want in wants {

@@ -38,7 +38,7 @@ fn main(rt: HostRuntime) -> io::Result<()> {
         if !line.is_empty() {
             row.push(written_out(alloc, line.as_str(), &[("¶", "\n")])?)?;
         } else if !row.is_empty() {
-            println!(rt; "> {}\n", told(alloc, &row)?.as_str())?;
+            println!(rt; "> {}\n", row_told(alloc, &row)?.as_str())?;
             row.clear();
         }
     }
@@ -46,7 +46,7 @@ fn main(rt: HostRuntime) -> io::Result<()> {
 }
 
 // What is told of these lines. Line ends in it are written.
-fn told(alloc: Global, lines: &[String]) -> Result<String, AllocError> {
+fn row_told(alloc: Global, lines: &[String]) -> Result<String, AllocError> {
     let Some(first) = lines.first() else {
         return String::from_str(alloc, "nothing is done");
     };
@@ -59,9 +59,9 @@ fn told(alloc: Global, lines: &[String]) -> Result<String, AllocError> {
         .split_once(' ')
         .unwrap_or((first.as_str(), ""));
     let told = match kind {
-        "tree" | "first" => reading::told(alloc, kind, words, text, lines.get(2)),
+        "tree" | "first" => reading::reading_told(alloc, kind, words, text, lines.get(2)),
         "end" => end_told(alloc, words, text),
-        _ => pieces::told(alloc, kind, words, text),
+        _ => pieces::front_told(alloc, kind, words, text),
     };
     told?.replace(alloc, "\n", "¶")
 }

@@ -5,7 +5,12 @@ use pg_text::Failure;
 use std::alloc::{AllocError, Global};
 
 /// What is told of the piece at the front of a file with this text.
-pub fn told(alloc: Global, kind: &str, words: &str, text: &str) -> Result<String, AllocError> {
+pub fn front_told(
+    alloc: Global,
+    kind: &str,
+    words: &str,
+    text: &str,
+) -> Result<String, AllocError> {
     if text.is_empty() || text.len() > 1000 {
         return String::from_str(alloc, "the text is empty or too long");
     }

@@ -10,7 +10,7 @@ use source_tree::MAX_FILE_BYTES;
 use std::alloc::{AllocError, Global};
 
 /// What is told of the page with this text; where a part is asked for, whether it is told.
-pub fn told(
+pub fn reading_told(
     alloc: Global,
     kind: &str,
     words: &str,

@@ -41,7 +41,7 @@ fn body_size(request: Result<Option<Request>, Failure<HttpFault>>) -> Option<usi
 
 /// What four calls tell of a request whose bytes come one by one, where a read fails in the head,
 /// one behind it, and one in the body.
-pub fn told_by_calls(alloc: Global, bytes: &[u8]) -> Result<String, AllocError> {
+pub fn calls_told(alloc: Global, bytes: &[u8]) -> Result<String, AllocError> {
     let fails = vec![in alloc; 20, 48, 50]?;
     let mut source = MemSource::new(bytes.to_vec(alloc)?, 1, fails);
     let mut told = String::new(alloc);

@@ -18,7 +18,7 @@ mod bodies;
 mod requests;
 mod shown;
 
-use crate::requests::{only_told, told_both_ways, told_failing};
+use crate::requests::{failing_told, only_told, requests_told};
 use http_in::one_cut;
 use row_text::written_out;
 use std::alloc::{AllocError, Global};
@@ -52,7 +52,7 @@ fn take(rt: &HostRuntime, row: &mut Vec<String>, line: io::Result<String>) -> io
 // Writes what is told of a row, where there is one.
 fn end(rt: &HostRuntime, row: &mut Vec<String>) -> io::Result<()> {
     if !row.is_empty() {
-        let told = told(rt.alloc(), row.as_slice())?;
+        let told = row_told(rt.alloc(), row.as_slice())?;
         println!(rt; "> {}\n", told.as_str())?;
         row.clear();
     }
@@ -60,11 +60,11 @@ fn end(rt: &HostRuntime, row: &mut Vec<String>) -> io::Result<()> {
 }
 
 // What is told of these lines. Line ends in it are written.
-fn told(alloc: Global, lines: &[String]) -> Result<String, AllocError> {
+fn row_told(alloc: Global, lines: &[String]) -> Result<String, AllocError> {
     let Some((first, written)) = lines.split_first() else {
         return String::from_str(alloc, "nothing is told");
     };
-    let told = told_of(alloc, first.as_str(), written)?;
+    let told = bytes_told(alloc, first.as_str(), written)?;
     on_a_line(alloc, told.as_str())
 }
 
@@ -73,14 +73,14 @@ fn on_a_line(alloc: Global, text: &str) -> Result<String, AllocError> {
     text.replace(alloc, "\n", "↵")
 }
 
-fn told_of(alloc: Global, first: &str, written: &[String]) -> Result<String, AllocError> {
+fn bytes_told(alloc: Global, first: &str, written: &[String]) -> Result<String, AllocError> {
     let (kind, word) = first.split_once(' ').unwrap_or((first, ""));
     let bytes = bytes_of(alloc, written)?;
     match kind {
-        "requests" => told_both_ways(alloc, &bytes),
-        "fails" => told_failing(alloc, &bytes, word),
+        "requests" => requests_told(alloc, &bytes),
+        "fails" => failing_told(alloc, &bytes, word),
         "size" => bodies::sizes_told(alloc, &bytes),
-        "calls" => bodies::told_by_calls(alloc, &bytes),
+        "calls" => bodies::calls_told(alloc, &bytes),
         _ => only_told(alloc, kind, word, &bytes),
     }
 }

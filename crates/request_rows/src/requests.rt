@@ -9,7 +9,12 @@ use std::alloc::{AllocError, Global};
 
 // Each request as a line, and then what stops them. Each read gives so many bytes, but for those
 // that fail.
-fn told(alloc: Global, bytes: &[u8], piece: usize, fails: &[u64]) -> Result<String, AllocError>
+fn stream_told(
+    alloc: Global,
+    bytes: &[u8],
+    piece: usize,
+    fails: &[u64],
+) -> Result<String, AllocError>
     requires { 1 ≤ piece }
 {
     let mut source = source_of(alloc, bytes, piece, fails)?;
@@ -70,16 +75,16 @@ fn add_end(told: &mut String, end: &str) -> Result<bool, AllocError> {
 }
 
 /// Each request as a line, and then what stops them.
-pub fn told_both_ways(alloc: Global, bytes: &[u8]) -> Result<String, AllocError> {
-    let by_bytes = told(alloc, bytes, 1, &[])?;
-    let at_once = told(alloc, bytes, 65_536, &[])?;
+pub fn requests_told(alloc: Global, bytes: &[u8]) -> Result<String, AllocError> {
+    let by_bytes = stream_told(alloc, bytes, 1, &[])?;
+    let at_once = stream_told(alloc, bytes, 65_536, &[])?;
     same(alloc, by_bytes, at_once)
 }
 
 /// The same where seven bytes come at a time and the read of this number fails.
-pub fn told_failing(alloc: Global, bytes: &[u8], number: &str) -> Result<String, AllocError> {
+pub fn failing_told(alloc: Global, bytes: &[u8], number: &str) -> Result<String, AllocError> {
     let call = whole_number(number.as_bytes()).unwrap_or(0);
-    told(alloc, bytes, 7, &[call])
+    stream_told(alloc, bytes, 7, &[call])
 }
 
 /// What is told of the only request in these bytes.
@@ -89,13 +94,13 @@ pub fn only_told(
     word: &str,
     bytes: &[u8],
 ) -> Result<String, AllocError> {
-    let by_bytes = told_in(alloc, kind, word, bytes, 1)?;
-    let at_once = told_in(alloc, kind, word, bytes, 65_536)?;
+    let by_bytes = only_in_pieces_told(alloc, kind, word, bytes, 1)?;
+    let at_once = only_in_pieces_told(alloc, kind, word, bytes, 65_536)?;
     same(alloc, by_bytes, at_once)
 }
 
 // The same where each read gives so many bytes.
-fn told_in(
+fn only_in_pieces_told(
     alloc: Global,
     kind: &str,
     word: &str,
@@ -105,21 +110,26 @@ fn told_in(
     requires { 1 ≤ piece }
 {
     match only_request(alloc, bytes, piece)? {
-        Some(request) => told_of(alloc, kind, word, request),
+        Some(request) => request_told(alloc, kind, word, request),
         None => String::from_str(alloc, "not one request"),
     }
 }
 
-fn told_of(alloc: Global, kind: &str, word: &str, request: Request) -> Result<String, AllocError> {
+fn request_told(
+    alloc: Global,
+    kind: &str,
+    word: &str,
+    request: Request,
+) -> Result<String, AllocError> {
     match kind {
         "fields" => fields(alloc, &request),
-        "to" => told_at(alloc, word, request),
+        "to" => target_told(alloc, word, request),
         _ => parts_told(alloc, &request),
     }
 }
 
 // The line and the parts of a request that goes to this target.
-fn told_at(alloc: Global, target: &str, request: Request) -> Result<String, AllocError> {
+fn target_told(alloc: Global, target: &str, request: Request) -> Result<String, AllocError> {
     let target = Text::copy_of(alloc, target)?;
     let request = request.retarget(alloc, target)?;
     line_told(alloc, &request)

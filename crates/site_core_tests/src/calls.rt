@@ -16,7 +16,7 @@ use std::sync::Arc;
 
 /// Does what the lines ask for, one after the other. Of each line it reads what stands before ` >
 /// `, and it tells the line again with what it came to behind that.
-pub fn told(
+pub fn script_told(
     alloc: Global,
     site: &mut Site<Word>,
     script: &str,

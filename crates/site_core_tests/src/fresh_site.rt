@@ -1,5 +1,5 @@
 //! Scripts on a new site, as the tests have them.
-use crate::calls::told;
+use crate::calls::script_told;
 use crate::opening::{AMPLE, opened, seeded};
 use crate::word::Word;
 use pg_text::{BadPath, Failure};
@@ -29,14 +29,14 @@ fn on_site(
     script: &str,
 ) -> Result<String, Failure<BadPath>> {
     make_sessions(alloc, site, sessions)?;
-    told(alloc, site, script)
+    script_told(alloc, site, script)
 }
 
 // So many requests, each of which makes a session and ends.
 fn make_sessions(alloc: Global, site: &mut Site<Word>, count: u64) -> Result<(), Failure<BadPath>> {
     for request in 0..count {
         let script = format!(in alloc; "0 begin - 0\n0 fresh {request}\n0 end {request} -\n")?;
-        told(alloc, site, script.as_str())?;
+        script_told(alloc, site, script.as_str())?;
     }
     Ok(())
 }

@@ -1,15 +1,15 @@
 // Input that is cut, reads that fail and writes that fail, each at every place in turn.
-use crate::playing::{failing, told};
+use crate::playing::{failing, play_told};
 use std::alloc::{AllocError, Global};
 
 /// From which size on a conversation that ends there has another status, or another number of bytes
 /// answered.
 pub fn cuts(alloc: Global, input: &[u8]) -> Result<String, AllocError> {
     let mut cuts = String::from_str(alloc, "cut at each byte")?;
-    let (_, whole) = told(alloc, input, 80)?;
+    let (_, whole) = play_told(alloc, input, 80)?;
     let mut before = (u8::MAX, 0, true);
     for size in 0..=input.len() {
-        let (status, text) = told(alloc, &input[..size], 80)?;
+        let (status, text) = play_told(alloc, &input[..size], 80)?;
         let found = (status, text.len(), whole.as_slice().starts_with(&text));
         if found != before {
             let (status, length, is_front) = found;
@@ -37,7 +37,7 @@ pub fn writes(alloc: Global, input: &[u8]) -> Result<String, AllocError> {
 // At how many calls, in turn from the first, a failure is told with this status and a front of the
 // answers is written; and whether all is answered where a later one would fail.
 fn failures(alloc: Global, input: &[u8], status: u8) -> Result<(u64, bool), AllocError> {
-    let (_, whole) = told(alloc, input, 4_096)?;
+    let (_, whole) = play_told(alloc, input, 4_096)?;
     for call in 0..2_000 {
         let (found, text) = fail(alloc, input, status, call)?;
         if found != status || !whole.as_slice().starts_with(&text) {

@@ -11,7 +11,7 @@ use std::sync::ledger::{Blank, Ledger};
 
 /// The status of `load` with this number, what it wrote to a sink that may fail at its first write,
 /// and how many bytes it read to make pages.
-pub fn told(alloc: Global, number: &str, fails: bool) -> Result<String, AllocError> {
+pub fn load_told(alloc: Global, number: &str, fails: bool) -> Result<String, AllocError> {
     let words = format!(in alloc; "load {number}")?;
     let words = words_of(alloc, words.as_str().trim())?;
     let (status, read, text) = loaded::<Brand>(alloc, Blank::new(1), &words, fails)?;

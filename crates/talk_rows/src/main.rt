@@ -34,7 +34,7 @@ fn main(rt: HostRuntime) -> io::Result<()> {
         if !line.is_empty() {
             row.push(line)?;
         } else if !row.is_empty() {
-            println!(rt; "> {}\n", told(alloc, &row)?.as_str())?;
+            println!(rt; "> {}\n", row_told(alloc, &row)?.as_str())?;
             row.clear();
         }
     }
@@ -42,7 +42,7 @@ fn main(rt: HostRuntime) -> io::Result<()> {
 }
 
 // What is told of these lines.
-fn told(alloc: Global, lines: &[String]) -> Result<String, AllocError> {
+fn row_told(alloc: Global, lines: &[String]) -> Result<String, AllocError> {
     let Some((first, said)) = lines.split_first() else {
         return String::from_str(alloc, "nothing is done");
     };
@@ -55,10 +55,10 @@ fn told(alloc: Global, lines: &[String]) -> Result<String, AllocError> {
         "cut" => failing::cuts(alloc, &input_of(alloc, said)?),
         "reads" => failing::reads(alloc, &input_of(alloc, said)?),
         "writes" => failing::writes(alloc, &input_of(alloc, said)?),
-        "both" => roles::told(alloc, said),
+        "both" => roles::roles_told(alloc, said),
         "contexts" => desks::contexts_told(alloc, first.as_str(), said),
         "preview" => desks::preview_told(alloc, first.as_str(), said),
-        "load" => loading::told(alloc, words, !said.is_empty()),
+        "load" => loading::load_told(alloc, words, !said.is_empty()),
         _ => {
             let (status, text) = playing::worded(alloc, words)?;
             shown(alloc, status, &text)
@@ -70,9 +70,9 @@ fn told(alloc: Global, lines: &[String]) -> Result<String, AllocError> {
 // it in large ones.
 fn played(alloc: Global, said: &[String]) -> Result<String, AllocError> {
     let input = input_of(alloc, said)?;
-    let (status, text) = playing::told(alloc, &input, 1)?;
+    let (status, text) = playing::play_told(alloc, &input, 1)?;
     let small = shown(alloc, status, &text)?;
-    let (status, text) = playing::told(alloc, &input, 4_096)?;
+    let (status, text) = playing::play_told(alloc, &input, 4_096)?;
     let large = shown(alloc, status, &text)?;
     if small.as_str() == large.as_str() {
         return Ok(small);

@@ -8,7 +8,7 @@ use std::marker::Brand;
 use std::sync::ledger::{Blank, Ledger};
 
 /// The status of `play` over this input, which comes in pieces of that size, and what it wrote.
-pub fn told(alloc: Global, input: &[u8], piece: usize) -> Result<(u8, Vec<u8>), AllocError>
+pub fn play_told(alloc: Global, input: &[u8], piece: usize) -> Result<(u8, Vec<u8>), AllocError>
     requires { 1 ≤ piece }
 {
     failing(alloc, input, piece, &[], &[])

@@ -10,7 +10,7 @@ use std::sync::ledger::{Blank, Ledger};
 
 /// What is answered to the lines behind `reader`, which a reader says behind an editor who says
 /// those before. The status is 0 where the connection is done.
-pub fn told(alloc: Global, said: &[String]) -> Result<String, AllocError> {
+pub fn roles_told(alloc: Global, said: &[String]) -> Result<String, AllocError> {
     let mut editors = Vec::new(alloc);
     let mut readers = Vec::new(alloc);
     let mut is_reader = false;

@@ -48,11 +48,11 @@ pub fn paged(alloc: Global, tree: &Tree, path: &Path) -> Result<Paged<Program>, 
         return Ok(Paged::Plain(file.text.copy()?));
     }
     let made = uncounted::<Brand>(alloc, Blank::new(1), tree, path)?;
-    Ok(told(made.body))
+    Ok(body_told(made.body))
 }
 
 // What is made of a page, as a port tells it.
-fn told(body: MadeBody) -> Paged<Program>
+fn body_told(body: MadeBody) -> Paged<Program>
     ensures { result ≡ body_told body }
 {
     match body {

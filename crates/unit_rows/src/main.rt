@@ -39,7 +39,7 @@ fn main(rt: HostRuntime) -> io::Result<()> {
         if !line.is_empty() {
             row.push(written_out(alloc, line.as_str(), &SIGNS)?)?;
         } else if !row.is_empty() {
-            println!(rt; "> {}\n", told(alloc, &row)?.as_str())?;
+            println!(rt; "> {}\n", row_told(alloc, &row)?.as_str())?;
             row.clear();
         }
     }
@@ -47,7 +47,7 @@ fn main(rt: HostRuntime) -> io::Result<()> {
 }
 
 // What is told of these lines.
-fn told(alloc: Global, lines: &[String]) -> Result<String, AllocError> {
+fn row_told(alloc: Global, lines: &[String]) -> Result<String, AllocError> {
     let Some((first, files)) = lines.split_first() else {
         return String::from_str(alloc, "nothing is told");
     };
@@ -56,7 +56,7 @@ fn told(alloc: Global, lines: &[String]) -> Result<String, AllocError> {
     };
     match files.first() {
         Some(page) => match path_of(alloc, page.as_str())? {
-            Some(path) => told_at(alloc, first.as_str(), files, &tree, &path),
+            Some(path) => page_told(alloc, first.as_str(), files, &tree, &path),
             None => String::from_str(alloc, "no path"),
         },
         None => String::from_str(alloc, "no page"),
@@ -64,7 +64,7 @@ fn told(alloc: Global, lines: &[String]) -> Result<String, AllocError> {
 }
 
 // What is told of the page at a path.
-fn told_at(
+fn page_told(
     alloc: Global,
     words: &str,
     files: &[String],
@@ -72,9 +72,9 @@ fn told_at(
     path: &Path,
 ) -> Result<String, AllocError> {
     if words.starts_with("unit") {
-        return units::told(alloc, tree, path, words);
+        return units::unit_told(alloc, tree, path, words);
     }
-    let told = roots::told(alloc, tree, path)?;
+    let told = roots::root_told(alloc, tree, path)?;
     let part = match files.last() {
         Some(line) => line.as_str().strip_prefix("holds "),
         None => None,

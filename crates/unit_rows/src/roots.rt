@@ -6,7 +6,7 @@ use std::alloc::{AllocError, Global};
 use unit_source::{Entry, PlacedNode, Root, UnitFiles};
 
 /// The nodes of the root at a path where a file stands.
-pub fn told(alloc: Global, tree: &Tree, path: &Path) -> Result<String, AllocError> {
+pub fn root_told(alloc: Global, tree: &Tree, path: &Path) -> Result<String, AllocError> {
     match tree.fault() {
         Some(_) => String::from_str(alloc, "the tree is too large"),
         None => {

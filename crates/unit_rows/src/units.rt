@@ -13,7 +13,12 @@ use unit_nodes::{Unit, UnitBody};
 /// What is told of the unit of the page at a path, with what these words ask beside its body: `ok`
 /// or its fault; the names on which it depends, a dash before those of absent files; and the bytes
 /// that were counted for it.
-pub fn told(alloc: Global, tree: &Tree, path: &Path, words: &str) -> Result<String, AllocError> {
+pub fn unit_told(
+    alloc: Global,
+    tree: &Tree,
+    path: &Path,
+    words: &str,
+) -> Result<String, AllocError> {
     match counted::<Brand>(alloc, Blank::new(1), tree, path)? {
         Some((unit, bytes)) => shown(alloc, &unit, words, bytes),
         None => String::from_str(alloc, "no file stands there, or the tree is too large"),

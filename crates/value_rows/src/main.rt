@@ -53,7 +53,7 @@ fn add(alloc: Global, row: &mut Vec<String>, line: &str) -> io::Result<()> {
 // Writes what is told of a row, where there is one.
 fn end(rt: &HostRuntime, row: &mut Vec<String>) -> io::Result<()> {
     if !row.is_empty() {
-        let told = told(rt.alloc(), row.as_slice())?;
+        let told = row_told(rt.alloc(), row.as_slice())?;
         println!(rt; "> {}\n", told.as_str())?;
         row.clear();
     }
@@ -61,7 +61,7 @@ fn end(rt: &HostRuntime, row: &mut Vec<String>) -> io::Result<()> {
 }
 
 // What is told of these lines.
-fn told(alloc: Global, lines: &[String]) -> Result<String, AllocError> {
+fn row_told(alloc: Global, lines: &[String]) -> Result<String, AllocError> {
     let Some((first, written)) = lines.split_first() else {
         return String::from_str(alloc, "nothing is done");
     };

@@ -21,15 +21,15 @@ pub fn rounds_told(alloc: Global, word: &str, given: &Value) -> Result<String, A
 }
 
 fn record_told(alloc: Global, over: Over, given: &Record) -> Result<String, AllocError> {
-    match told(alloc, over, given) {
+    match record_rounds(alloc, over, given) {
         Ok(told) => Ok(told),
         Err(failure) => fault_told(alloc, failure),
     }
 }
 
-fn told(alloc: Global, over: Over, given: &Record) -> Result<String, Failure<RunFault>> {
+fn record_rounds(alloc: Global, over: Over, given: &Record) -> Result<String, Failure<RunFault>> {
     let mut rounds = rounds(alloc, over, given)?;
-    told_of(alloc, &mut rounds)
+    first_rounds(alloc, &mut rounds)
 }
 
 fn rounds(alloc: Global, over: Over, given: &Record) -> Result<Rounds, Failure<RunFault>> {
@@ -38,7 +38,7 @@ fn rounds(alloc: Global, over: Over, given: &Record) -> Result<Rounds, Failure<R
 }
 
 // The first four of these.
-fn told_of(alloc: Global, rounds: &mut Rounds) -> Result<String, Failure<RunFault>> {
+fn first_rounds(alloc: Global, rounds: &mut Rounds) -> Result<String, Failure<RunFault>> {
     let mut told = String::new(alloc);
     for _ in 0..4 {
         add_next(alloc, &mut told, rounds)?;

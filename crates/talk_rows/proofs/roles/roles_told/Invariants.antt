@@ -1,4 +1,4 @@
-use Rattle.talk_rows.proofs.roles.told.Given as goal
+use Rattle.talk_rows.proofs.roles.roles_told.Given as goal
 
 abbrev pub ghosts-read : goal.ghosts-read
 ghosts-read a = record { name = a.blank.name; parts = a.blank.parts }

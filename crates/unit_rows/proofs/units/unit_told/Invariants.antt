@@ -1,4 +1,4 @@
-use Rattle.unit_rows.proofs.units.told.Given as goal
+use Rattle.unit_rows.proofs.units.unit_told.Given as goal
 
 abbrev pub ghosts-counted : goal.ghosts-counted
 ghosts-counted a = record { name = a.blank.name; parts = a.blank.parts }
