@@ -25,6 +25,7 @@ use std::alloc::{AllocError, Global};
 
 /// Writes a reply to its end. Memory may run out only where nothing was committed, and then
 /// nothing was written.
+#[inline(always)]
 pub(crate) fn write_reply<K: Sink>(
     alloc: Global,
     reply: Reply,

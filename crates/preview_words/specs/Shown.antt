@@ -24,7 +24,7 @@ use Rattle.source_tree.specs.Limits.{tree_fault}
 use Rattle.source_tree.specs.declared.edit.Edit.{Edit}
 use Rattle.source_tree.specs.declared.file.File.{File}
 
--- of a clock that always answers 0
+-- the moments of a clock that always answers 0
 abbrev pub no_time : Moments
 no_time = record { ahead = Some (0 ∷ []); noted = None }
 
@@ -54,8 +54,8 @@ module _ (needs : Needs) (own : Opening) (session : Option ℕ) where
         Drops needs own 0 (own_request session request) close (standing_of [] no_time steps) text
         (standing_of history no_time later)
 
-  -- what running it comes to, by the counts of bytes read: before and after are the sink's count of faults, taken and now its
-  -- bytes
+  -- how running the request there ends, as each request that is served ends: steps and later count the bytes that were read to
+  -- make pages before it and behind it, before and after the sink's faults, and taken and now are the sink's bytes
   abbrev pub ServedRun : Bool → Request → (steps later : ℕ) → ℕ → ℕ → Option (List ℕ) → Option (List ℕ) → Outcome → Type 0
   ServedRun close request steps later before after taken now answer =
       Served (λ close steps (e : Exchange) later. IsRun e.request close steps e.text e.broken later)
@@ -63,7 +63,7 @@ module _ (needs : Needs) (own : Opening) (session : Option ℕ) where
       close request steps later before after taken now answer
 
 module _ (needs : Needs) (tree : List File) (picture : Picture) where
-  -- by a tree that keeps its limits: that no version is behind the picture's is told, or the request is run
+  -- by a tree that keeps its limits the request is run; where no version is left behind the picture's, that is told
   abbrev pub ShowsTree : Request → (close : Bool) → (steps : ℕ) → (text : List ℕ) → (broken : Bool) → (later : ℕ) → Type 0
   ShowsTree request close steps text broken later =
       MatchBool (nat_le (2 ^ 63 - 1) picture.version)
@@ -77,7 +77,7 @@ module _ (needs : Needs) (tree : List File) (picture : Picture) where
       ⊎ ((picture.version + 1 < 2 ^ 63)
       × IsRunDropped needs (own_opening tree picture) picture.session request close steps text later)
 
-  -- what the answer comes to, as above
+  -- how showing the request by this tree ends, by the same counts and bytes
   abbrev pub ServedTree : Bool → Request → (steps later : ℕ) → ℕ → ℕ → Option (List ℕ) → Option (List ℕ) → Outcome → Type 0
   ServedTree close request steps later before after taken now answer =
       Served (λ close steps (e : Exchange) later. ShowsTree e.request close steps e.text e.broken later)
@@ -100,7 +100,7 @@ module _ (needs : Needs) (edits : List Edit) (picture : Picture) where
       ⊎ ((tree_fault (drafted_tree edits picture) ≡ None)
       × HidesTree needs (drafted_tree edits picture) picture request close steps text later)
 
-  -- what the answer comes to, as above
+  -- how showing the request by this draft ends, by the same counts and bytes
   abbrev pub ServedShown : Bool → Request → (steps later : ℕ) → ℕ → ℕ → Option (List ℕ) → Option (List ℕ) → Outcome → Type 0
   ServedShown close request steps later before after taken now answer =
       Served (λ close steps (e : Exchange) later. Shows e.request close steps e.text e.broken later)
