@@ -5,7 +5,6 @@ ghost use Rattle.context_words.specs.Parts.{lent_of};
 ghost use Rattle.conversation.specs.Refusal.{IsShown};
 ghost use Rattle.edges.specs.Faults.{Rose};
 ghost use Rattle.http_in.specs.declared.fault.HttpFault.{HttpFault};
-ghost use Rattle.compiled_pages.specs.Pages.{needs_at};
 ghost use Rattle.pass_course.specs.Course.{IsIdle};
 
 use crate::desk::SiteDesk;

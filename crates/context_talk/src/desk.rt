@@ -1,4 +1,3 @@
-ghost use Rattle.std.specs.Prelude.{◌≡◌};
 
 use compiled_pages::Made;
 use context_desk::Tenant;

@@ -1,4 +1,4 @@
-ghost use Rattle.std.specs.Prelude.{◌≡◌, ◌≤◌, true, OnOk, OnErr, IfOk, Some};
+ghost use Rattle.std.specs.Prelude.{◌≡◌, ◌≤◌, true, OnErr, IfOk, Some};
 ghost use Rattle.std.specs.Option.{option_map};
 ghost use Rattle.edges.specs.Faults.{Rose};
 ghost use Rattle.http_in.specs.declared.fault.HttpFault.{HttpFault};

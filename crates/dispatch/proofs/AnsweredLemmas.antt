@@ -1,5 +1,5 @@
 -- What a request that was begun is answered, and what is left of it where memory ran out.
-use Rattle.std.proofs.Common.{◌≡◌, ◌≤◌, ◌+◌, inl, ℕ, true, List, [], ◌∷◌, ◌++◌, Option, None, refl, sym, ap, subst, ◌∙◌, append-nil, inr, arith}
+use Rattle.std.proofs.Common.{◌≡◌, ◌≤◌, ◌+◌, inl, ℕ, true, List, [], ◌∷◌, ◌++◌, Option, refl, sym, ap, subst, ◌∙◌, append-nil, inr, arith}
 use Rattle.std.specs.List.{list_all}
 use Rattle.std.specs.Option.{unwrap_or}
 use Rattle.dispatch.proofs.ServedLemmas.{answers_taken, drops_taken}
@@ -19,7 +19,7 @@ use Rattle.compiled_pages.specs.Pages.{needs_at, paged_at}
 use Rattle.page_meaning.proofs.Growing.{quiet}
 use Rattle.page_meaning.specs.Growth.{Grows, IsOrdered}
 use Rattle.page_meaning.specs.Respond.{respond}
-use Rattle.page_meaning.specs.Response.{closing, end_state, head_of, responds}
+use Rattle.page_meaning.specs.Response.{closing, end_state, responds}
 use Rattle.page_meaning.specs.State.{State}
 use Rattle.pass_course.proofs.CourseLemmas.{courses_join}
 use Rattle.pass_course.specs.Course.{HasDone}

@@ -1,5 +1,5 @@
 -- What is said of one journal behind another.
-use Rattle.std.specs.Prelude.{◌≡◌, ℕ, List, Option, Some, None, ⊤}
+use Rattle.std.specs.Prelude.{◌≡◌, List, Option, Some, None, ⊤}
 use Rattle.std.specs.Option.{option_map}
 use Rattle.journal_audit.specs.declared.judging.Judged.{Judged}
 use Rattle.journal_audit.specs.declared.judging.Judged.TheVariants.{Right, Wrong}

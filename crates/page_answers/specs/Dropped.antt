@@ -1,5 +1,5 @@
 -- What is left of a request for which memory ran out.
-use Rattle.std.specs.Prelude.{◌≡◌, ◌⊎◌, ℕ, ◌+◌, ◌≤◌, Bool, true, List, [], ◌∷◌, ◌++◌, Option, None, ⊤}
+use Rattle.std.specs.Prelude.{◌≡◌, ◌⊎◌, ℕ, ◌+◌, ◌≤◌, Bool, true, List, [], ◌∷◌, ◌++◌, ⊤}
 use Rattle.std.specs.Bool.{MatchBool}
 use Rattle.http_in.specs.declared.request.Request.{Request}
 use Rattle.http_out.specs.Response.{no_memory}

@@ -90,7 +90,7 @@ fn tree_of(alloc: Global, edits: &Edits) -> Result<Tree, Unreadable> {
 /// What is told of the page of these lines.
 pub fn page_told(alloc: Global, lines: &[String]) -> Result<String, Unreadable> {
     let mut row = Row::empty(alloc)?;
-    row.told(alloc, lines)
+    row.page_told(alloc, lines)
 }
 
 // What is told of the page at a path of a tree of these edits.

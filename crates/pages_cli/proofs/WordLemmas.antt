@@ -1,5 +1,5 @@
 -- Which command the words are those of.
-use Rattle.std.proofs.Common.{◌≡◌, ℕ, Bool, true, false, List, [], ◌∷◌, None, codes, refl, ap, ◌∙◌}
+use Rattle.std.proofs.Common.{◌≡◌, ℕ, false, List, [], ◌∷◌, None, codes, refl, ap, ◌∙◌}
 use Rattle.std.specs.Str.{bytes_eq}
 use Rattle.context_talk.specs.Contexts.{asked as contexts_asked}
 use Rattle.pages_check.specs.Words.{path_asked}

@@ -1,5 +1,4 @@
 ghost use Rattle.std.specs.Prelude.{◌≡◌, ◌≢◌, ◌≤◌, ℕ, List, []};
-ghost use Rattle.std.specs.Io.KnownBytes.{Appends};
 ghost use Rattle.edges.specs.Faults.{Rose};
 ghost use Rattle.connection_list.specs.List.{IsListOf};
 ghost use Rattle.pages_record.specs.Once.{ComesOnce};

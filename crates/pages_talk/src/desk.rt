@@ -1,4 +1,4 @@
-ghost use Rattle.std.specs.Prelude.{◌≡◌, ◌≤◌, ◌<◌, ◌+◌, ℕ, []};
+ghost use Rattle.std.specs.Prelude.{◌≡◌, ◌<◌, []};
 
 use crate::editing::{edit, find_nothing};
 use compiled_pages::Made;

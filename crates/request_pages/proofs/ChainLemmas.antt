@@ -9,7 +9,7 @@ use Rattle.out_buffer.specs.Held.{Held}
 use Rattle.compiled_pages.specs.Pages.{paged_at}
 use Rattle.page_meaning.proofs.Growing.{both}
 use Rattle.page_meaning.specs.Context.{Served, good}
-use Rattle.page_meaning.specs.Growth.{Grows, state_of}
+use Rattle.page_meaning.specs.Growth.{state_of}
 use Rattle.page_meaning.specs.Page.{Page}
 use Rattle.page_meaning.specs.Respond.{OnFault, first_run, run_answer, target_answer}
 use Rattle.page_meaning.specs.Response.{Answered, end_state}

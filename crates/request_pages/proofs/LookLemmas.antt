@@ -1,5 +1,5 @@
 -- What a look at a path leaves of the promise and of the state.
-use Rattle.std.proofs.Common.{◌≡◌, ◌+◌, ◌*◌, ◌≤◌, ℕ, true, false, List, [], ◌∷◌, ◌++◌, length, Option, Some, None, refl, sym, ap, ◌∙◌, if◌then◌else◌, Bool, append_assoc, append-nil, arith}
+use Rattle.std.proofs.Common.{◌≡◌, ◌+◌, ◌≤◌, ℕ, true, false, List, [], ◌∷◌, ◌++◌, Option, Some, None, refl, sym, ap, ◌∙◌, if◌then◌else◌, Bool, append_assoc, append-nil, arith}
 use Rattle.out_buffer.specs.Held.{Held}
 use Rattle.run_pages.specs.Run.{IsInOrder, StandsFor}
 use Rattle.page_meaning.specs.State.{State}

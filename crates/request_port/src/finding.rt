@@ -1,5 +1,5 @@
 // Pages found for a request: what is kept of them, or what is made anew and offered.
-ghost use Rattle.std.specs.Prelude.{◌≡◌, ◌+◌, ◌≤◌, ℕ, IfOk};
+ghost use Rattle.std.specs.Prelude.{◌≡◌, ◌+◌, ◌≤◌, IfOk};
 ghost use Rattle.std.specs.Arc.{arc_value};
 ghost use Rattle.page_answers.specs.Turns.{page_bytes};
 ghost use Rattle.compiled_pages.specs.Made.{IsMade};

@@ -5,7 +5,7 @@ ghost use Rattle.site_words.specs.declared.words.Op.TheVariants as op;
 ghost use Rattle.site_words.specs.Answers.{ForRun, IsSamePort, of_offered};
 ghost use Rattle.site_words.specs.Calls.{Calls};
 ghost use Rattle.site_words.specs.Law.{May, Sure, own, run_of};
-ghost use Rattle.site_state.specs.Gifts.{IsMade, value_in};
+ghost use Rattle.site_state.specs.Gifts.{IsMade};
 ghost use Rattle.site_core.specs.Answered.{Answered, reply_in};
 
 use crate::actor::Actor;

@@ -1,10 +1,9 @@
-ghost use Rattle.std.specs.Prelude.{◌≡◌, ◌<◌, ℕ, true};
+ghost use Rattle.std.specs.Prelude.{◌≡◌, ◌<◌, ℕ};
 ghost use Rattle.edges.specs.Acted.{IsDid};
 ghost use Rattle.site_words.specs.declared.words.Op.TheVariants as op;
-ghost use Rattle.site_words.specs.Answers.{IsFullOnRefused, IsSamePort};
+ghost use Rattle.site_words.specs.Answers.{IsSamePort};
 ghost use Rattle.site_words.specs.Invariants.{AllRest};
-ghost use Rattle.site_words.specs.Law.{Legal, May, Sure, own, run_of};
-ghost use Rattle.site_words.specs.Opening.{is_sound};
+ghost use Rattle.site_words.specs.Law.{May, Sure, own, run_of};
 ghost use Rattle.site_state.specs.Gifts.{IsMade, value_in};
 ghost use Rattle.site_core.specs.Answered.{Answered};
 ghost use Rattle.site_core.specs.Solo.{OthersRest};

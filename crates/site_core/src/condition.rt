@@ -1,8 +1,8 @@
-ghost use Rattle.std.specs.Prelude.{◌≡◌, ◌+◌, ◌^◌, ◌<◌, ℕ, List, map};
+ghost use Rattle.std.specs.Prelude.{◌≡◌, ◌+◌, ◌<◌, ℕ, List, map};
 ghost use Rattle.site_words.specs.declared.words.Entry.{Entry as TheEntry};
 ghost use Rattle.site_words.specs.Fits.{asks, at_rest, finds, fits, fits_step, has_run};
 ghost use Rattle.site_words.specs.Fits.{has_session, is_null, rests};
-ghost use Rattle.site_words.specs.Runs.{run_at, run_in, under_at};
+ghost use Rattle.site_words.specs.Runs.{run_at, under_at};
 ghost use Rattle.site_words.specs.Weights.{capped};
 ghost use Rattle.site_state.specs.Parts.{parts_of, state_of, under_in};
 

@@ -1,5 +1,5 @@
 -- An operation that meets its condition may be asked for, with a value that is made from every tree.
-use Rattle.std.proofs.Common.{◌≡◌, ◌≢◌, ℕ, Bool, true, false, List, Option, Some, None, subst}
+use Rattle.std.proofs.Common.{◌≡◌, ◌≢◌, ℕ, true, false, List, Option, Some, None, subst}
 use Rattle.source_tree.specs.declared.file.File.{File}
 use Rattle.site_words.specs.declared.words.Entry.{Entry}
 use Rattle.site_words.specs.declared.words.Op.{Op}

@@ -1,4 +1,4 @@
-ghost use Rattle.std.specs.Prelude.{◌≡◌, ◌<◌, ℕ};
+ghost use Rattle.std.specs.Prelude.{◌≡◌, ◌<◌};
 ghost use Rattle.pass_course.specs.Course.{IsIdle};
 ghost use Rattle.site_rounds.specs.Served.{IsTalk};
 

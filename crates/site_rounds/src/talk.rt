@@ -1,4 +1,4 @@
-ghost use Rattle.std.specs.Prelude.{◌≡◌, ◌<◌, ℕ, List};
+ghost use Rattle.std.specs.Prelude.{◌<◌, ℕ, List};
 ghost use Rattle.edges.specs.History.{IsFront};
 ghost use Rattle.pass_course.specs.Course.{IsIdle};
 ghost use Rattle.site_words.specs.Answers.{IsSamePort};

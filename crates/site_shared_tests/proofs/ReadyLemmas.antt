@@ -1,12 +1,12 @@
 -- Passes at the start, and when all are back.
-use Rattle.std.proofs.Common.{◌≡◌, ℕ, ◌+◌, ◌<◌, List, [], None, length, get_or, map, sym, ap, subst, ◌∙◌, zero-add, arith}
-use Rattle.std.specs.Prelude.{All, slice_index_or}
+use Rattle.std.proofs.Common.{◌≡◌, ◌<◌, List, [], None, length, sym, ap, subst, ◌∙◌, zero-add}
+use Rattle.std.specs.Prelude.{All}
 use Rattle.std.specs.List.{range_with_len}
 use Rattle.std.proofs.lemmas.List.{get_or-map, length-map}
 use Rattle.std.proofs.lemmas.List.FromFn.{length-range_with_len, get_or-range_with_len}
 use Rattle.site_words.specs.declared.words.Entry.{Entry}
 use Rattle.site_words.specs.declared.words.Opening.{Opening}
-use Rattle.turn_table.specs.Passes.{AreAll, IsPassOf, Known, Origin, newcomer, newcomers}
+use Rattle.turn_table.specs.Passes.{AreAll, Known, Origin, newcomer, newcomers}
 use Rattle.site_shared_tests.specs.Ready.{AreInPlace, IsReady}
 
 -- passes at the start stand at the places of their numbers

@@ -1,5 +1,5 @@
 -- Where the calls of a visit leave its pass.
-use Rattle.std.proofs.Common.{◌≡◌, ℕ, ◌+◌, ◌-◌, ◌<◌, ◌≤◌, Bool, true, false, List, [], ◌∷◌, length, Option, Some, None, Result, Ok, Err, refl, sym, ap, subst, ◌∙◌, arith}
+use Rattle.std.proofs.Common.{◌≡◌, ℕ, ◌+◌, ◌-◌, ◌≤◌, true, false, List, length, Option, Some, None, Result, Ok, Err, refl, sym, ap, subst, ◌∙◌, arith}
 use Rattle.edges.specs.declared.acted.Acted.TheVariants.{Did}
 use Rattle.pg_value.specs.declared.value.Value.{Value}
 use Rattle.site_words.specs.declared.port.Begun.{Begun}
@@ -20,7 +20,7 @@ use Rattle.site_words.specs.Trees.{Needs}
 use Rattle.site_words.specs.Weights.{op_weight, reply_weight}
 use Rattle.site_words.proofs.Items.{fold-push}
 use Rattle.pass_course.specs.Course.{IsIdle}
-use Rattle.site_shared_tests.specs.Visits.{IsServing, Serves}
+use Rattle.site_shared_tests.specs.Visits.{IsServing}
 
 module _ (needs : Needs) (x y : Opening) (pass k : ℕ) (old new : List Entry) where
   run_next : (o : Op) (r : Reply) → Calls needs x pass old new o (Did r) → run_of (own pass new) ≡ run_after (run_of (own pass old)) o r

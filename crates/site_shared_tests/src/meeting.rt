@@ -1,6 +1,5 @@
 //! What a pass does in its thread: many visits, or one in which a pass waits for the session that
 //! another one holds.
-ghost use Rattle.std.specs.Prelude.{◌≡◌};
 ghost use Rattle.site_words.specs.Answers.{IsSamePort};
 ghost use Rattle.pass_course.specs.Course.{IsIdle};
 

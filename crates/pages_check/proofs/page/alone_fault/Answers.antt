@@ -1,4 +1,4 @@
-use Rattle.std.proofs.Common.{◌≡◌, sym, subst}
+use Rattle.std.proofs.Common.{sym, subst}
 use Rattle.source_tree.specs.Limits.{IsWithinLimits}
 use Rattle.pages_check.proofs.PageLemmas.{alone_within, fault_alone, some_alone, steps_alone}
 use Rattle.pages_check.proofs.page.alone_fault.Goals as goal
