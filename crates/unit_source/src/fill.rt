@@ -10,12 +10,26 @@ use crate::placing::add;
 use std::alloc::{AllocError, Global};
 use std::collections::VecDeque;
 
+// The nodes of a file with what was found at their include directives.
+#[inline(never)]
+pub(crate) fn fill_file(
+    alloc: Global,
+    nodes: Vec<PlacedNode>,
+    found: VecDeque<FoundNodes>,
+) -> Result<Vec<PlacedNode>, AllocError>
+    ensures { IfOk result (λ all. in_place all.items
+        ≡ (filled (in_place nodes.items) (map found_of found.items)).nodes) }
+{
+    let mut found = found;
+    fill_nodes(alloc, nodes, &mut found)
+}
+
 // The nodes with what was found at their include directives: `found` has an entry for each
 // directive here, in order, and what is taken goes from its front. Nodes that were included aren't
 // filled again.
 #[cycle(filling)]
 #[tactic(auto, using(crate::proofs::FillLemmas::next_filled, crate::proofs::PlacedLemmas::followed_done))]
-pub(crate) fn fill_nodes(
+fn fill_nodes(
     alloc: Global,
     nodes: Vec<PlacedNode>,
     found: &mut VecDeque<FoundNodes>,

@@ -49,6 +49,7 @@ impl Progress {
     }
 
     // A copy of the prefixes, which shares them.
+    #[inline(never)]
     pub fn shared_prefixes(&mut self) -> Result<Prefixes, AllocError>
         ensures prefixes { IfOk result (λ prefixes. prefixes ≡ self.old.going.prefixes) }
         ensures same { OnOk result (self.new ≡ self.old) }
@@ -65,6 +66,7 @@ impl Progress {
     }
 
     // Adds the name of a file that was included.
+    #[inline(never)]
     pub fn push_name(&mut self, name: &Path) -> Result<(), AllocError>
         ensures { OnOk result (self.new ≡ with_more (name.now ∷ []) self.old) }
     {
@@ -90,6 +92,7 @@ impl Progress {
     }
 
     // Prefixes are registered.
+    #[inline(never)]
     pub fn register(&mut self, prefixes: &[Text]) -> Result<(), AllocError>
         ensures { OnOk result (self.new ≡ gone self.old.names (with_prefixes prefixes.now self.old.going)) }
     {
@@ -97,6 +100,7 @@ impl Progress {
     }
 
     // The prefixes are registered that the include directive with this first byte brings.
+    #[inline(never)]
     pub fn register_brought(&mut self, brought: &Brought, byte: u32) -> Result<(), AllocError>
         ensures { OnOk result (self.new ≡ gone self.old.names
             (with_prefixes (brought_at byte brought.now) self.old.going)) }
@@ -105,6 +109,7 @@ impl Progress {
     }
 
     // These prefixes are registered and no others.
+    #[inline(never)]
     pub fn set_prefixes(&mut self, prefixes: Prefixes)
         ensures { self.new ≡ gone self.old.names (record { prefixes = prefixes; volume = self.old.going.volume }) }
     {

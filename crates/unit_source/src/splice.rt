@@ -3,13 +3,13 @@ ghost use Rattle.unit_source.specs.Files.{text_in};
 ghost use Rattle.unit_source.specs.Placed.{in_place};
 ghost use Rattle.unit_source.specs.ReadSplice.{behind_file, behind_inner, found_of, reads, spliced_in};
 ghost use Rattle.unit_source.specs.ReadSplice.{step_of, taken_of, with_more};
-ghost use Rattle.unit_source.specs.ReadSteps.{both_taken, found_in, taken};
+ghost use Rattle.unit_source.specs.ReadSteps.{both_taken, filled, found_in, taken};
 ghost use Rattle.unit_source.specs.Splice.{file_nodes, nodes_read, room_read, target_read, text_read};
 
 use crate::chain::{Chain, included_path};
 use crate::files::UnitFiles;
-use crate::fill::fill_nodes;
-use crate::found::FoundNodes;
+use crate::fill::fill_file;
+use crate::found::{FoundNodes, push_found};
 use crate::progress::{MAX_NESTING, Progress};
 use crate::second::read_alone;
 use crate::source_file::SourceFile;
@@ -60,32 +60,33 @@ pub(crate) fn read_file(
         },
         brought: alone.brought,
     };
-    read_nodes(files, &file, around, alone.nodes, progress)
+    let found = find_nodes(files, &file, around, &alone.nodes, progress)?;
+    fill_file(alloc, alone.nodes, found)
 }
 
-// Reads the nodes of a file with its includes in place.
+// What the include directives among the nodes of a file come to, in reading order.
 #[cycle(splicing)]
-fn read_nodes(
+fn find_nodes(
     files: &mut UnitFiles,
     file: &InFile,
     around: usize,
-    nodes: Vec<PlacedNode>,
+    nodes: &[PlacedNode],
     progress: &mut Progress,
-) -> Result<Vec<PlacedNode>, AllocError>
-    ensures nodes { IfOk result (λ all. in_place all.items
-        ≡ (nodes_read (reads (text_in files.old) file.now) file.now.brought around (in_place nodes.items)
+) -> Result<VecDeque<FoundNodes>, AllocError>
+    ensures found { IfOk result (λ found. (filled (in_place nodes.now) (map found_of found.items)).nodes
+        ≡ (nodes_read (reads (text_in files.old) file.now) file.now.brought around (in_place nodes.now)
         progress.old.going).nodes) }
     ensures progress { OnOk result (progress.new
         ≡ behind_file progress.old (nodes_read (reads (text_in files.old) file.now) file.now.brought around
-        (in_place nodes.items) progress.old.going)) }
+        (in_place nodes.now) progress.old.going)) }
     ensures files { files.new ≡ files.old }
 {
     let alloc = files.alloc();
     let mut steps = Vec::new(alloc);
-    add_steps(alloc, &nodes, around, &mut steps)?;
+    add_steps(alloc, nodes, around, &mut steps)?;
     let mut found = VecDeque::new(alloc);
     take_steps(files, file, &steps, progress, &mut found)?;
-    fill_nodes(alloc, nodes, &mut found)
+    Ok(found)
 }
 
 // Takes steps of a file.
@@ -130,7 +131,7 @@ fn take_step(
         Step::Registers(prefixes) => progress.register(prefixes.as_slice()),
         Step::Includes(around, directive) => {
             let inner = enter(files, file, *around, directive, progress)?;
-            found.push_back(inner)?;
+            push_found(found, inner)?;
             progress.register_brought(&file.brought, directive.place().byte)
         }
     }
@@ -241,10 +242,10 @@ fn enter_within(
     }
     progress.count_file(bytes);
     let prefixes = progress.shared_prefixes()?;
-    let nodes = read_file(files, file.within, around, source, progress)?;
+    let nodes = read_file(files, file.within, around, source, progress);
     progress.set_prefixes(prefixes);
     Ok(FoundNodes {
         entry: Entry::Entered(bytes),
-        nodes,
+        nodes: nodes?,
     })
 }

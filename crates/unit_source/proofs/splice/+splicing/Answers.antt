@@ -11,28 +11,24 @@ use Rattle.unit_source.proofs.SpliceLemmas.{file_is, more_behind, on_ok_always}
 use Rattle.unit_source.proofs.StepLemmas.{nodes_filled, steps_read}
 use Rattle.unit_source.proofs.splice.+splicing.Goals as goal
 
-pub read_nodes-returns-clause-nodes : goal.read_nodes-returns-clause-nodes
-read_nodes-returns-clause-nodes t c =
+pub find_nodes-returns-clause-found : goal.find_nodes-returns-clause-found
+find_nodes-returns-clause-found t c =
     let read = reads (text_in c.args.files.now) c.args.file.now in
     let brought = c.args.file.now.brought in
-    let nodes = in_place c.args.nodes.items in
-    let is_steps : map step_of c.deref-2.result.now ≡ steps_of c.args.around nodes = search rules in
-    let is_none : c.new-found.result.items ≡ [] = c.new-found.ensures.items in
-    let both = steps_read read brought c.args.around nodes c.args.progress.now c.take_steps.new.progress (map step_of c.deref-2.result.now) c.new-found.result.items c.take_steps.new.found.items
-    is_steps is_none c.in_ok-take_steps.ensures.taken in
-    let is : (filled nodes (map found_of c.take_steps.new.found.items)).nodes ≡ (nodes_read read brought c.args.around nodes c.args.progress.now.going).nodes =
-    ap (λ (f : List Found). (filled nodes f).nodes) both.0 ∙ nodes_filled read brought c.args.around nodes c.args.progress.now.going in
-    let P : InPlace → Type 0 = λ n. IfOk c.fill_nodes.result (λ all. in_place all.items ≡ n) in
-    subst P is c.fill_nodes.ensures.nodes
-
-pub read_nodes-returns-clause-progress : goal.read_nodes-returns-clause-progress
-read_nodes-returns-clause-progress t c =
-    let read = reads (text_in c.args.files.now) c.args.file.now in
-    let nodes = in_place c.args.nodes.items in
-    let is_steps : map step_of c.deref-2.result.now ≡ steps_of c.args.around nodes = search rules in
-    let both = steps_read read c.args.file.now.brought c.args.around nodes c.args.progress.now c.take_steps.new.progress (map step_of c.deref-2.result.now) c.new-found.result.items c.take_steps.new.found.items
+    let nodes = in_place c.args.nodes.now in
+    let is_steps : map step_of c.deref.result.now ≡ steps_of c.args.around nodes = search rules in
+    let both = steps_read read brought c.args.around nodes c.args.progress.now c.take_steps.new.progress (map step_of c.deref.result.now) c.new-found.result.items c.take_steps.new.found.items
     is_steps c.new-found.ensures.items c.in_ok-take_steps.ensures.taken in
-    on_ok_always c.fill_nodes.result both.1
+    ap (λ (f : List Found). (filled nodes f).nodes) both.0 ∙ nodes_filled read brought c.args.around nodes c.args.progress.now.going
+
+pub find_nodes-returns-clause-progress : goal.find_nodes-returns-clause-progress
+find_nodes-returns-clause-progress t c =
+    let read = reads (text_in c.args.files.now) c.args.file.now in
+    let nodes = in_place c.args.nodes.now in
+    let is_steps : map step_of c.deref.result.now ≡ steps_of c.args.around nodes = search rules in
+    let both = steps_read read c.args.file.now.brought c.args.around nodes c.args.progress.now c.take_steps.new.progress (map step_of c.deref.result.now) c.new-found.result.items c.take_steps.new.found.items
+    is_steps c.new-found.ensures.items c.in_ok-take_steps.ensures.taken in
+    both.1
 
 pub read_file-returns-clause-nodes : goal.read_file-returns-clause-nodes
 read_file-returns-clause-nodes t c =
@@ -55,8 +51,12 @@ read_file-returns-clause-nodes t c =
     c.in_ok-alone.ensures.files
     ∙ ap (λ (g : Gone). (nodes_read read c.in_ok-alone.alone.brought c.args.around nodes g.going).nodes) going
     ∙ sym (ap (λ (s : Spliced). s.nodes) whole) in
-    let P : InPlace → Type 0 = λ n. IfOk c.read_nodes.result (λ all. in_place all.items ≡ n) in
-    subst P is c.read_nodes.ensures.nodes
+    let P : InPlace → Type 0 = λ n. IfOk c.fill_file.result (λ all. in_place all.items ≡ n) in
+    let is_nodes : in_place c.deref.result.now ≡ nodes = search rules in
+    let Q : InPlace → Type 0 = λ n. (filled n (map found_of c.in_ok-found.found.items)).nodes
+    ≡ (nodes_read (include_read (spliced_within (c.args.within.deep - 1) (text_in c.read_alone.new.files) settings longer) (text_in c.read_alone.new.files) longer)
+    c.in_ok-alone.alone.brought c.args.around n c.read_alone.new.progress.going).nodes in
+    subst P (subst Q is_nodes c.in_ok-found.ensures.found ∙ is) c.fill_file.ensures
 
 pub read_file-returns-clause-progress : goal.read_file-returns-clause-progress
 read_file-returns-clause-progress t c =
@@ -80,5 +80,8 @@ read_file-returns-clause-progress t c =
     ∙ ap (λ (g : Gone). behind_file g (nodes_read read c.in_ok-alone.alone.brought c.args.around nodes g.going)) going
     ∙ more_behind names c.args.progress.now (nodes_read read c.in_ok-alone.alone.brought c.args.around nodes c.args.progress.now.going)
     ∙ sym (ap (behind_file c.args.progress.now) whole) in
-    let P : Gone → Type 0 = λ g. OnOk c.read_nodes.result (c.read_nodes.new.progress ≡ g) in
-    subst P is c.read_nodes.ensures.progress
+    let is_nodes : in_place c.deref.result.now ≡ nodes = search rules in
+    let Q : InPlace → Type 0 = λ n. c.find_nodes.new.progress ≡ behind_file c.read_alone.new.progress
+    (nodes_read (include_read (spliced_within (c.args.within.deep - 1) (text_in c.read_alone.new.files) settings longer) (text_in c.read_alone.new.files) longer)
+    c.in_ok-alone.alone.brought c.args.around n c.read_alone.new.progress.going) in
+    on_ok_always c.fill_file.result (subst Q is_nodes c.in_ok-found.ensures.progress ∙ is)

@@ -7,8 +7,8 @@ use Rattle.unit_source.proofs.splice.+splicing.Given as goal
 abbrev pub decreases-read_file : goal.decreases-read_file
 decreases-read_file l = 9 * l.within.deep
 
-abbrev pub decreases-read_nodes : goal.decreases-read_nodes
-decreases-read_nodes l = 9 * l.file.now.within.deep + 7
+abbrev pub decreases-find_nodes : goal.decreases-find_nodes
+decreases-find_nodes l = 9 * l.file.now.within.deep + 7
 
 abbrev pub decreases-take_steps : goal.decreases-take_steps
 decreases-take_steps l = 9 * l.file.now.within.deep + 6
