@@ -21,7 +21,7 @@ use page_directives::Faults;
 use pg_text::{Names, PageFault, Path, Place, Text, TranslationFault};
 use std::alloc::{AllocError, Global};
 use std::sync::Arc;
-use unit_judges::{Bean, bean_of, bean_path};
+use unit_judges::{Bean, Readings, bean_of, bean_path};
 use unit_words::{Counted, Counts};
 
 /// What reading a unit has found so far.
@@ -37,6 +37,8 @@ pub(crate) struct Found<'t> {
     /// The classes of beans that were read.
     pub beans: Vec<(Text, Bean)>,
     pub counts: Counts,
+    /// The expressions that were read.
+    pub readings: Readings,
 }
 
 // The fault with the least number at a place, where there is one.
@@ -99,6 +101,7 @@ impl<'t> Found<'t> {
             tags: Vec::new(alloc),
             beans: Vec::new(alloc),
             counts: Counts::page(bytes),
+            readings: Readings::new(alloc),
         }
     }
 

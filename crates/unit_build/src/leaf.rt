@@ -57,7 +57,7 @@ pub(crate) fn meet_leaf<'r>(
         }
         Leaf::Comment => Ok(()),
         Leaf::Expr(text) => {
-            let faults = expression_faults(alloc, &course.before, text.as_str())?;
+            let faults = expression_faults(alloc, &course.before, text, &mut found.readings)?;
             found.meet(place, nesting_faults(*here).and(faults))
         }
         Leaf::Hash => {

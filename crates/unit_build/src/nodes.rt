@@ -8,12 +8,11 @@ ghost use Rattle.unit_nodes.specs.Nodes.{action, done as nothing, joined};
 ghost use Rattle.unit_nodes.specs.Views.{given_of, kind_of as kind_view, node_of, nodes_of};
 ghost use Rattle.unit_nodes.specs.Views.{part_of as part_view};
 
-use el_reader::read_el;
 use page_pieces::{Attribute, Leaf, Part};
 use page_reader::{Closing, Element};
 use pg_text::{Failure, Listed, Place};
 use std::alloc::{AllocError, Global};
-use unit_judges::{Kind, Registered, kind_of};
+use unit_judges::{Kind, Readings, Registered, kind_of};
 use unit_nodes::{
     Action, ActionKind, UnitAttribute, UnitAttributes, UnitNode, UnitPart, UnitParts,
 };
@@ -24,11 +23,12 @@ pub(crate) fn built_nodes(
     alloc: Global,
     directives: &Registered,
     nodes: &[PlacedNode],
+    readings: &mut Readings,
 ) -> Result<Vec<UnitNode>, AllocError>
     ensures { IfOk result (λ made. nodes_of made.items ≡ built directives.now (in_place nodes.now)) }
 {
     let mut made = Vec::new(alloc);
-    add_nodes(alloc, directives, nodes, &mut made)?;
+    add_nodes(alloc, directives, nodes, &mut made, readings)?;
     Ok(made)
 }
 
@@ -39,12 +39,13 @@ fn add_nodes(
     directives: &Registered,
     nodes: &[PlacedNode],
     made: &mut Vec<UnitNode>,
+    readings: &mut Readings,
 ) -> Result<(), AllocError>
     ensures { OnOk result (nodes_of made.new.items
         ≡ joined (nodes_of made.old.items) (built directives.now (in_place nodes.now))) }
 {
     for node in nodes {
-        add_node(alloc, directives, node, made)?;
+        add_node(alloc, directives, node, made, readings)?;
     }
     Ok(())
 }
@@ -56,15 +57,22 @@ fn add_node(
     directives: &Registered,
     node: &PlacedNode,
     made: &mut Vec<UnitNode>,
+    readings: &mut Readings,
 ) -> Result<(), AllocError>
     ensures { OnOk result (nodes_of made.new.items
         ≡ joined (nodes_of made.old.items) (built directives.now (node_in_place node.now))) }
 {
     match node {
-        PlacedNode::Leaf(leaf, place) => add_leaf(alloc, leaf, place, made),
-        PlacedNode::Element(element) => add_element(alloc, directives, element, made),
+        PlacedNode::Leaf(leaf, place) => add_leaf(alloc, leaf, place, made, readings),
+        PlacedNode::Element(element) => add_element(alloc, directives, element, made, readings),
         PlacedNode::Broken(_) => Ok(()),
-        PlacedNode::Included(include) => add_nodes(alloc, directives, &include.body, made),
+        PlacedNode::Included(include) => add_nodes(
+            alloc,
+            directives,
+            &include.body,
+            made,
+            readings,
+        ),
     }
 }
 
@@ -77,21 +85,19 @@ fn add_element(
     directives: &Registered,
     placed: &PlacedElement,
     made: &mut Vec<UnitNode>,
+    readings: &mut Readings,
 ) -> Result<(), AllocError>
     ensures { OnOk result (nodes_of made.new.items
         ≡ joined (nodes_of made.old.items) (built directives.now
         (element (opened_of placed.now.head) (in_place placed.now.body.items) done))) }
 {
-    match kind_of(alloc, directives, &placed.head)? {
-        Kind::Core(name, _) => {
-            add_action(alloc, directives, ActionKind::Core(name), placed, made)
-        }
-        Kind::Standard(name, _) => {
-            add_action(alloc, directives, ActionKind::Jsp(name), placed, made)
-        }
-        Kind::Call(path) => add_action(alloc, directives, ActionKind::Tag(path), placed, made),
-        Kind::Refused(_) => Ok(()),
-    }
+    let kind = match kind_of(alloc, directives, &placed.head)? {
+        Kind::Core(name, _) => ActionKind::Core(name),
+        Kind::Standard(name, _) => ActionKind::Jsp(name),
+        Kind::Call(path) => ActionKind::Tag(path),
+        Kind::Refused(_) => return Ok(()),
+    };
+    add_action(alloc, directives, kind, placed, made, readings)
 }
 
 // Adds an element as an action of this kind.
@@ -102,32 +108,35 @@ fn add_action(
     kind: ActionKind,
     placed: &PlacedElement,
     made: &mut Vec<UnitNode>,
+    readings: &mut Readings,
 ) -> Result<(), AllocError>
     ensures { OnOk result (nodes_of made.new.items
         ≡ joined (nodes_of made.old.items) (action (action_of (kind_view kind) (opened_of placed.now.head))
         (built directives.now (in_place placed.now.body.items)) nothing)) }
 {
+    let attributes = attributes_of(alloc, placed.head.attributes.as_slice(), readings)?;
     let mut body = Vec::new(alloc);
-    add_nodes(alloc, directives, &placed.body, &mut body)?;
-    let node = action_node(alloc, kind, &placed.head, body)?;
+    add_nodes(alloc, directives, &placed.body, &mut body, readings)?;
+    let node = action_node(kind, &placed.head, attributes, body)?;
     add(made, node)
 }
 
-// An element as an action of this kind with this body.
+// An element as an action of this kind with its attributes and this body.
 #[inline(never)]
 #[tactic(auto, using(unit_nodes::proofs::NodeLemmas::action_is))]
 fn action_node(
-    alloc: Global,
     kind: ActionKind,
     head: &Element,
+    attributes: UnitAttributes,
     body: Vec<UnitNode>,
 ) -> Result<UnitNode, AllocError>
+    requires { map given_of attributes ≡ map made_of head.now.attributes }
     ensures { IfOk result (λ node. node_of node ≡ action (action_of (kind_view kind) (opened_of head.now))
         (nodes_of body.items) nothing) }
 {
     Ok(UnitNode::Action(Action {
         kind,
-        attributes: attributes_of(alloc, head.attributes.as_slice())?,
+        attributes,
         has_body: has_body(head.closing),
         body,
         source: head.source.copy()?,
@@ -153,6 +162,7 @@ fn add_leaf(
     leaf: &Leaf,
     place: &Place,
     made: &mut Vec<UnitNode>,
+    readings: &mut Readings,
 ) -> Result<(), AllocError>
     ensures { OnOk result (nodes_of made.new.items
         ≡ joined (nodes_of made.old.items) (leaf_before leaf.now place.now nothing)) }
@@ -165,7 +175,7 @@ fn add_leaf(
             };
             add(made, node)
         }
-        Leaf::Expr(text) => match read_el(alloc, text.as_str()) {
+        Leaf::Expr(text) => match readings.take(alloc, text) {
             Ok(el) => add(
                 made,
                 UnitNode::Expr {
@@ -192,43 +202,60 @@ fn has_body(closing: Closing) -> bool
 }
 
 // The attributes of an element.
-fn attributes_of(alloc: Global, written: &[Attribute]) -> Result<UnitAttributes, AllocError>
+fn attributes_of(
+    alloc: Global,
+    written: &[Attribute],
+    readings: &mut Readings,
+) -> Result<UnitAttributes, AllocError>
     ensures { IfOk result (λ attributes. map given_of attributes ≡ map made_of written.now) }
 {
     let mut attributes = Listed::empty(alloc);
     for attribute in written {
-        attributes.push(attribute_of(alloc, attribute)?)?;
+        attributes.push(attribute_of(alloc, attribute, readings)?)?;
     }
     Ok(attributes)
 }
 
-fn attribute_of(alloc: Global, written: &Attribute) -> Result<UnitAttribute, AllocError>
+fn attribute_of(
+    alloc: Global,
+    written: &Attribute,
+    readings: &mut Readings,
+) -> Result<UnitAttribute, AllocError>
     ensures { IfOk result (λ attribute. given_of attribute ≡ made_of written.now) }
 {
     Ok(UnitAttribute {
         name: written.name.copy()?,
-        parts: parts_of(alloc, written.parts.as_slice())?,
+        parts: parts_of(alloc, written.parts.as_slice(), readings)?,
         place: written.place.copy()?,
     })
 }
 
 // The parts of a value.
-fn parts_of(alloc: Global, written: &[Part]) -> Result<UnitParts, AllocError>
+fn parts_of(
+    alloc: Global,
+    written: &[Part],
+    readings: &mut Readings,
+) -> Result<UnitParts, AllocError>
     ensures { IfOk result (λ parts. map part_view parts ≡ parts_of written.now) }
 {
     let mut parts = Listed::empty(alloc);
     for part in written {
-        add_part(alloc, part, &mut parts)?;
+        add_part(alloc, part, &mut parts, readings)?;
     }
     Ok(parts)
 }
 
-fn add_part(alloc: Global, written: &Part, parts: &mut UnitParts) -> Result<(), AllocError>
+fn add_part(
+    alloc: Global,
+    written: &Part,
+    parts: &mut UnitParts,
+    readings: &mut Readings,
+) -> Result<(), AllocError>
     ensures { OnOk result (map part_view parts.new ≡ map part_view parts.old ++ part_of written.now) }
 {
     match written {
         Part::Text(text) => parts.push(UnitPart::Text(text.copy()?)),
-        Part::Expr(text) => match read_el(alloc, text.as_str()) {
+        Part::Expr(text) => match readings.take(alloc, text) {
             Ok(el) => parts.push(UnitPart::Expr(el)),
             Err(Failure::Fault(_)) => Ok(()),
             Err(Failure::NoMemory) => Err(AllocError),

@@ -16,7 +16,7 @@ use pg_text::Text;
 use pg_value::{Attrs, Value};
 use std::alloc::{AllocError, Global};
 use std::sync::Arc;
-use unit_judges::{Bean, Registered};
+use unit_judges::{Bean, Readings, Registered};
 use unit_nodes::{Page, TagFile, UnitNode};
 use unit_source::Root;
 
@@ -26,7 +26,8 @@ pub(crate) fn page_of(alloc: Global, root: &Root, found: Found) -> Result<Page, 
         ≡ page_of (root_view root.now) (state_in before found.entry)) }
 {
     let beans = found.beans;
-    page_with(alloc, root, beans, &found.tags)
+    let mut readings = found.readings;
+    page_with(alloc, root, beans, &found.tags, &mut readings)
 }
 
 // The page that was read, with these beans and these tag files.
@@ -35,50 +36,61 @@ fn page_with(
     root: &Root,
     beans: Vec<(Text, Bean)>,
     tags: &[Arc<Tag>],
+    readings: &mut Readings,
 ) -> Result<Page, AllocError>
     ensures { IfOk result (λ page. (state : State) → state.beans ≡ map class_made beans.items
         → state.tags ≡ map (λ tag. root_view tag.value) tags.now
         → page_view page ≡ page_of (root_view root.now) state) }
 {
     let beans = beans_in_order(alloc, beans)?;
+    let nodes = root_nodes(alloc, root, readings)?;
     Ok(Page {
         path: root.path.copy()?,
         settings: root.settings.copy()?,
         beans,
-        tags: tag_files(alloc, tags)?,
-        nodes: root_nodes(alloc, root)?,
+        tags: tag_files(alloc, tags, readings)?,
+        nodes,
     })
 }
 
 // The nodes of a page or a tag file.
-fn root_nodes(alloc: Global, root: &Root) -> Result<Vec<UnitNode>, AllocError>
+fn root_nodes(
+    alloc: Global,
+    root: &Root,
+    readings: &mut Readings,
+) -> Result<Vec<UnitNode>, AllocError>
     ensures { IfOk result (λ nodes. nodes_of nodes.items ≡ built (root_view root.now).directives
         (root_view root.now).nodes) }
 {
     let directives = Registered::in_nodes(alloc, &root.nodes)?;
-    built_nodes(alloc, &directives, &root.nodes)
+    built_nodes(alloc, &directives, &root.nodes, readings)
 }
 
 // A tag file that was read.
-fn tag_file(alloc: Global, root: &Root) -> Result<TagFile, AllocError>
+fn tag_file(alloc: Global, root: &Root, readings: &mut Readings) -> Result<TagFile, AllocError>
     ensures { IfOk result (λ tag. tag_view tag ≡ tag_file (root_view root.now)) }
 {
     Ok(TagFile {
         path: root.path.copy()?,
         decl: declaration(alloc, root)?,
         settings: root.settings.copy()?,
-        nodes: root_nodes(alloc, root)?,
+        nodes: root_nodes(alloc, root, readings)?,
     })
 }
 
 // The tag files that were read.
-fn tag_files(alloc: Global, tags: &[Arc<Tag>]) -> Result<Vec<TagFile>, AllocError>
+fn tag_files(
+    alloc: Global,
+    tags: &[Arc<Tag>],
+    readings: &mut Readings,
+) -> Result<Vec<TagFile>, AllocError>
     ensures { IfOk result (λ files. map tag_view files.items
         ≡ map tag_file (map (λ tag. root_view tag.value) tags.now)) }
 {
     let mut files = Vec::with_capacity(alloc, tags.len())?;
     for tag in tags {
-        files.push(tag_file(alloc, tag.root())?)?;
+        readings.go_on();
+        files.push(tag_file(alloc, tag.root(), readings)?)?;
     }
     Ok(files)
 }

@@ -109,7 +109,12 @@ fn meet_value(
         ++ part_faults (is_function_prefix course.now.before.directives) attribute.now.parts))) }
 {
     let taken = value_faults(alloc, decl, kind, attribute)?;
-    let parts = part_faults(alloc, &course.before, attribute.parts.as_slice())?;
+    let parts = part_faults(
+        alloc,
+        &course.before,
+        attribute.parts.as_slice(),
+        &mut found.readings,
+    )?;
     found.meet(&attribute.place, taken.and(parts))
 }
 

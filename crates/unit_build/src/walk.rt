@@ -145,9 +145,11 @@ fn read_root(alloc: Global, root: &Root, deep: usize, found: &mut Found) -> Resu
     if deep == 0 {
         return Ok(());
     }
+    let outer = found.readings.enter()?;
     let mut course = Course::begun(alloc, root)?;
     let read = take_course(alloc, &mut course, deep - 1, found);
     end(course);
+    found.readings.go_back(outer);
     read
 }
 

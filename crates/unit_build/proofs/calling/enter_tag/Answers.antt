@@ -23,6 +23,6 @@ returns c before at_path =
     let tags : map (λ tag. root_view tag.value) c.push.new.self.items ≡ map (λ tag. root_view tag.value) c.need_all.new.self.tags.items ++ root ∷ [] =
     kept_last (λ tag. root_view tag.value) c.need_all.new.self.tags.items c.push.new.self.items c.in_ok-try_clone.field-0 root c.in_ok-push.ensures.items (ap root_view clone) in
     let kept_all = c.need_all.new.self in
-    let new : Found = record { site = kept_all.site; fault = kept_all.fault; names = kept_all.names; tags = c.push.new.self; beans = kept_all.beans; counts = kept_all.counts } in
+    let new : Found = record { site = kept_all.site; fault = kept_all.fault; names = kept_all.names; tags = c.push.new.self; beans = kept_all.beans; counts = kept_all.counts; readings = kept_all.readings } in
     subst (λ r. IsCalled old new before c.none-2.result (Some root) (first_call path r (state_in before old))) is
     (called_first {new = new} before path root one all refl refl refl refl refl tags c.none-2.ensures)

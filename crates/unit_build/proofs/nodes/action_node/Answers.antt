@@ -6,10 +6,10 @@ pub returns : goal.returns
 returns c =
     action_is (record {
       kind = c.args.kind;
-      attributes = c.in_ok-attributes_of.field-0;
+      attributes = c.args.attributes;
       has_body = c.has_body.result;
       body = c.args.body;
       source = c.in_ok-copy.field-0;
       place = c.in_ok-copy-2.field-0;
     })
-    ∙ rw (c.in_ok-attributes_of.ensures, c.as_slice.ensures, c.has_body.ensures, c.in_ok-copy.ensures, c.in_ok-copy-2.ensures) refl
+    ∙ rw (c.requires, c.has_body.ensures, c.in_ok-copy.ensures, c.in_ok-copy-2.ensures) refl
