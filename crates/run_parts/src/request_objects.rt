@@ -9,7 +9,8 @@ ghost use Rattle.run_values.specs.Objects.{header_answer};
 ghost use Rattle.run_world.specs.Params.{params_of};
 ghost use Rattle.run_world.specs.Seats.{raise_of};
 
-use crate::request_records::{FieldRecords, RequestRecords, cookie, header, param, param_values};
+use crate::param_records::{param, param_values};
+use crate::request_records::{FieldRecords, RequestRecords, cookie, header};
 use el_coercion::to_text;
 use http_in::Request;
 use page_code::{HeaderObject, Implicit};

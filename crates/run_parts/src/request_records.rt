@@ -1,18 +1,16 @@
 // The records of a request that may be large, each made when a page run first looks at it.
-ghost use Rattle.std.specs.Prelude.{◌≡◌, IfOk};
+ghost use Rattle.std.specs.Prelude.{◌≡◌, IfOk, OnErr, OnOk};
 ghost use Rattle.http_in.specs.declared.request.Request.{Request as Request'};
-ghost use Rattle.page_meaning.specs.Request.{all_values, cookie_records, first_values};
-ghost use Rattle.run_parts.specs.Records.{AreFieldsOf, AreParamsOf, IsKept, IsRecordsOf};
+ghost use Rattle.page_meaning.specs.Request.{cookie_records};
+ghost use Rattle.run_parts.specs.Records.{AreFieldsOf, IsKept, IsRecordsOf};
 ghost use Rattle.run_values.specs.Objects.{header_entries};
-ghost use Rattle.run_world.specs.Params.{params_of};
-ghost use Rattle.run_world.specs.declared.params.Params.{Params as Params'};
+ghost use Rattle.run_world.specs.declared.params.Params.{Before, Params as Params'};
 
-use crate::targets::all_params;
+use crate::param_records::ParamRecords;
 use http_in::Request;
 use page_code::HeaderObject;
-use pg_value::{Attrs, Record};
-use run_values::{all_values, cookie_records, first_values, headers};
-use run_world::Params;
+use pg_value::Record;
+use run_values::{cookie_records, headers};
 use std::alloc::{AllocError, Global};
 use std::mem;
 
@@ -23,14 +21,6 @@ pub struct RequestRecords {
     pub params: ParamRecords,
     pub fields: FieldRecords,
     pub cookie: Option<Record>,
-}
-
-/// The records of the parameters that a page run has looked at: with the first value of each name,
-/// and with the list of its values.
-#[derive(Drop)]
-pub struct ParamRecords {
-    pub param: Option<Record>,
-    pub param_values: Option<Record>,
 }
 
 /// The records of a request's fields that a page run has looked at: with the first value of each
@@ -56,90 +46,33 @@ impl RequestRecords {
         }
     }
 
-    /// Sets aside what was made of the parameters, for a page that runs with others.
-    pub fn set_params_aside(&mut self) -> ParamRecords
-        ensures aside { result ≡ self.old.params }
-        ensures others { (request : Request') (params others : Params') →
-            IsRecordsOf request params self.old → IsRecordsOf request others self.new }
+    /// Sets aside what was made of the parameters, for an included page that has some of its own in
+    /// front of them.
+    pub fn set_params_aside(&mut self, alloc: Global) -> Result<(), AllocError>
+        ensures ok { (request : Request') (own : _) (params : _) → OnOk result
+            (IsRecordsOf request params.now self.old → IsRecordsOf request (Before own params) self.new) }
+        ensures err { OnErr result (self.new ≡ self.old) }
     {
-        mem::replace(&mut self.params, ParamRecords::none())
+        self.params.come_into_blocks()?;
+        let mut outer = Box::new(alloc, ParamRecords::none())?;
+        mem::swap(&mut self.params, &mut *outer);
+        self.params = ParamRecords {
+            param: None,
+            param_values: None,
+            outer: Some(outer),
+        };
+        Ok(())
     }
 
     /// Puts back what was set aside.
-    pub fn put_params_back(&mut self, aside: ParamRecords)
-        ensures { (request : Request') (params others : Params') → AreParamsOf params aside →
-            IsRecordsOf request others self.old → IsRecordsOf request params self.new }
+    pub fn put_params_back(&mut self)
+        ensures { (request : Request') (own : _) (params : _) →
+            IsRecordsOf request (Before own params) self.old → IsRecordsOf request params.now self.new }
     {
-        self.params = aside;
-    }
-}
-
-impl ParamRecords {
-    // None is made yet.
-    fn none() -> Self
-        ensures { (params : Params') → AreParamsOf params result }
-    {
-        ParamRecords {
-            param: None,
-            param_values: None,
-        }
-    }
-}
-
-// Each parameter's name with the first of its values.
-pub(crate) fn param(
-    alloc: Global,
-    params: &Params,
-    kept: &mut ParamRecords,
-) -> Result<Record, AllocError>
-    requires kept { AreParamsOf params.now kept.old }
-    ensures made { IfOk result (λ made. made ≡ first_values (params_of params.now)) }
-    ensures kept { AreParamsOf params.now kept.new }
-{
-    if let Some(record) = &kept.param {
-        return record.copy();
-    }
-    let made = Record::new(make_param(alloc, params)?)?;
-    kept.param = Some(made.copy()?);
-    Ok(made)
-}
-
-// The entries of parameters with the first value of each name. More lists than one are copied into
-// one first.
-fn make_param(alloc: Global, params: &Params) -> Result<Attrs, AllocError>
-    ensures { IfOk result (λ made. made ≡ first_values (params_of params.now)) }
-{
-    match params {
-        Params::Listed(own) => first_values(alloc, own),
-        params => first_values(alloc, all_params(alloc, params)?.as_slice()),
-    }
-}
-
-// Each parameter's name with the list of its values.
-pub(crate) fn param_values(
-    alloc: Global,
-    params: &Params,
-    kept: &mut ParamRecords,
-) -> Result<Record, AllocError>
-    requires kept { AreParamsOf params.now kept.old }
-    ensures made { IfOk result (λ made. made ≡ all_values (params_of params.now)) }
-    ensures kept { AreParamsOf params.now kept.new }
-{
-    if let Some(record) = &kept.param_values {
-        return record.copy();
-    }
-    let made = Record::new(make_param_values(alloc, params)?)?;
-    kept.param_values = Some(made.copy()?);
-    Ok(made)
-}
-
-// The entries of parameters with the list of the values of each name.
-fn make_param_values(alloc: Global, params: &Params) -> Result<Attrs, AllocError>
-    ensures { IfOk result (λ made. made ≡ all_values (params_of params.now)) }
-{
-    match params {
-        Params::Listed(own) => all_values(alloc, own),
-        params => all_values(alloc, all_params(alloc, params)?.as_slice()),
+        self.params = match self.params.outer.take() {
+            Some(outer) => Box::into_inner(outer),
+            None => ParamRecords::none(),
+        };
     }
 }
 

@@ -16,7 +16,7 @@ ghost use Rattle.run_values.specs.Properties.{found_of};
 ghost use Rattle.run_world.specs.Part.{Doing};
 ghost use Rattle.run_world.specs.Seats.{params_at, seat_of};
 
-use crate::request_records::{ParamRecords, param};
+use crate::param_records::{ParamRecords, param};
 use crate::variables::{assign, look_up};
 use page_code::{Name, PropertyMode, Shared};
 use pg_text::{Failure, Text};
