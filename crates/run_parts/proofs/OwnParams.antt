@@ -15,9 +15,9 @@ use Rattle.run_parts.specs.Records.{list_before}
 use Rattle.pg_text.proofs.Halving.{by_order, order}
 use Rattle.pg_value.proofs.Gathered.{AreInOrder-of_entries, Entries, same_entries}
 use Rattle.pg_value.proofs.Inverses.{item_list-items_of, items_of-item_list}
-use Rattle.pg_value.proofs.Lookups.{entry_at-with_entry, entry_at-with_entry_other, equal_itself}
+use Rattle.pg_value.proofs.Lookups.{entry_at-with_entry, entry_at-with_entry_other}
 use Rattle.pg_value.proofs.Order.{AreInOrder-none, AreInOrder-with_entry}
-use Rattle.pg_value.specs.Attrs.{AreInOrder, entry_at, of_first_entries, with_entries, with_entry}
+use Rattle.pg_value.specs.Attrs.{AreInOrder, entry_at, with_entries, with_entry}
 use Rattle.pg_value.specs.Datum.{Datum, list, item, items_of, item_list, text}
 use Rattle.pg_value.specs.Value.{datum_of, entry_of}
 use Rattle.pg_value.specs.declared.value.Value.{Value}

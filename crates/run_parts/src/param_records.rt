@@ -11,7 +11,7 @@ ghost use Rattle.run_world.specs.declared.params.Params.{Params as Params'};
 
 use crate::targets::all_params;
 use http_in::Param;
-use pg_value::{Attrs, Record, Value, Values};
+use pg_value::{Record, Value, Values};
 use run_values::{all_values, first_values};
 use run_world::Params;
 use std::alloc::{AllocError, Global};
