@@ -3,7 +3,7 @@ ghost use Rattle.std.specs.Prelude.{◌≡◌, ◌<◌, [], ◌∷◌, length, m
 ghost use Rattle.el_coercion.specs.Text.{text_of};
 ghost use Rattle.page_meaning.specs.Exports.{copied_out, exports_of, given_back, is_at_end};
 ghost use Rattle.page_meaning.specs.Exports.{is_at_fragment, is_nested, outer_name};
-ghost use Rattle.page_meaning.specs.State.{State, in_scopes};
+ghost use Rattle.page_meaning.specs.State.{in_scopes};
 ghost use Rattle.page_meaning.specs.Variables.{entries_of_frame};
 ghost use Rattle.page_meaning.specs.Went.{Well};
 ghost use Rattle.pg_value.specs.Value.{datum_of};

@@ -25,7 +25,7 @@ ghost use Rattle.site_words.specs.declared.words.AppStep.TheVariants as step;
 
 use crate::request_objects::request_value;
 use crate::request_records::RequestRecords;
-use crate::variables::told;
+use crate::variables::told_value;
 use el_coercion::{made_text, to_text};
 use page_code::Implicit;
 use pg_text::{Failure, Text};
@@ -41,7 +41,7 @@ fn whole(reply: AppReply) -> Result<Value, Failure<RunFault>>
 {
     match reply {
         AppReply::Large { .. } => Err(Failure::Fault(RunFault::ValueTooLarge)),
-        reply => Ok(told(reply)),
+        reply => Ok(told_value(reply)),
     }
 }
 
@@ -134,7 +134,7 @@ fn application_entry<W: World>(name: Text, world: &mut W) -> Result<Value, Failu
 {
     let key = made_key(name)?;
     let reply = world.ask(AppStep::Get(key))?;
-    Ok(told(reply))
+    Ok(told_value(reply))
 }
 
 // A text as a key: X20 where it is too large.

@@ -1,5 +1,5 @@
 // What a page sees of its request, and of its fault and its session, as values.
-ghost use Rattle.std.specs.Prelude.{◌≡◌, map, option_map, IfOk};
+ghost use Rattle.std.specs.Prelude.{◌≡◌, option_map, IfOk};
 ghost use Rattle.page_meaning.specs.Implicit.{exception_datum};
 ghost use Rattle.pg_text.specs.Failure.{AnswersAs};
 ghost use Rattle.pg_value.specs.Value.{datum_of};

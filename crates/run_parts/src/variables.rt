@@ -18,7 +18,7 @@ use scopes::{HeldScope, Scopes};
 use site_words::{AppReply, AppStep};
 
 // The value that a reply tells, and null of one that tells none.
-pub(crate) fn told(reply: AppReply) -> Value
+pub(crate) fn told_value(reply: AppReply) -> Value
     ensures { datum_of result ≡ value_in reply }
 {
     match reply {
@@ -55,7 +55,7 @@ pub(crate) fn look_up<W: World>(
         return Ok((scope, value.copy()?));
     }
     let reply = world.ask(AppStep::Get(name.as_text().copy()?))?;
-    Ok((Scope::Application, told(reply)))
+    Ok((Scope::Application, told_value(reply)))
 }
 
 /// The value of a variable. Where none is found, X6 if that is a fault (`strict`), else null.
@@ -85,7 +85,7 @@ fn find_in_application<W: World>(
         (found s.scopes name.now) s) world.old world.new result }
 {
     let reply = world.ask(AppStep::Get(name.as_text().copy()?))?;
-    nowhere(strict, told(reply))
+    nowhere(strict, told_value(reply))
 }
 
 // A value that was found, or null: X6 of null where that is a fault.

@@ -1,6 +1,6 @@
 ghost use Rattle.std.specs.Prelude.{◌≡◌, ◌∷◌, [], map, Some};
 ghost use Rattle.std.specs.Option.{is_some, option_map, option_to_list};
-ghost use Rattle.page_pieces.specs.Settings.{contains_text, plain_text};
+ghost use Rattle.page_pieces.specs.Settings.{plain_text};
 ghost use Rattle.page_reader.specs.Trees.{Tree};
 ghost use Rattle.page_directives.specs.Faults.{in_order};
 ghost use Rattle.tag_decl.specs.Declare.{declared};

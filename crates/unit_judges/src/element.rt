@@ -1,7 +1,7 @@
-ghost use Rattle.std.specs.Prelude.{◌≡◌, ◌∷◌, map, codes, IfOk};
+ghost use Rattle.std.specs.Prelude.{◌≡◌, ◌∷◌, map, IfOk};
 ghost use Rattle.jstl_tags.specs.Check.{child_faults};
 ghost use Rattle.std.specs.Option.{option_map};
-ghost use Rattle.page_pieces.specs.Settings.{contains_text, value_of};
+ghost use Rattle.page_pieces.specs.Settings.{contains_text};
 ghost use Rattle.page_reader.specs.Trees.{Tree};
 ghost use Rattle.page_directives.specs.Faults.{in_order};
 ghost use Rattle.jstl_tags.specs.Elements.{opened_of};
@@ -14,7 +14,7 @@ ghost use Rattle.unit_source.specs.Placed.{in_place};
 ghost use Rattle.unit_words.specs.Elements.{Here as Around, attribute_faults};
 ghost use Rattle.unit_words.specs.Elements.{element_faults, given_value_faults, kind_faults};
 ghost use Rattle.unit_words.specs.Elements.{own_faults, value_faults};
-ghost use Rattle.unit_judges.specs.Made.{around_made, here_made, kind_made};
+ghost use Rattle.unit_judges.specs.Made.{here_made, kind_made};
 
 use crate::beginning::Beginning;
 use crate::body::{push_inner, standings_of};

@@ -13,4 +13,4 @@ returns-in_err-reply-clause-does g c =
 
 pub returns-clause-does : goal.returns-clause-does
 returns-clause-does g c =
-    entered_well c.args.world.now c.ask.new.self c.args.name c.in_ok-key.key c.in_ok-reply.reply c.told.result c.in_ok-key.ensures.answer c.told.ensures c.in_ok-reply.ensures.does
+    entered_well c.args.world.now c.ask.new.self c.args.name c.in_ok-key.key c.in_ok-reply.reply c.told_value.result c.in_ok-key.ensures.answer c.told_value.ensures c.in_ok-reply.ensures.does

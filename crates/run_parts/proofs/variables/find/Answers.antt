@@ -1,4 +1,4 @@
-use Rattle.std.proofs.Common.{◌≡◌, None, Some, ap, sym, ◌∙◌}
+use Rattle.std.proofs.Common.{◌≡◌, Some, ap, sym, ◌∙◌}
 use Rattle.run_world.proofs.Adds.{variable_adds}
 use Rattle.run_parts.proofs.Lookups.{find_found}
 use Rattle.run_world.proofs.Parts.{short_at}

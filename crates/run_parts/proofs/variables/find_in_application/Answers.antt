@@ -25,4 +25,4 @@ pub returns-clause-does : goal.returns-clause-does
 returns-clause-does g c =
     let does = subst (λ (name : List ℕ). Doing g.W.World.reached g.W.World.replies told (λ place. ask place (step.Get name)) c.args.world.now c.ask.new.self (Ok c.in_ok-reply.reply))
     (c.in_ok-copy.ensures ∙ c.as_text.ensures.text) c.in_ok-reply.ensures.does in
-    find_asked g.W.World.variables (λ first w origin s h. (g.met.W.World.tells first w origin s h).0) c.args.world.now c.ask.new.self c.args.strict c.args.name.now c.in_ok-reply.reply c.told.result c.nowhere.result c.requires.nowhere c.told.ensures c.nowhere.ensures does
+    find_asked g.W.World.variables (λ first w origin s h. (g.met.W.World.tells first w origin s h).0) c.args.world.now c.ask.new.self c.args.strict c.args.name.now c.in_ok-reply.reply c.told_value.result c.nowhere.result c.requires.nowhere c.told_value.ensures c.nowhere.ensures does

@@ -39,4 +39,4 @@ returns-clause-does g c =
     ap (λ scopes. inner_found scopes c.args.name.now) (sym c.scopes.ensures) ∙ ap (inner_found c.scopes.result.now) (sym (c.as_str.ensures ∙ c.as_text.ensures.text)) ∙ sym c.in_default.ensures in
     let does = subst (λ (name : List ℕ). Doing g.W.World.reached g.W.World.replies told (λ place. ask place (step.Get name)) c.args.world.now c.ask.new.self (Ok c.in_ok-reply.reply))
     (c.in_ok-copy-2.ensures ∙ c.as_text-2.ensures.text) c.in_ok-reply.ensures.does in
-    look_up_asked g.W.World.variables (λ first w origin s h. (g.met.W.World.tells first w origin s h).0) c.args.world.now c.ask.new.self c.args.name.now c.in_ok-reply.reply c.told.result none c.told.ensures does
+    look_up_asked g.W.World.variables (λ first w origin s h. (g.met.W.World.tells first w origin s h).0) c.args.world.now c.ask.new.self c.args.name.now c.in_ok-reply.reply c.told_value.result none c.told_value.ensures does

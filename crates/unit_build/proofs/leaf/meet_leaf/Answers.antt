@@ -2,7 +2,6 @@ use Rattle.std.proofs.Common.{◌≡◌, rules, subst, sym}
 use Rattle.page_directives.specs.Faults.{in_order}
 use Rattle.unit_source.specs.Placed.{root_view}
 use Rattle.unit_words.specs.Kinds.{is_function_prefix}
-use Rattle.unit_words.specs.State.{faults_at}
 use Rattle.unit_words.specs.Values.{expression_faults}
 use Rattle.unit_words.specs.Walk.{leaf_met, nesting_faults}
 use Rattle.unit_judges.specs.Made.{here_made}

@@ -1,4 +1,4 @@
-use Rattle.std.proofs.Common.{◌≡◌, ◌++◌, drop}
+use Rattle.std.proofs.Common.{◌≡◌, ◌++◌}
 use Rattle.unit_judges.proofs.registered.Registered.new.Given as goal
 
 abbrev pub invariant-loop-directive : goal.invariant-loop-directive
