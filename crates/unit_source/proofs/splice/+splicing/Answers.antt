@@ -1,4 +1,4 @@
-use Rattle.std.proofs.Common.{◌≡◌, ◌∙◌, ◌-◌, IfOk, List, [], OnOk, ap, arith, length, map, rules, subst, sym}
+use Rattle.std.proofs.Common.{◌≡◌, ◌∙◌, ◌-◌, IfOk, List, ap, arith, length, map, rules, subst, sym}
 use Rattle.unit_source.specs.Files.{text_in}
 use Rattle.unit_source.specs.First.{brought_names, firsts_by, own_directives}
 use Rattle.unit_source.specs.InPlace.{InPlace}
