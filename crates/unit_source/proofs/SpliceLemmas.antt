@@ -1,5 +1,5 @@
 -- A file that is read with its includes in place.
-use Rattle.std.proofs.Common.{◌≡◌, ℕ, suc, List, ◌∷◌, ap, sym, ◌∙◌, append_assoc, length, Result, Ok, Err, OnOk}
+use Rattle.std.proofs.Common.{◌≡◌, ℕ, suc, List, ◌∷◌, ap, sym, ◌∙◌, append_assoc, length, Result, Ok, Err, IfOk, IsOkAnd}
 use Rattle.std.proofs.lemmas.List.{append-nil}
 use Rattle.pg_value.specs.declared.settings.PageSettings.{PageSettings}
 use Rattle.page_pieces.specs.declared.setting.BroughtPrefixes.{BroughtPrefixes}
@@ -43,7 +43,10 @@ file_end_gone files settings deep around chain path text old none =
 pub more_behind : (names : List (List ℕ)) (old : Gone) (file : Spliced) → behind_file (with_more names old) file ≡ behind_file old (with_names names file)
 more_behind names old file = ap (λ n. gone n file.going) (append_assoc old.names names file.names)
 
--- what holds in any case holds on success
-pub on_ok_always : {A E P : Type 0} (r : Result A E) → P → OnOk r P
-on_ok_always (Ok a) holds = holds
-on_ok_always (Err e) holds = tt
+-- what holds of an answer and of what it is made of, where it is made of nothing that failed
+pub on_both : {A B E : Type 0} (made : Result A E) (answer : Result B E) (P : A → Type 0) (Q : B → A → Type 0) (R : B → Type 0)
+    → ((b : B) (a : A) → P a → Q b a → R b) → IfOk made P → IfOk answer (λ b. IsOkAnd made (Q b)) → IfOk answer R
+on_both (Ok a) (Ok b) P Q R both p q = both b a p q
+on_both (Err e) (Ok b) P Q R both p q = absurd q
+on_both (Ok a) (Err e) P Q R both p q = tt
+on_both (Err f) (Err e) P Q R both p q = tt

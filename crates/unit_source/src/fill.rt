@@ -1,4 +1,4 @@
-ghost use Rattle.std.specs.Prelude.{◌≡◌, map, IfOk, OnOk};
+ghost use Rattle.std.specs.Prelude.{◌≡◌, map, IfOk, IsOkAnd, OnOk};
 ghost use Rattle.unit_source.specs.InPlace.{done, included};
 ghost use Rattle.unit_source.specs.Placed.{in_place, node_in_place};
 ghost use Rattle.unit_source.specs.ReadSplice.{found_of};
@@ -7,21 +7,22 @@ ghost use Rattle.unit_source.specs.ReadSteps.{filled};
 use crate::found::FoundNodes;
 use crate::placed::{PlacedInclude, PlacedNode, element_node, include_node};
 use crate::placing::add;
+use crate::second::Alone;
 use std::alloc::{AllocError, Global};
 use std::collections::VecDeque;
 
-// The nodes of a file with what was found at their include directives.
+// The nodes of a file with what was found at their include directives, where that didn't fail.
 #[inline(never)]
 pub(crate) fn fill_file(
     alloc: Global,
-    nodes: Vec<PlacedNode>,
-    found: VecDeque<FoundNodes>,
+    alone: Alone,
+    found: Result<VecDeque<FoundNodes>, AllocError>,
 ) -> Result<Vec<PlacedNode>, AllocError>
-    ensures { IfOk result (λ all. in_place all.items
-        ≡ (filled (in_place nodes.items) (map found_of found.items)).nodes) }
+    ensures { IfOk result (λ all. IsOkAnd found (λ found. in_place all.items
+        ≡ (filled (in_place alone.nodes.items) (map found_of found.items)).nodes)) }
 {
-    let mut found = found;
-    fill_nodes(alloc, nodes, &mut found)
+    let mut found = found?;
+    fill_nodes(alloc, alone.nodes, &mut found)
 }
 
 // The nodes with what was found at their include directives: `found` has an entry for each

@@ -22,10 +22,10 @@ use std::alloc::AllocError;
 use std::collections::VecDeque;
 
 // A file that is read: within what its includes are read, and what its include directives bring.
-#[derive(Drop)]
+#[derive(Clone, Copy)]
 pub(crate) struct InFile<'f> {
     within: Within<'f>,
-    brought: Brought,
+    brought: &'f Brought,
 }
 
 // Reads a file with its includes in place, within others and so many open elements.
@@ -58,10 +58,10 @@ pub(crate) fn read_file(
             chain: &longer,
             deep: within.deep - 1,
         },
-        brought: alone.brought,
+        brought: &alone.brought,
     };
-    let found = find_nodes(files, &file, around, &alone.nodes, progress)?;
-    fill_file(alloc, alone.nodes, found)
+    let found = find_nodes(files, &file, around, &alone.nodes, progress);
+    fill_file(alloc, alone, found)
 }
 
 // What the include directives among the nodes of a file come to, in reading order.
@@ -74,10 +74,10 @@ fn find_nodes(
     progress: &mut Progress,
 ) -> Result<VecDeque<FoundNodes>, AllocError>
     ensures found { IfOk result (λ found. (filled (in_place nodes.now) (map found_of found.items)).nodes
-        ≡ (nodes_read (reads (text_in files.old) file.now) file.now.brought around (in_place nodes.now)
+        ≡ (nodes_read (reads (text_in files.old) file.now) file.now.brought.now around (in_place nodes.now)
         progress.old.going).nodes) }
     ensures progress { OnOk result (progress.new
-        ≡ behind_file progress.old (nodes_read (reads (text_in files.old) file.now) file.now.brought around
+        ≡ behind_file progress.old (nodes_read (reads (text_in files.old) file.now) file.now.brought.now around
         (in_place nodes.now) progress.old.going)) }
     ensures files { files.new ≡ files.old }
 {
@@ -100,7 +100,7 @@ fn take_steps(
 ) -> Result<(), AllocError>
     ensures taken { OnOk result (taken_of found.new.items progress.new
         ≡ both_taken (taken_of found.old.items progress.old)
-        (taken (reads (text_in files.old) file.now) file.now.brought (map step_of steps.now)
+        (taken (reads (text_in files.old) file.now) file.now.brought.now (map step_of steps.now)
         progress.old.going)) }
     ensures files { files.new ≡ files.old }
 {
@@ -123,7 +123,7 @@ fn take_step(
 ) -> Result<(), AllocError>
     ensures taken { OnOk result (taken_of found.new.items progress.new
         ≡ both_taken (taken_of found.old.items progress.old)
-        (taken (reads (text_in files.old) file.now) file.now.brought (step_of step.now ∷ [])
+        (taken (reads (text_in files.old) file.now) file.now.brought.now (step_of step.now ∷ [])
         progress.old.going)) }
     ensures files { files.new ≡ files.old }
 {
@@ -132,7 +132,7 @@ fn take_step(
         Step::Includes(around, directive) => {
             let inner = enter(files, file, *around, directive, progress)?;
             push_found(found, inner)?;
-            progress.register_brought(&file.brought, directive.place().byte)
+            progress.register_brought(file.brought, directive.place().byte)
         }
     }
 }

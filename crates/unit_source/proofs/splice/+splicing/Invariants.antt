@@ -31,6 +31,6 @@ decreases-enter_within l = 9 * l.file.now.within.deep + 1
 abbrev pub invariant-take_steps-loop-step : goal.invariant-take_steps-loop-step
 invariant-take_steps-loop-step l = record {
   files : l.files ≡ l.fn.files;
-  taken : both_taken (taken_of l.found.items l.progress) (taken (reads (text_in l.fn.files) l.file) l.file.brought (map step_of (drop l.step-index l.steps)) l.progress.going)
-      ≡ both_taken (taken_of l.fn.found.items l.fn.progress) (taken (reads (text_in l.fn.files) l.file) l.file.brought (map step_of l.steps) l.fn.progress.going);
+  taken : both_taken (taken_of l.found.items l.progress) (taken (reads (text_in l.fn.files) l.file) l.file.brought.now (map step_of (drop l.step-index l.steps)) l.progress.going)
+      ≡ both_taken (taken_of l.fn.found.items l.fn.progress) (taken (reads (text_in l.fn.files) l.file) l.file.brought.now (map step_of l.steps) l.fn.progress.going);
 }
