@@ -24,7 +24,8 @@
 //! out it is 5.
 #![tactic(auto)]
 
-ghost use Rattle.std.specs.Prelude.{◌≡◌, ◌≢◌, ◌<◌, None, map, string_bytes};
+ghost use Rattle.std.specs.Prelude.{◌≡◌, ◌≢◌, ◌<◌, None, codes, false, map, string_bytes};
+ghost use Rattle.std.specs.Str.{bytes_eq};
 ghost use Rattle.pages_cli.specs.Words.{AsksNothing, first_of};
 ghost use Rattle.serve_words.specs.Words.{settings_asked};
 
@@ -130,6 +131,23 @@ fn run<N: Ledger, R: Threads + Wait + Sync>(
     ensures refused { AsksNothing (map string_bytes words.now) → result ≢ 5 → result ≡ 1 }
     ensures only_refused { result ≡ 1 → AsksNothing (map string_bytes words.now) }
 {
+    match first(words) {
+        "serve" => served(rt, threads, words),
+        _ => streamed::<N>(rt, words, blank),
+    }
+}
+
+// Runs a command over standard input and output. It isn't inlined, so that what those keep doesn't
+// stand on the stack of a server.
+#[inline(never)]
+fn streamed<N: Ledger>(rt: &HostRuntime, words: &[String], blank: Blank) -> u8
+    requires name { blank.name ≡ N.name }
+    requires parts { blank.parts ≡ N.parts }
+    requires some { 0 < N.parts }
+    requires other { bytes_eq (first_of (map string_bytes words.now)) (codes "serve") ≡ false }
+    ensures refused { AsksNothing (map string_bytes words.now) → result ≢ 5 → result ≡ 1 }
+    ensures only_refused { result ≡ 1 → AsksNothing (map string_bytes words.now) }
+{
     let alloc = rt.alloc();
     let mut source = ReadSource::new(rt.reader());
     let mut sink = WriteSink::new(io::writer(rt));
@@ -141,7 +159,6 @@ fn run<N: Ledger, R: Threads + Wait + Sync>(
         "load" => load(alloc, words, &mut sink, &mut steps),
         "preview" => preview_play(alloc, words, &mut source, &mut sink, &mut steps),
         "record" => play_record(alloc, words, &mut source, &mut sink, &mut clock, &mut steps),
-        "serve" => served(rt, threads, words),
         _ => play(alloc, words, &mut source, &mut sink, &mut clock, &mut steps),
     }
 }
