@@ -8,7 +8,7 @@ mod opening;
 mod script;
 mod word;
 
-pub use calls::{step, told};
+pub use calls::{script_told, step};
 pub use fresh_site::{played, session_id};
 pub use line::{entry_text, file_text, outcome_text, replied};
 pub use opening::{AMPLE, Unsound, opened};

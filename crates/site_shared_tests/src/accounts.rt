@@ -4,7 +4,7 @@ use crate::meeting::{Job, Watch};
 use crate::passes::site_after;
 use crate::visiting::Errand;
 use site_core::Site;
-use site_core_tests::{AMPLE, Word, opened, told};
+use site_core_tests::{AMPLE, Word, opened, script_told};
 use std::alloc::{AllocError, Global};
 use std::sync::Wait;
 use std::test::Fail;
@@ -61,8 +61,8 @@ fn both(alloc: Global, site: &mut Site<Word>, again: &mut Site<Word>) -> Result<
     let same = agreeing(alloc, again, site.history())?;
     let hits = hits(site.history());
     let count = site.len();
-    let first = told(alloc, site, PICTURE)?;
-    let second = told(alloc, again, PICTURE)?;
+    let first = script_told(alloc, site, PICTURE)?;
+    let second = script_told(alloc, again, PICTURE)?;
     Ok(format!(in alloc; "{count} {hits} {same}\n{first}{second}")?)
 }
 

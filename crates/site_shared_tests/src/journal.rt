@@ -3,7 +3,7 @@ use crate::visiting::Errand;
 use packed_entries::{History, OpRef, PackedEntry, ReplyRef};
 use pg_text::{BadPath, Failure, Text, resolve};
 use site_core::{Given, Site};
-use site_core_tests::{Word, put, replied, step, told};
+use site_core_tests::{Word, put, replied, script_told, step};
 use site_words::{Acted, AppStep, Op, Refusal};
 use std::alloc::{AllocError, Global};
 
@@ -12,7 +12,7 @@ pub const FIRST: &str = "0000000000000000ade0b876903df1a0e56a5d4028bd8653";
 
 /// Makes one session, one file, and a value that is kept for it, by five operations.
 pub fn prepare(alloc: Global, site: &mut Site<Word>) -> Result<(), Failure<BadPath>> {
-    told(
+    script_told(
         alloc,
         site,
         "0 publish - /a.jsp 1\n0 begin - 0\n0 fresh 0\n0 offer 0 /a.jsp\n0 end 0 -\n",
