@@ -233,15 +233,17 @@ fn include_page<W: World>(
             included_page(alloc, at, records, start, opened, world)
         }
         TargetParams::Own(own) => {
+            let Ok(()) = records.set_params_aside(alloc) else {
+                return Flow::Over(End::NoMemory);
+            };
             let params = Params::Before(own.as_slice(), at.seat.params());
             let start = PageStart {
                 program,
                 params: &params,
                 left,
             };
-            let aside = records.set_params_aside();
             let flow = included_page(alloc, at, records, start, opened, world);
-            records.put_params_back(aside);
+            records.put_params_back();
             flow
         }
     }

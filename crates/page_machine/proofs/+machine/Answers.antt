@@ -40,17 +40,16 @@ use Rattle.pg_value.specs.Value.{datum_of}
 use Rattle.pg_value.specs.declared.fault.RunFault.TheVariants as fault
 use Rattle.run_moves.proofs.Acts.{acted_as, acted_on, acted_short}
 use Rattle.run_moves.proofs.Behind.{acted_spent}
-use Rattle.run_moves.specs.At.{seat_at}
+use Rattle.run_moves.specs.At.{IsRecordsAt, seat_at}
 use Rattle.run_moves.specs.Landing.{failing}
 use Rattle.run_moves.specs.Opened.{open_of}
 use Rattle.run_moves.specs.declared.flow.End.TheVariants as ends
 use Rattle.run_moves.specs.declared.flow.Flow.TheVariants as flows
 use Rattle.run_parts.specs.Given.{given_by}
-use Rattle.run_parts.specs.Records.{AreParamsOf, IsRecordsOf}
+use Rattle.run_parts.specs.Records.{IsRecordsOf}
 use Rattle.run_world.specs.Params.{params_of}
 use Rattle.run_world.proofs.Knowing.{known_changed, known_done, serves_changed, serves_done}
 use Rattle.run_world.specs.Programs.{program_of}
-use Rattle.run_world.specs.declared.params.Params.{Before}
 use Rattle.run_world.specs.Seats.{call_of, export_of, params_at, seat_of}
 use Rattle.run_world.specs.Tags.{tag_of}
 use Rattle.std.proofs.Common.{Err, List, None, Ok, Some, [], ap, arith, length, refl, rules, subst, suc, sym, ◌+◌, ◌++◌, ◌<◌, ◌^◌, ◌∙◌, ◌≡◌, ◌≤◌}
@@ -414,7 +413,8 @@ pages::include_page-included_page-requires g t c κs within =
 
 pub pages::include_page-included_page-flow-requires : goal.pages::include_page-included_page-flow-requires
 pages::include_page-included_page-flow-requires g t c κs within =
-    let records = c.set_params_aside-aside.ensures.others c.args.at.now.served.now.request.now (params_at c.args.at.now.seat.now) (Before c.as_slice.result c.params-in-Own.result) c.requires.records in
+    let request = c.args.at.now.served.now.request.now in
+    let records = c.in-Ok.ensures.ok request c.as_slice.result c.params-in-Own.result (subst (λ ps. IsRecordsOf request ps c.args.records.now) (sym c.params-in-Own.ensures.found) c.requires.records) in
     search rules
 
 pub pages::include_page-returns-in-Same-clause-records : goal.pages::include_page-returns-in-Same-clause-records
@@ -428,12 +428,28 @@ pages::include_page-returns-in-Same-clause-stepped g t c =
     with_params seat c.args.at.now.cell.place (program_of c.args.page.program.now) c.args.page.left (c.args.at.now.pc + 1) o (params_for (page_run_of seat) c.args.page.params) (params_of c.params.result.now)
     (rw (c.in-Same.is, c.params.ensures.list) refl) c.args.world.now c.included_page.new.world (open_of c.included_page.new.opened) c.included_page.result c.included_page.ensures.stepped
 
-pub pages::include_page-returns-in-Own-clause-records : goal.pages::include_page-returns-in-Own-clause-records
-pages::include_page-returns-in-Own-clause-records g t c =
-    c.put_params_back.ensures c.args.at.now.served.now.request.now (params_at c.args.at.now.seat.now) _ (subst (AreParamsOf (params_at c.args.at.now.seat.now)) (sym c.set_params_aside-aside.ensures.aside) c.requires.records.params) c.included_page-flow.ensures.records
+pub pages::include_page-returns-in_default-clause-records : goal.pages::include_page-returns-in_default-clause-records
+pages::include_page-returns-in_default-clause-records g t c = subst (IsRecordsAt c.args.at.now) (sym c.in_default.ensures.err) c.requires.records
 
-pub pages::include_page-returns-in-Own-clause-stepped : goal.pages::include_page-returns-in-Own-clause-stepped
-pages::include_page-returns-in-Own-clause-stepped g t c =
+pub pages::include_page-returns-in_default-clause-stepped : goal.pages::include_page-returns-in_default-clause-stepped
+pages::include_page-returns-in_default-clause-stepped g t c =
+    let seat = seat_at c.args.at.now in
+    let o = open_of c.args.opened.now in
+    let program = program_of c.args.page.program.now in
+    let params = params_for (page_run_of seat) c.args.page.params in
+    acted_stepped seat (λ serving s. included_run c.args.at.now.cell.place program params c.args.page.left (c.args.at.now.pc + 1) s o) c.args.world.now c.args.world.now o (flows.Over ends.NoMemory)
+    (λ serving h.
+    acted_short (λ s. included_run c.args.at.now.cell.place program params c.args.page.left (c.args.at.now.pc + 1) s o) c.args.world.now o
+    (λ s. included_run_grows c.args.at.now.cell.place program params c.args.page.left (c.args.at.now.pc + 1) s o))
+
+pub pages::include_page-returns-in-Ok-clause-records : goal.pages::include_page-returns-in-Ok-clause-records
+pages::include_page-returns-in-Ok-clause-records g t c =
+    let request = c.args.at.now.served.now.request.now in
+    subst (λ ps. IsRecordsOf request ps c.put_params_back.new.self) c.params-in-Own.ensures.found
+    (c.put_params_back.ensures request c.as_slice.result c.params-in-Own.result c.included_page-flow.ensures.records)
+
+pub pages::include_page-returns-in-Ok-clause-stepped : goal.pages::include_page-returns-in-Ok-clause-stepped
+pages::include_page-returns-in-Ok-clause-stepped g t c =
     let seat = seat_at c.args.at.now in
     let o = open_of c.args.opened.now in
     with_params seat c.args.at.now.cell.place (program_of c.args.page.program.now) c.args.page.left (c.args.at.now.pc + 1) o (params_for (page_run_of seat) c.args.page.params) (c.as_slice.result.now ++ params_of c.params-in-Own.result.now)
