@@ -1,13 +1,15 @@
 // Includes and imports of other pages. In contracts `Changes` says what became of the response's
 // state, and `covered` that the request's promise still covers all that it may ask of the site.
 ghost use Rattle.std.specs.Prelude.{◌≡◌, ◌+◌, ◌<◌, ◌≤◌, ◌^◌, Err, OnErr, OnOk, ◌&&◌};
-ghost use Rattle.std.specs.Prelude.{is_none, length, not};
+ghost use Rattle.std.specs.Prelude.{is_none, length, not, take};
+ghost use Rattle.out_buffer.specs.Writer.{with_bodies};
 ghost use Rattle.page_code.specs.Ops.{address_with};
 ghost use Rattle.page_code.specs.declared.call.CallOut.TheVariants as call;
 ghost use Rattle.page_machine.specs.Pages.{include_found, included_run, params_for};
 ghost use Rattle.page_machine.specs.Turn.{Ran, Stepped};
 ghost use Rattle.page_meaning.specs.Bodies.{put_text};
 ghost use Rattle.page_meaning.specs.Meaning.{flush_if};
+ghost use Rattle.page_meaning.specs.State.{in_scopes, in_writer};
 ghost use Rattle.page_table.specs.Act.{called_out};
 ghost use Rattle.page_table.specs.Landing.{land};
 ghost use Rattle.page_table.specs.Move.{On};
@@ -25,6 +27,7 @@ ghost use Rattle.run_world.specs.Params.{params_of};
 ghost use Rattle.run_world.specs.Known.{Known, ServesSo};
 ghost use Rattle.run_world.specs.Part.{Changes, Doing};
 ghost use Rattle.run_world.specs.Programs.{program_of};
+ghost use Rattle.scopes.specs.Scopes.{with_frame};
 
 use crate::targets::{Target, TargetParams, find_target, import_target};
 use crate::turn::{CodeStart, run_code};
@@ -53,6 +56,7 @@ struct TargetPage<'a> {
 }
 
 // Commits what is buffered, where that is asked. Where memory runs out, the state is as before.
+#[inline(never)]
 fn flush_if<W: World>(flush: bool, world: &mut W) -> Result<(), AllocError>
     requires covered { W.covered world.old }
     ensures covered { W.covered world.new }
@@ -249,9 +253,47 @@ fn include_page<W: World>(
     }
 }
 
+// Puts an empty frame behind the others, and makes it current.
+#[inline(never)]
+fn push_frame<W: World>(world: &mut W) -> Result<(), AllocError>
+    requires covered { W.covered world.old }
+    ensures covered { W.covered world.new }
+    ensures ok { OnOk result (Changes W.reached (λ s. in_scopes (with_frame s.scopes) s) world.old world.new) }
+    ensures err { OnErr result (Changes W.reached (λ s. s) world.old world.new) }
+    ensures replies { W.replies world.new ≡ W.replies world.old }
+{
+    world.push_frame()
+}
+
+// Drops the frames behind the first so many, and makes one of these current.
+#[inline(never)]
+fn go_back<W: World>(frames: u64, current: u32, world: &mut W)
+    requires covered { W.covered world.old }
+    requires there { (current < frames) × (frames ≤ length (W.variables world.old).frames) }
+    ensures covered { W.covered world.new }
+    ensures back { Changes W.reached (λ s.
+        in_scopes (record s.scopes { frames = take frames s.scopes.frames; current = current }) s)
+        world.old world.new }
+    ensures replies { W.replies world.new ≡ W.replies world.old }
+{
+    world.go_back(frames, current);
+}
+
+// Drops the kept bodies inside the outermost so many.
+#[inline(never)]
+fn drop_bodies<W: World>(left: usize, world: &mut W)
+    requires covered { W.covered world.old }
+    ensures covered { W.covered world.new }
+    ensures left { Changes W.reached (λ s. in_writer (with_bodies left s.writer) s) world.old world.new }
+    ensures replies { W.replies world.new ≡ W.replies world.old }
+{
+    world.drop_bodies(left);
+}
+
 // Runs an included page in a frame of its own. Its fault stands at the include, and a redirect ends
 // it alone.
 #[cycle(machine)]
+#[inline(never)]
 fn included_page<W: World>(
     alloc: Global,
     at: &At,
@@ -275,21 +317,21 @@ fn included_page<W: World>(
     let bodies = world.bodies();
     let frame = world.frame();
     let frames = world.scopes().frames();
-    let Ok(()) = world.push_frame() else {
+    let Ok(()) = push_frame(world) else {
         return Flow::Over(End::NoMemory);
     };
     match enter_page(alloc, at.served, start, records, world) {
         End::Normal => {
-            world.go_back(frames, frame);
+            go_back(frames, frame, world);
             Flow::Go(at.pc + 1)
         }
         End::Raised { fault, .. } => {
-            world.go_back(frames, frame);
+            go_back(frames, frame, world);
             throw(alloc, fault, &at.cell.place, opened, world)
         }
         End::Redirect(_) => {
-            world.drop_bodies(bodies);
-            world.go_back(frames, frame);
+            drop_bodies(bodies, world);
+            go_back(frames, frame, world);
             Flow::Go(at.pc + 1)
         }
         end => Flow::Over(end),
@@ -306,6 +348,7 @@ fn starts_session<W: World>(program: &Program, world: &W) -> bool
 }
 
 // Makes a session, where a page's run starts one.
+#[inline(never)]
 fn make_session<W: World>(program: &Program, world: &mut W) -> Result<(), Failure<RunFault>>
     requires covered { W.covered world.old }
     ensures covered { W.covered world.new }

@@ -5,13 +5,15 @@ ghost use Rattle.page_code.specs.Shapes.{empty_shape};
 ghost use Rattle.page_code.specs.Tables.{IsCellAt};
 ghost use Rattle.page_code.specs.declared.instr.Instr.TheVariants as instr;
 ghost use Rattle.page_machine.specs.Turn.{CallBegins, CodeRuns, Ran, SeatHolds, StandsInCode, Stepped};
-ghost use Rattle.page_table.specs.Act.{called_out, move_of};
+ghost use Rattle.page_table.specs.Act.{act, called_out, move_of};
 ghost use Rattle.page_table.specs.Checked.{SeatFits};
-ghost use Rattle.page_table.specs.Finds.{CallFinds};
+ghost use Rattle.page_table.specs.Finds.{CallFinds, Finds};
 ghost use Rattle.page_table.specs.Seat.{code_of};
+ghost use Rattle.run_moves.specs.Acted.{ActedFor};
 ghost use Rattle.run_moves.specs.At.{IsRecordsAt, seat_at};
 ghost use Rattle.run_moves.specs.Opened.{open_of};
 ghost use Rattle.run_moves.specs.Quick.{is_quick};
+ghost use Rattle.run_moves.specs.Simple.{IsSimple};
 ghost use Rattle.run_parts.specs.Records.{IsRecordsOf};
 ghost use Rattle.run_world.specs.Known.{Known, ServesSo};
 ghost use Rattle.run_world.specs.Seats.{params_at, seat_of};
@@ -113,7 +115,7 @@ fn frequent_of<'a>(cell: &CellRef<'a>) -> Option<&'a Op>
 
 // Does the instruction that a run is at, with the run that it calls, if it calls one.
 #[cycle(machine)]
-#[inline(never)]
+#[inline(always)]
 fn turn<W: World>(
     alloc: Global,
     at: &At,
@@ -138,13 +140,38 @@ fn turn<W: World>(
 {
     match at.cell.instr {
         Instr::CallOut(what) => call_out(alloc, at, records, what, opened, world),
-        _ => step(alloc, at, records, opened, world),
+        _ => step_alone(alloc, at, records, opened, world),
     }
+}
+
+// Does an instruction that calls nothing, so that what this takes of the stack stands under no call.
+#[inline(never)]
+fn step_alone<W: World>(
+    alloc: Global,
+    at: &At,
+    records: &mut RequestRecords,
+    opened: &mut Open,
+    world: &mut W,
+) -> Flow
+    requires covered { W.covered world.old }
+    requires records { IsRecordsAt at.now records.old }
+    requires within { length (code_of (seat_at at.now)) < 2 ^ 64 }
+    requires finds { Finds (length (code_of (seat_at at.now))) at.now.pc (W.kept world.old)
+        (open_of opened.old) at.now.cell.instr.now }
+    requires simple { IsSimple at.now.cell.instr.now }
+    ensures covered { W.covered world.new }
+    ensures records { IsRecordsAt at.now records.new }
+    ensures acted { ActedFor W.reached W.replies (ServesSo W.stores at.now.served.now) (λ serving s.
+        act serving (seat_at at.now) at.now.cell.place at.now.pc s (open_of opened.old)
+        at.now.cell.instr.now) world.old world.new (open_of opened.new) result }
+    ensures left { opened.new.left ≡ opened.old.left }
+{
+    step(alloc, at, records, opened, world)
 }
 
 // Does one call, with the run that it goes into.
 #[cycle(machine)]
-#[inline(never)]
+#[inline(always)]
 fn call_out<W: World>(
     alloc: Global,
     at: &At,

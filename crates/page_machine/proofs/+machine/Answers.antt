@@ -246,8 +246,8 @@ turn::turn-returns-in-CallOut-clause-stepped g t c =
     stepped_as seat (λ serving s. move_of serving seat c.args.at.now.pc s o) (λ serving s. called_out serving seat cell.place (c.args.at.now.pc + 1) c.in-CallOut.what s o) c.args.world.now c.call_out.new.world
     (open_of c.call_out.new.opened) c.call_out.result (λ serving h s. move_is serving seat c.args.at.now.pc s o cell (instr.CallOut c.in-CallOut.what) c.requires.cell.there c.in-CallOut.is) c.call_out.ensures.stepped
 
-pub turn::turn-step-requires : goal.turn::turn-step-requires
-turn::turn-step-requires g t c =
+pub turn::turn-step_alone-requires : goal.turn::turn-step_alone-requires
+turn::turn-step_alone-requires g t c =
     let seat = seat_at c.args.at.now in
     let o = open_of c.args.opened.now in
     let cell = made_cell c.requires.cell.shape c.args.at.now.cell.place c.args.at.now.cell.instr.now in
@@ -260,10 +260,10 @@ turn::turn-returns-in_default-clause-stepped g t c =
     let seat = seat_at c.args.at.now in
     let o = open_of c.args.opened.now in
     let cell = made_cell c.requires.cell.shape c.args.at.now.cell.place c.args.at.now.cell.instr.now in
-    acted_stepped seat (λ serving s. move_of serving seat c.args.at.now.pc s o) c.args.world.now c.step.new.world (open_of c.step.new.opened) c.step.result
+    acted_stepped seat (λ serving s. move_of serving seat c.args.at.now.pc s o) c.args.world.now c.step_alone.new.world (open_of c.step_alone.new.opened) c.step_alone.result
     (λ serving h.
-    acted_as (λ s. move_of serving seat c.args.at.now.pc s o) (λ s. act serving seat cell.place c.args.at.now.pc s o cell.instr) c.args.world.now c.step.new.world (open_of c.step.new.opened) c.step.result
-    (λ s. move_is serving seat c.args.at.now.pc s o cell cell.instr c.requires.cell.there refl) (c.step.ensures.acted.for serving h))
+    acted_as (λ s. move_of serving seat c.args.at.now.pc s o) (λ s. act serving seat cell.place c.args.at.now.pc s o cell.instr) c.args.world.now c.step_alone.new.world (open_of c.step_alone.new.opened) c.step_alone.result
+    (λ s. move_is serving seat c.args.at.now.pc s o cell cell.instr c.requires.cell.there refl) (c.step_alone.ensures.acted.for serving h))
 
 -- a call
 
@@ -326,16 +326,16 @@ pages::included_page-returns-in_default-clause-stepped g t c =
     let seat = seat_at c.args.at.now in
     let o = open_of c.args.opened.now in
     let program = program_of c.args.start.program.now in
-    acted_stepped seat (λ serving s. included_run c.args.at.now.cell.place program (params_of c.args.start.params.now) c.args.start.left (c.args.at.now.pc + 1) s o) c.args.world.now c.push_frame.new.self o (flows.Over ends.NoMemory)
+    acted_stepped seat (λ serving s. included_run c.args.at.now.cell.place program (params_of c.args.start.params.now) c.args.start.left (c.args.at.now.pc + 1) s o) c.args.world.now c.push_frame.new.world o (flows.Over ends.NoMemory)
     (λ serving h.
-    acted_spent (λ s. included_run c.args.at.now.cell.place program (params_of c.args.start.params.now) c.args.start.left (c.args.at.now.pc + 1) s o) c.args.world.now c.push_frame.new.self o
+    acted_spent (λ s. included_run c.args.at.now.cell.place program (params_of c.args.start.params.now) c.args.start.left (c.args.at.now.pc + 1) s o) c.args.world.now c.push_frame.new.world o
     (λ s. included_run_grows c.args.at.now.cell.place program (params_of c.args.start.params.now) c.args.start.left (c.args.at.now.pc + 1) s o) c.in_default.ensures.err c.push_frame.ensures.replies)
 
 pub pages::included_page-enter_page-requires : goal.pages::included_page-enter_page-requires
 pages::included_page-enter_page-requires g t c κs within =
     let laws = g.met.W.World in
     let counted = counted_so (g.W.World.variables c.args.world.now) c.scopes.result.now c.frames-frames.result c.scopes.ensures c.frames-frames.ensures in
-    let known = included_known g.W.World.replies laws.stores_on laws.again laws.tells c.args.at.now.served.now (program_of c.args.start.program.now) (params_of c.args.start.params.now) c.args.start.left c.frame-frame.result c.frames-frames.result c.args.world.now c.push_frame.new.self c.args.world.now
+    let known = included_known g.W.World.replies laws.stores_on laws.again laws.tells c.args.at.now.served.now (program_of c.args.start.program.now) (params_of c.args.start.params.now) c.args.start.left c.frame-frame.result c.frames-frames.result c.args.world.now c.push_frame.new.world c.args.world.now
     c.requires.known c.in-Ok.ensures.ok c.push_frame.ensures.replies c.frame-frame.ensures.current counted in
     search rules
 
@@ -343,7 +343,7 @@ pub pages::included_page-go_back-requires : goal.pages::included_page-go_back-re
 pages::included_page-go_back-requires g t c =
     let laws = g.met.W.World in
     let counted = counted_so (g.W.World.variables c.args.world.now) c.scopes.result.now c.frames-frames.result c.scopes.ensures c.frames-frames.ensures in
-    let room = included_room g.W.World.replies laws.stores_on laws.again laws.tells c.args.at.now.served.now (program_of c.args.start.program.now) (params_of c.args.start.params.now) c.args.start.left c.frame-frame.result c.frames-frames.result c.args.world.now c.push_frame.new.self c.enter_page.new.world
+    let room = included_room g.W.World.replies laws.stores_on laws.again laws.tells c.args.at.now.served.now (program_of c.args.start.program.now) (params_of c.args.start.params.now) c.args.start.left c.frame-frame.result c.frames-frames.result c.args.world.now c.push_frame.new.world c.enter_page.new.world
     c.requires.known c.in-Ok.ensures.ok c.push_frame.ensures.replies c.frame-frame.ensures.current counted ends.Normal (λ x. Well tt x) normal_is (λ n t h. h) c.in-Normal.ensures.ran in
     let there : c.frame-frame.result < c.frames-frames.result = omega (arith, c.frame-frame.ensures.there, counted) in
     search rules
@@ -352,7 +352,7 @@ pub pages::included_page-go_back-requires-in-Raised : goal.pages::included_page-
 pages::included_page-go_back-requires-in-Raised g t c =
     let laws = g.met.W.World in
     let counted = counted_so (g.W.World.variables c.args.world.now) c.scopes.result.now c.frames-frames.result c.scopes.ensures c.frames-frames.ensures in
-    let room = included_room g.W.World.replies laws.stores_on laws.again laws.tells c.args.at.now.served.now (program_of c.args.start.program.now) (params_of c.args.start.params.now) c.args.start.left c.frame-frame.result c.frames-frames.result c.args.world.now c.push_frame.new.self c.enter_page.new.world
+    let room = included_room g.W.World.replies laws.stores_on laws.again laws.tells c.args.at.now.served.now (program_of c.args.start.program.now) (params_of c.args.start.params.now) c.args.start.left c.frame-frame.result c.frames-frames.result c.args.world.now c.push_frame.new.world c.enter_page.new.world
     c.requires.known c.in-Ok.ensures.ok c.push_frame.ensures.replies c.frame-frame.ensures.current counted (ends.Raised c.in-Raised.fault c.in-Raised.place) (λ x. Raised c.in-Raised.fault c.in-Raised.place x) (raised_is c.in-Raised.fault c.in-Raised.place) (λ n t h. h) c.in-Raised.ensures.ran in
     let there : c.frame-frame.result < c.frames-frames.result = omega (arith, c.frame-frame.ensures.there, counted) in
     search rules
@@ -361,8 +361,8 @@ pub pages::included_page-go_back-requires-in-Redirect : goal.pages::included_pag
 pages::included_page-go_back-requires-in-Redirect g t c =
     let laws = g.met.W.World in
     let counted = counted_so (g.W.World.variables c.args.world.now) c.scopes.result.now c.frames-frames.result c.scopes.ensures c.frames-frames.ensures in
-    let room = included_left g.W.World.replies laws.stores_on laws.again laws.tells c.args.at.now.served.now (program_of c.args.start.program.now) (params_of c.args.start.params.now) c.args.start.left c.frame-frame.result c.frames-frames.result c.args.world.now c.push_frame.new.self c.enter_page.new.world
-    c.requires.known c.in-Ok.ensures.ok c.push_frame.ensures.replies c.frame-frame.ensures.current counted c.in-Redirect.field-0 c.bodies-bodies.result c.drop_bodies.new.self c.in-Redirect.ensures.ran c.drop_bodies.ensures.left in
+    let room = included_left g.W.World.replies laws.stores_on laws.again laws.tells c.args.at.now.served.now (program_of c.args.start.program.now) (params_of c.args.start.params.now) c.args.start.left c.frame-frame.result c.frames-frames.result c.args.world.now c.push_frame.new.world c.enter_page.new.world
+    c.requires.known c.in-Ok.ensures.ok c.push_frame.ensures.replies c.frame-frame.ensures.current counted c.in-Redirect.field-0 c.bodies-bodies.result c.drop_bodies.new.world c.in-Redirect.ensures.ran c.drop_bodies.ensures.left in
     let there : c.frame-frame.result < c.frames-frames.result = omega (arith, c.frame-frame.ensures.there, counted) in
     search rules
 
@@ -371,18 +371,18 @@ pages::included_page-returns-in-Normal-clause-stepped g t c =
     let laws = g.met.W.World in
     let counted = counted_so (g.W.World.variables c.args.world.now) c.scopes.result.now c.frames-frames.result c.scopes.ensures c.frames-frames.ensures in
     let seat = seat_at c.args.at.now in
-    included_on g.W.World.replies laws.stores_on laws.again laws.tells c.args.at.now.served.now (program_of c.args.start.program.now) (params_of c.args.start.params.now) c.args.start.left c.frame-frame.result c.frames-frames.result c.args.world.now c.push_frame.new.self c.enter_page.new.world
+    included_on g.W.World.replies laws.stores_on laws.again laws.tells c.args.at.now.served.now (program_of c.args.start.program.now) (params_of c.args.start.params.now) c.args.start.left c.frame-frame.result c.frames-frames.result c.args.world.now c.push_frame.new.world c.enter_page.new.world
     c.requires.known c.in-Ok.ensures.ok c.push_frame.ensures.replies c.frame-frame.ensures.current counted c.args.at.now.cell.place (c.args.at.now.pc + 1) (open_of c.args.opened.now) seat
-    c.go_back.new.self c.in-Normal.ensures.ran c.go_back.ensures.back c.go_back.ensures.replies
+    c.go_back.new.world c.in-Normal.ensures.ran c.go_back.ensures.back c.go_back.ensures.replies
 
 pub pages::included_page-returns-in-Raised-clause-stepped : goal.pages::included_page-returns-in-Raised-clause-stepped
 pages::included_page-returns-in-Raised-clause-stepped g t c =
     let laws = g.met.W.World in
     let counted = counted_so (g.W.World.variables c.args.world.now) c.scopes.result.now c.frames-frames.result c.scopes.ensures c.frames-frames.ensures in
     let seat = seat_at c.args.at.now in
-    included_thrown g.W.World.replies laws.stores_on laws.again laws.tells c.args.at.now.served.now (program_of c.args.start.program.now) (params_of c.args.start.params.now) c.args.start.left c.frame-frame.result c.frames-frames.result c.args.world.now c.push_frame.new.self c.enter_page.new.world
+    included_thrown g.W.World.replies laws.stores_on laws.again laws.tells c.args.at.now.served.now (program_of c.args.start.program.now) (params_of c.args.start.params.now) c.args.start.left c.frame-frame.result c.frames-frames.result c.args.world.now c.push_frame.new.world c.enter_page.new.world
     c.requires.known c.in-Ok.ensures.ok c.push_frame.ensures.replies c.frame-frame.ensures.current counted c.args.at.now.cell.place (c.args.at.now.pc + 1) (open_of c.args.opened.now) seat
-    c.in-Raised.fault c.in-Raised.place c.go_back-in-Raised.new.self c.throw.new.world (open_of c.throw.new.opened) c.throw.result c.in-Raised.ensures.ran c.go_back-in-Raised.ensures.back c.go_back-in-Raised.ensures.replies
+    c.in-Raised.fault c.in-Raised.place c.go_back-in-Raised.new.world c.throw.new.world (open_of c.throw.new.opened) c.throw.result c.in-Raised.ensures.ran c.go_back-in-Raised.ensures.back c.go_back-in-Raised.ensures.replies
     c.throw.ensures.acted
 
 pub pages::included_page-returns-in-Redirect-clause-stepped : goal.pages::included_page-returns-in-Redirect-clause-stepped
@@ -390,9 +390,9 @@ pages::included_page-returns-in-Redirect-clause-stepped g t c =
     let laws = g.met.W.World in
     let counted = counted_so (g.W.World.variables c.args.world.now) c.scopes.result.now c.frames-frames.result c.scopes.ensures c.frames-frames.ensures in
     let seat = seat_at c.args.at.now in
-    included_redirected g.W.World.replies laws.stores_on laws.again laws.tells c.args.at.now.served.now (program_of c.args.start.program.now) (params_of c.args.start.params.now) c.args.start.left c.frame-frame.result c.frames-frames.result c.args.world.now c.push_frame.new.self c.enter_page.new.world
+    included_redirected g.W.World.replies laws.stores_on laws.again laws.tells c.args.at.now.served.now (program_of c.args.start.program.now) (params_of c.args.start.params.now) c.args.start.left c.frame-frame.result c.frames-frames.result c.args.world.now c.push_frame.new.world c.enter_page.new.world
     c.requires.known c.in-Ok.ensures.ok c.push_frame.ensures.replies c.frame-frame.ensures.current counted c.args.at.now.cell.place (c.args.at.now.pc + 1) (open_of c.args.opened.now) seat
-    c.in-Redirect.field-0 c.bodies-bodies.result c.drop_bodies.new.self c.go_back-in-Redirect.new.self c.bodies-bodies.ensures c.in-Redirect.ensures.ran c.drop_bodies.ensures.left c.drop_bodies.ensures.replies
+    c.in-Redirect.field-0 c.bodies-bodies.result c.drop_bodies.new.world c.go_back-in-Redirect.new.world c.bodies-bodies.ensures c.in-Redirect.ensures.ran c.drop_bodies.ensures.left c.drop_bodies.ensures.replies
     c.go_back-in-Redirect.ensures.back c.go_back-in-Redirect.ensures.replies
 
 pub pages::included_page-returns-in_default-enter_page-clause-stepped : goal.pages::included_page-returns-in_default-enter_page-clause-stepped
@@ -400,7 +400,7 @@ pages::included_page-returns-in_default-enter_page-clause-stepped g t c =
     let laws = g.met.W.World in
     let counted = counted_so (g.W.World.variables c.args.world.now) c.scopes.result.now c.frames-frames.result c.scopes.ensures c.frames-frames.ensures in
     let seat = seat_at c.args.at.now in
-    included_over g.W.World.replies laws.stores_on laws.again laws.tells c.args.at.now.served.now (program_of c.args.start.program.now) (params_of c.args.start.params.now) c.args.start.left c.frame-frame.result c.frames-frames.result c.args.world.now c.push_frame.new.self c.enter_page.new.world
+    included_over g.W.World.replies laws.stores_on laws.again laws.tells c.args.at.now.served.now (program_of c.args.start.program.now) (params_of c.args.start.params.now) c.args.start.left c.frame-frame.result c.frames-frames.result c.args.world.now c.push_frame.new.world c.enter_page.new.world
     c.requires.known c.in-Ok.ensures.ok c.push_frame.ensures.replies c.frame-frame.ensures.current counted c.args.at.now.cell.place (c.args.at.now.pc + 1) (open_of c.args.opened.now) seat
     c.enter_page.result (λ l e. c.in_default-enter_page.not-Redirect l e) (λ e. c.in_default-enter_page.not-Normal e) (λ f p e. c.in_default-enter_page.not-Raised f p e) c.enter_page.ensures.ran
 
