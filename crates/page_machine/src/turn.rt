@@ -171,7 +171,7 @@ fn step_alone<W: World>(
 
 // Does one call, with the run that it goes into.
 #[cycle(machine)]
-#[inline(always)]
+#[inline(never)]
 fn call_out<W: World>(
     alloc: Global,
     at: &At,
