@@ -170,6 +170,7 @@ fn passes_of(settings: &Settings) -> u8
 }
 
 // The site: it has no files.
+#[inline(never)]
 fn site_of(alloc: Global, settings: &Settings) -> Result<Site<Made>, AllocError>
     requires { settings.now.workers + count_of settings.now.preview_port ≤ 63 }
     ensures rest { IfOk result (λ site. AllRest site.opening site.history) }

@@ -10,6 +10,7 @@ use std::alloc::Global;
 
 /// The site with which the next round is served: the one that goes on once the journal is written,
 /// or this one as it is where that failed.
+#[inline(never)]
 pub fn onward<J: Sink>(alloc: Global, site: Site<Made>, journals: &mut J) -> Site<Made>
     requires { AllRest site.opening site.history }
     ensures goes_on { IsOnward needs_at site result (J.taken journals.old) (J.taken journals.new)

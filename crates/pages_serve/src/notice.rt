@@ -14,6 +14,7 @@ const COUNTER_REQUEST: u64 = 333;
 
 /// Says where the site is, how long its journal lasts, and that no seed was given if that is so; or
 /// nothing where memory runs out.
+#[inline(never)]
 pub(crate) fn announce<K: Sink>(alloc: Global, settings: &Settings, limit: u64, notices: &mut K) {
     if let Ok(line) = line(alloc, settings, limit) {
         write(notices, &mut false, line.as_bytes());
