@@ -43,9 +43,10 @@ pub same_params : (run : Run) (address : List ℕ) (given : List Value) → is_s
 same_params run address [] none e = both_empty (params_in (unwrap_or (query_of address) [])) [] run.params (no_query (query_of address) none) refl
 same_params run address (value ∷ rest) none e = absurd (omega (arith, e))
 
--- an included page runs with the same parameters under another name
+-- an included page is the same, with the same parameters, under other names
 module _ {W : Type 0} {reached : W → Origin → W → State → Type 0} {replies : W → List Answer} {serves : W → Serving → Type 0} where
-  pub with_params : (seat : Seat) (place : Place) (program : Program) (left to : ℕ) (o : Open) (params others : List Param) → params ≡ others → (old new : W) (o2 : Open) (flow : Flow)
-      → Stepped reached replies serves seat (λ serving s. included_run place program others left to s o) old new o2 flow → Stepped reached replies serves seat (λ serving s. included_run place program params left to s o) old new o2 flow
-  with_params seat place program left to o params others same old new o2 flow stepped =
-      subst (λ ps. Stepped reached replies serves seat (λ serving s. included_run place program ps left to s o) old new o2 flow) (sym same) stepped
+  pub with_params : (seat : Seat) (place : Place) (program shown : Program) → shown ≡ program → (left to : ℕ) (o : Open) (params others : List Param) → params ≡ others → (old new : W) (o2 : Open) (flow : Flow)
+      → Stepped reached replies serves seat (λ serving s. included_run place shown others left to s o) old new o2 flow → Stepped reached replies serves seat (λ serving s. included_run place program params left to s o) old new o2 flow
+  with_params seat place program shown this left to o params others same old new o2 flow stepped =
+      subst (λ p. Stepped reached replies serves seat (λ serving s. included_run place p params left to s o) old new o2 flow) this
+      (subst (λ ps. Stepped reached replies serves seat (λ serving s. included_run place shown ps left to s o) old new o2 flow) (sym same) stepped)

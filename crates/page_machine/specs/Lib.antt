@@ -1,3 +1,4 @@
+pub mod Found
 pub mod Pages
 pub mod Run
 pub mod Turn

@@ -3,6 +3,7 @@
 
 mod asked_page;
 mod calls;
+mod found;
 mod pages;
 mod running;
 mod targets;

@@ -2,22 +2,19 @@
 // state, and `covered` that the request's promise still covers all that it may ask of the site.
 ghost use Rattle.std.specs.Prelude.{◌≡◌, ◌+◌, ◌<◌, ◌≤◌, ◌^◌, Err, OnErr, OnOk, ◌&&◌};
 ghost use Rattle.std.specs.Prelude.{is_none, length, not, take};
+ghost use Rattle.std.specs.Arc.{arc_value};
 ghost use Rattle.out_buffer.specs.Writer.{with_bodies};
 ghost use Rattle.page_code.specs.Ops.{address_with};
 ghost use Rattle.page_code.specs.declared.call.CallOut.TheVariants as call;
 ghost use Rattle.page_machine.specs.Pages.{include_found, included_run, params_for};
 ghost use Rattle.page_machine.specs.Turn.{Ran, Stepped};
-ghost use Rattle.page_meaning.specs.Bodies.{put_text};
 ghost use Rattle.page_meaning.specs.Meaning.{flush_if};
 ghost use Rattle.page_meaning.specs.State.{in_scopes, in_writer};
 ghost use Rattle.page_table.specs.Act.{called_out};
-ghost use Rattle.page_table.specs.Landing.{land};
-ghost use Rattle.page_table.specs.Move.{On};
 ghost use Rattle.page_table.specs.Pages.{page_begun};
 ghost use Rattle.page_table.specs.Runs.{PageRuns};
 ghost use Rattle.page_table.specs.Seat.{page_run_of};
 ghost use Rattle.pg_text.specs.declared.failure.Failure.TheVariants as failure;
-ghost use Rattle.run_moves.specs.Acted.{Acted};
 ghost use Rattle.run_moves.specs.At.{IsRecordsAt, seat_at};
 ghost use Rattle.run_moves.specs.Opened.{open_of};
 ghost use Rattle.run_moves.specs.declared.flow.End.TheVariants as end;
@@ -29,14 +26,14 @@ ghost use Rattle.run_world.specs.Part.{Changes, Doing};
 ghost use Rattle.run_world.specs.Programs.{program_of};
 ghost use Rattle.scopes.specs.Scopes.{with_frame};
 
+use crate::found::{Included, TargetPage, included_at};
 use crate::targets::{Target, TargetParams, find_target, import_target};
 use crate::turn::{CodeStart, run_code};
-use pg_text::{Failure, Text};
+use pg_text::Failure;
 use pg_value::RunFault;
 use run_moves::{At, End, Flow, Open, fail, throw};
 use run_parts::RequestRecords;
 use run_world::{Params, Program, Seat, Served, World, know_tags};
-use site_words::Paged;
 use std::alloc::{AllocError, Global};
 
 /// A page that begins to run, with its parameters and so many levels left below it.
@@ -45,14 +42,6 @@ pub(crate) struct PageStart<'a> {
     pub program: &'a Program,
     pub params: &'a Params<'a>,
     pub left: u32,
-}
-
-// A page that a target names, with its parameters and so many levels left below it.
-#[derive(Drop)]
-struct TargetPage<'a> {
-    program: &'a Program,
-    params: TargetParams,
-    left: u32,
 }
 
 // Commits what is buffered, where that is asked. Where memory runs out, the state is as before.
@@ -130,6 +119,7 @@ pub(crate) fn import_call<W: World>(
 
 // Includes a target, one level deeper: X17, then what stands at its path.
 #[cycle(machine)]
+#[inline(always)]
 fn include<W: World>(
     alloc: Global,
     at: &At,
@@ -151,62 +141,21 @@ fn include<W: World>(
         ≡ world.old) }
     ensures left { opened.new.left ≡ opened.old.left }
 {
-    let Target { path, params } = match found {
-        Ok(target) => target,
-        Err(failed) => return fail(alloc, failed, &at.cell.place, opened, world),
-    };
-    let Some(left) = opened.left.checked_sub(1) else {
-        return throw(alloc, RunFault::TooDeep, &at.cell.place, opened, world);
-    };
-    let paged = match world.page(&path) {
-        Ok(paged) => paged,
-        Err(failed) => return fail(alloc, failed, &at.cell.place, opened, world),
-    };
-    match paged {
-        Paged::Page(program) => {
-            let page = TargetPage {
-                program: &program,
-                params,
-                left,
-            };
-            include_page(alloc, at, records, page, opened, world)
-        }
-        Paged::Plain(text) => include_text(alloc, at, &text, opened, world),
-        Paged::Absent => Flow::Go(at.pc + 1),
-        Paged::Bad(_) => Flow::Go(at.pc + 1),
-    }
-}
-
-// Includes a file that is no page.
-fn include_text<W: World>(
-    alloc: Global,
-    at: &At,
-    text: &Text,
-    opened: &mut Open,
-    world: &mut W,
-) -> Flow
-    requires covered { W.covered world.old }
-    requires within { at.now.pc + 1 < 2 ^ 64 }
-    ensures covered { W.covered world.new }
-    ensures acted { Acted W.reached W.replies
-        (λ s. On (land (at.now.pc + 1) (λ u. (open_of opened.old).stack) (open_of opened.old)
-        (put_text at.now.cell.place text.now s))) world.old world.new (open_of opened.new) result }
-    ensures left { opened.new.left ≡ opened.old.left }
-{
-    match world.put(text.as_str()) {
-        Ok(()) => Flow::Go(at.pc + 1),
-        Err(failed) => fail(alloc, failed, &at.cell.place, opened, world),
+    match included_at(alloc, at, found, opened, world) {
+        Included::Page(page) => include_page(alloc, at, records, &page, opened, world),
+        Included::Done(flow) => flow,
     }
 }
 
 // Includes a page. It shares the records that were made of the request, but for those of the
 // parameters where it has some of its own.
 #[cycle(machine)]
+#[inline(always)]
 fn include_page<W: World>(
     alloc: Global,
     at: &At,
     records: &mut RequestRecords,
-    page: TargetPage,
+    page: &TargetPage,
     opened: &mut Open,
     world: &mut W,
 ) -> Flow
@@ -217,17 +166,14 @@ fn include_page<W: World>(
     ensures covered { W.covered world.new }
     ensures records { IsRecordsAt at.now records.new }
     ensures stepped { Stepped W.reached W.replies (ServesSo W.stores at.now.served.now) (seat_at at.now)
-        (λ serving s. included_run at.now.cell.place (program_of page.entry.program.now)
-        (params_for (page_run_of (seat_at at.now)) page.entry.params) page.entry.left (at.now.pc + 1) s
+        (λ serving s. included_run at.now.cell.place (program_of (arc_value page.now.program))
+        (params_for (page_run_of (seat_at at.now)) page.now.params) page.now.left (at.now.pc + 1) s
         (open_of opened.old)) world.old world.new (open_of opened.new) result }
     ensures left { opened.new.left ≡ opened.old.left }
 {
-    let TargetPage {
-        program,
-        params,
-        left,
-    } = page;
-    match params {
+    let program = &*page.program;
+    let left = page.left;
+    match &page.params {
         TargetParams::Same => {
             let start = PageStart {
                 program,
@@ -240,7 +186,8 @@ fn include_page<W: World>(
             let Ok(()) = records.set_params_aside(alloc) else {
                 return Flow::Over(End::NoMemory);
             };
-            let params = Params::Before(own.as_slice(), at.seat.params());
+            let around = at.seat.params();
+            let params = Params::Before(own.as_slice(), around);
             let start = PageStart {
                 program,
                 params: &params,

@@ -53,6 +53,7 @@ use Rattle.run_world.specs.Programs.{program_of}
 use Rattle.run_world.specs.Seats.{call_of, export_of, params_at, seat_of}
 use Rattle.run_world.specs.Tags.{tag_of}
 use Rattle.std.proofs.Common.{Err, List, None, Ok, Some, [], ap, arith, length, refl, rules, subst, suc, sym, ◌+◌, ◌++◌, ◌<◌, ◌^◌, ◌∙◌, ◌≡◌, ◌≤◌}
+use Rattle.std.specs.Arc.{arc_value}
 use Rattle.std.specs.Prelude.{drop, map, option_map, reverse, take}
 
 -- some place: the beginning of a page's run stands at none
@@ -414,7 +415,7 @@ pages::include_page-included_page-requires g t c κs within =
 pub pages::include_page-included_page-flow-requires : goal.pages::include_page-included_page-flow-requires
 pages::include_page-included_page-flow-requires g t c κs within =
     let request = c.args.at.now.served.now.request.now in
-    let records = c.in-Ok.ensures.ok request c.as_slice.result c.params-in-Own.result (subst (λ ps. IsRecordsOf request ps c.args.records.now) (sym c.params-in-Own.ensures.found) c.requires.records) in
+    let records = c.in-Ok.ensures.ok request c.as_slice.result c.params-around.result (subst (λ ps. IsRecordsOf request ps c.args.records.now) (sym c.params-around.ensures.found) c.requires.records) in
     search rules
 
 pub pages::include_page-returns-in-Same-clause-records : goal.pages::include_page-returns-in-Same-clause-records
@@ -425,7 +426,7 @@ pub pages::include_page-returns-in-Same-clause-stepped : goal.pages::include_pag
 pages::include_page-returns-in-Same-clause-stepped g t c =
     let seat = seat_at c.args.at.now in
     let o = open_of c.args.opened.now in
-    with_params seat c.args.at.now.cell.place (program_of c.args.page.program.now) c.args.page.left (c.args.at.now.pc + 1) o (params_for (page_run_of seat) c.args.page.params) (params_of c.params.result.now)
+    with_params seat c.args.at.now.cell.place (program_of (arc_value c.args.page.now.program)) (program_of c.deref-program.result.now) (ap program_of c.deref-program.ensures) c.args.page.now.left (c.args.at.now.pc + 1) o (params_for (page_run_of seat) c.args.page.now.params) (params_of c.params.result.now)
     (rw (c.in-Same.is, c.params.ensures.list) refl) c.args.world.now c.included_page.new.world (open_of c.included_page.new.opened) c.included_page.result c.included_page.ensures.stepped
 
 pub pages::include_page-returns-in_default-clause-records : goal.pages::include_page-returns-in_default-clause-records
@@ -435,122 +436,41 @@ pub pages::include_page-returns-in_default-clause-stepped : goal.pages::include_
 pages::include_page-returns-in_default-clause-stepped g t c =
     let seat = seat_at c.args.at.now in
     let o = open_of c.args.opened.now in
-    let program = program_of c.args.page.program.now in
-    let params = params_for (page_run_of seat) c.args.page.params in
-    acted_stepped seat (λ serving s. included_run c.args.at.now.cell.place program params c.args.page.left (c.args.at.now.pc + 1) s o) c.args.world.now c.args.world.now o (flows.Over ends.NoMemory)
+    let program = program_of (arc_value c.args.page.now.program) in
+    let params = params_for (page_run_of seat) c.args.page.now.params in
+    acted_stepped seat (λ serving s. included_run c.args.at.now.cell.place program params c.args.page.now.left (c.args.at.now.pc + 1) s o) c.args.world.now c.args.world.now o (flows.Over ends.NoMemory)
     (λ serving h.
-    acted_short (λ s. included_run c.args.at.now.cell.place program params c.args.page.left (c.args.at.now.pc + 1) s o) c.args.world.now o
-    (λ s. included_run_grows c.args.at.now.cell.place program params c.args.page.left (c.args.at.now.pc + 1) s o))
+    acted_short (λ s. included_run c.args.at.now.cell.place program params c.args.page.now.left (c.args.at.now.pc + 1) s o) c.args.world.now o
+    (λ s. included_run_grows c.args.at.now.cell.place program params c.args.page.now.left (c.args.at.now.pc + 1) s o))
 
 pub pages::include_page-returns-in-Ok-clause-records : goal.pages::include_page-returns-in-Ok-clause-records
 pages::include_page-returns-in-Ok-clause-records g t c =
     let request = c.args.at.now.served.now.request.now in
-    subst (λ ps. IsRecordsOf request ps c.put_params_back.new.self) c.params-in-Own.ensures.found
-    (c.put_params_back.ensures request c.as_slice.result c.params-in-Own.result c.included_page-flow.ensures.records)
+    subst (λ ps. IsRecordsOf request ps c.put_params_back.new.self) c.params-around.ensures.found
+    (c.put_params_back.ensures request c.as_slice.result c.params-around.result c.included_page-flow.ensures.records)
 
 pub pages::include_page-returns-in-Ok-clause-stepped : goal.pages::include_page-returns-in-Ok-clause-stepped
 pages::include_page-returns-in-Ok-clause-stepped g t c =
     let seat = seat_at c.args.at.now in
     let o = open_of c.args.opened.now in
-    with_params seat c.args.at.now.cell.place (program_of c.args.page.program.now) c.args.page.left (c.args.at.now.pc + 1) o (params_for (page_run_of seat) c.args.page.params) (c.as_slice.result.now ++ params_of c.params-in-Own.result.now)
-    (rw (c.in-Own.is, c.as_slice.ensures, c.params-in-Own.ensures.list) refl) c.args.world.now c.included_page-flow.new.world (open_of c.included_page-flow.new.opened) c.included_page-flow.result c.included_page-flow.ensures.stepped
+    with_params seat c.args.at.now.cell.place (program_of (arc_value c.args.page.now.program)) (program_of c.deref-program.result.now) (ap program_of c.deref-program.ensures) c.args.page.now.left (c.args.at.now.pc + 1) o (params_for (page_run_of seat) c.args.page.now.params) (c.as_slice.result.now ++ params_of c.params-around.result.now)
+    (rw (c.in-Own.is, c.as_slice.ensures, c.params-around.ensures.list) refl) c.args.world.now c.included_page-flow.new.world (open_of c.included_page-flow.new.opened) c.included_page-flow.result c.included_page-flow.ensures.stepped
 
 -- an include of a target
 
-pub pages::include-returns-in-Err-clause-stepped : goal.pages::include-returns-in-Err-clause-stepped
-pages::include-returns-in-Err-clause-stepped g t c =
-    let seat = seat_at c.args.at.now in
-    let o = open_of c.args.opened.now in
-    acted_stepped seat (λ serving s. include_found (page_run_of seat) serving c.args.at.now.cell.place c.args.found (c.args.at.now.pc + 1) s o) c.args.world.now c.fail.new.world (open_of c.fail.new.opened) c.fail.result
-    (λ serving h.
-    acted_as (λ s. include_found (page_run_of seat) serving c.args.at.now.cell.place c.args.found (c.args.at.now.pc + 1) s o) (failing c.args.at.now.cell.place o c.in-Err.failed) c.args.world.now c.fail.new.world (open_of c.fail.new.opened) c.fail.result
-    (λ s. rw c.in-Err.is (include_failed_is (page_run_of seat) serving c.args.at.now.cell.place c.in-Err.failed (c.args.at.now.pc + 1) s o)) c.fail.ensures.acted)
-
-pub pages::include-returns-in_default-clause-stepped : goal.pages::include-returns-in_default-clause-stepped
-pages::include-returns-in_default-clause-stepped g t c =
-    let seat = seat_at c.args.at.now in
-    let o = open_of c.args.opened.now in
-    let none : c.args.opened.now.left ≡ 0 = omega (arith, c.in_default.ensures) in
-    acted_stepped seat (λ serving s. include_found (page_run_of seat) serving c.args.at.now.cell.place c.args.found (c.args.at.now.pc + 1) s o) c.args.world.now c.throw.new.world (open_of c.throw.new.opened) c.throw.result
-    (λ serving h.
-    acted_as (λ s. include_found (page_run_of seat) serving c.args.at.now.cell.place c.args.found (c.args.at.now.pc + 1) s o) (λ s. On (thrown fault.TooDeep c.args.at.now.cell.place s o)) c.args.world.now c.throw.new.world (open_of c.throw.new.opened) c.throw.result
-    (λ s. rw c.in-Ok.is (include_deep serving c.args.at.now.cell.place (params_for (page_run_of seat) c.in-Ok.target.params) c.in-Ok.target.path (c.args.at.now.pc + 1) s o none)) c.throw.ensures.acted)
-
-pub pages::include-returns-in-Err-page-clause-stepped : goal.pages::include-returns-in-Err-page-clause-stepped
-pages::include-returns-in-Err-page-clause-stepped g t c =
-    let seat = seat_at c.args.at.now in
-    let o = open_of c.args.opened.now in
-    let params = params_for (page_run_of seat) c.in-Ok.target.params in
-    let level : c.args.opened.now.left ≡ suc c.in-Some.left = omega (arith, c.in-Some.ensures) in
-    stepped_as seat (λ serving s. include_found (page_run_of seat) serving c.args.at.now.cell.place c.args.found (c.args.at.now.pc + 1) s o)
-    (λ serving s. include_path serving c.args.at.now.cell.place params c.in-Ok.target.path (c.args.at.now.pc + 1) s o) c.args.world.now c.fail-in-Err-page.new.world (open_of c.fail-in-Err-page.new.opened)
-    c.fail-in-Err-page.result (λ serving h s. ap (λ f. include_found (page_run_of seat) serving c.args.at.now.cell.place f (c.args.at.now.pc + 1) s o) c.in-Ok.is)
-    (path_failed c.args.at.now.cell.place (c.args.at.now.pc + 1) c.in-Some.left params c.in-Ok.target.path o level seat c.args.world.now c.page.new.self c.fail-in-Err-page.new.world c.in-Err-page.failed
-    (open_of c.fail-in-Err-page.new.opened) c.fail-in-Err-page.result (λ serving h. c.in-Err-page.ensures.does serving h.stored) c.fail-in-Err-page.ensures.acted c.fail-in-Err-page.ensures.short)
-
 pub pages::include-include_page-requires : goal.pages::include-include_page-requires
 pages::include-include_page-requires g t c κs within =
-    let k = c.requires.known in
-    let known = known_done g.met.W.World.stores_on g.met.W.World.again c.args.at.now.served.now c.args.world.now c.page.new.self (Ok c.in-Ok-page.paged) k (c.in-Ok-page.ensures.does k.serving k.serves.stored) in
-    let level : c.args.opened.now.left ≡ suc c.in-Some.left = omega (arith, c.in-Some.ensures) in
+    let found = c.in-Page.ensures.page in
+    let known = found.known in
+    let deeper = found.deeper in
     search rules
 
 pub pages::include-returns-in-Page-clause-stepped : goal.pages::include-returns-in-Page-clause-stepped
 pages::include-returns-in-Page-clause-stepped g t c =
-    let seat = seat_at c.args.at.now in
-    let o = open_of c.args.opened.now in
-    let params = params_for (page_run_of seat) c.in-Ok.target.params in
-    let k = c.requires.known in
-    let level : c.args.opened.now.left ≡ suc c.in-Some.left = omega (arith, c.in-Some.ensures) in
-    stepped_as seat (λ serving s. include_found (page_run_of seat) serving c.args.at.now.cell.place c.args.found (c.args.at.now.pc + 1) s o)
-    (λ serving s. include_path serving c.args.at.now.cell.place params c.in-Ok.target.path (c.args.at.now.pc + 1) s o) c.args.world.now c.include_page.new.world (open_of c.include_page.new.opened) c.include_page.result
-    (λ serving h s. ap (λ f. include_found (page_run_of seat) serving c.args.at.now.cell.place f (c.args.at.now.pc + 1) s o) c.in-Ok.is)
-    (path_page c.args.at.now.cell.place (c.args.at.now.pc + 1) c.in-Some.left params c.in-Ok.target.path o level seat c.in-Ok-page.paged c.args.world.now c.page.new.self
-    (λ serving h. c.in-Ok-page.ensures.does serving h.stored) (program_of c.deref.result.now) c.include_page.new.world (open_of c.include_page.new.opened) c.include_page.result
-    (λ serving h. rw (← c.in-Ok-page.ensures.found serving h.stored, c.in-Page.is, c.deref.ensures) refl)
-    (λ serving h. serves_done g.met.W.World.stores_on g.met.W.World.again c.args.at.now.served.now c.args.world.now c.page.new.self (Ok c.in-Ok-page.paged) serving k (c.in-Ok-page.ensures.does k.serving k.serves.stored) h)
-    c.include_page.ensures.stepped)
+    c.in-Page.ensures.page.on c.include_page.new.world (open_of c.include_page.new.opened) c.include_page.result c.include_page.ensures.stepped
 
-pub pages::include-returns-in-Plain-clause-stepped : goal.pages::include-returns-in-Plain-clause-stepped
-pages::include-returns-in-Plain-clause-stepped g t c =
-    let seat = seat_at c.args.at.now in
-    let o = open_of c.args.opened.now in
-    let params = params_for (page_run_of seat) c.in-Ok.target.params in
-    let level : c.args.opened.now.left ≡ suc c.in-Some.left = omega (arith, c.in-Some.ensures) in
-    stepped_as seat (λ serving s. include_found (page_run_of seat) serving c.args.at.now.cell.place c.args.found (c.args.at.now.pc + 1) s o)
-    (λ serving s. include_path serving c.args.at.now.cell.place params c.in-Ok.target.path (c.args.at.now.pc + 1) s o) c.args.world.now c.include_text.new.world (open_of c.include_text.new.opened) c.include_text.result
-    (λ serving h s. ap (λ f. include_found (page_run_of seat) serving c.args.at.now.cell.place f (c.args.at.now.pc + 1) s o) c.in-Ok.is)
-    (path_on c.args.at.now.cell.place (c.args.at.now.pc + 1) c.in-Some.left params c.in-Ok.target.path o level seat c.in-Ok-page.paged c.args.world.now c.page.new.self
-    (λ serving h. c.in-Ok-page.ensures.does serving h.stored) (plain c.in-Plain.text) c.include_text.new.world (open_of c.include_text.new.opened) c.include_text.result
-    (λ serving h. rw (← c.in-Ok-page.ensures.found serving h.stored, c.in-Plain.is) refl) c.include_text.ensures.acted)
-
-pub pages::include-returns-in-Absent-clause-stepped : goal.pages::include-returns-in-Absent-clause-stepped
-pages::include-returns-in-Absent-clause-stepped g t c =
-    let seat = seat_at c.args.at.now in
-    let o = open_of c.args.opened.now in
-    let params = params_for (page_run_of seat) c.in-Ok.target.params in
-    let level : c.args.opened.now.left ≡ suc c.in-Some.left = omega (arith, c.in-Some.ensures) in
-    stepped_as seat (λ serving s. include_found (page_run_of seat) serving c.args.at.now.cell.place c.args.found (c.args.at.now.pc + 1) s o)
-    (λ serving s. include_path serving c.args.at.now.cell.place params c.in-Ok.target.path (c.args.at.now.pc + 1) s o) c.args.world.now c.page.new.self o (flows.Go (c.args.at.now.pc + 1))
-    (λ serving h s. ap (λ f. include_found (page_run_of seat) serving c.args.at.now.cell.place f (c.args.at.now.pc + 1) s o) c.in-Ok.is)
-    (path_on c.args.at.now.cell.place (c.args.at.now.pc + 1) c.in-Some.left params c.in-Ok.target.path o level seat c.in-Ok-page.paged c.args.world.now c.page.new.self
-    (λ serving h. c.in-Ok-page.ensures.does serving h.stored) (absent) c.page.new.self o (flows.Go (c.args.at.now.pc + 1))
-    (λ serving h. rw (← c.in-Ok-page.ensures.found serving h.stored, c.in-Absent.is) refl)
-    (acted_on (λ s. included c.args.at.now.cell.place params c.in-Some.left (absent) (c.args.at.now.pc + 1) s o) c.page.new.self o (c.args.at.now.pc + 1) (λ s. refl)))
-
-pub pages::include-returns-clause-stepped : goal.pages::include-returns-clause-stepped
-pages::include-returns-clause-stepped g t c =
-    let seat = seat_at c.args.at.now in
-    let o = open_of c.args.opened.now in
-    let params = params_for (page_run_of seat) c.in-Ok.target.params in
-    let level : c.args.opened.now.left ≡ suc c.in-Some.left = omega (arith, c.in-Some.ensures) in
-    stepped_as seat (λ serving s. include_found (page_run_of seat) serving c.args.at.now.cell.place c.args.found (c.args.at.now.pc + 1) s o)
-    (λ serving s. include_path serving c.args.at.now.cell.place params c.in-Ok.target.path (c.args.at.now.pc + 1) s o) c.args.world.now c.page.new.self o (flows.Go (c.args.at.now.pc + 1))
-    (λ serving h s. ap (λ f. include_found (page_run_of seat) serving c.args.at.now.cell.place f (c.args.at.now.pc + 1) s o) c.in-Ok.is)
-    (path_on c.args.at.now.cell.place (c.args.at.now.pc + 1) c.in-Some.left params c.in-Ok.target.path o level seat c.in-Ok-page.paged c.args.world.now c.page.new.self
-    (λ serving h. c.in-Ok-page.ensures.does serving h.stored) (bad c.in-Bad.field-0) c.page.new.self o (flows.Go (c.args.at.now.pc + 1))
-    (λ serving h. rw (← c.in-Ok-page.ensures.found serving h.stored, c.in-Bad.is) refl)
-    (acted_on (λ s. included c.args.at.now.cell.place params c.in-Some.left (bad c.in-Bad.field-0) (c.args.at.now.pc + 1) s o) c.page.new.self o (c.args.at.now.pc + 1) (λ s. refl)))
+pub pages::include-returns-in-Page-clause-short : goal.pages::include-returns-in-Page-clause-short
+pages::include-returns-in-Page-clause-short g t c short = absurd (cc (c.in-Page.ensures.short short).0)
 
 -- an include by an address
 

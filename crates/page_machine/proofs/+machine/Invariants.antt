@@ -38,7 +38,7 @@ abbrev pub decreases-pages::include : goal.decreases-pages::include
 decreases-pages::include g l = 8 * l.opened.now.left + 3
 
 abbrev pub decreases-pages::include_page : goal.decreases-pages::include_page
-decreases-pages::include_page g l = 8 * l.page.left + 10
+decreases-pages::include_page g l = 8 * l.page.now.left + 10
 
 abbrev pub decreases-pages::included_page : goal.decreases-pages::included_page
 decreases-pages::included_page g l = 8 * l.start.left + 9

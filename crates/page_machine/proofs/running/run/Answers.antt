@@ -26,56 +26,21 @@ run_with_exception-end-requires-clause-known g c =
           (stands_aside origin c.args.scopes.now c.args.writer.now taken faults around asking s around.depth c.take-exception.new.self (stands_at c.args.scopes.now c.args.writer.now taken faults around asking w.0 w.1 w.2 w.3));
     }
 
-pub returns-clause-ran : goal.returns-clause-ran
-returns-clause-ran g c =
-    page_returned (program_of c.args.asked.program.now) c.args.asked.params.now c.saturating_sub-left.result _ c.run_with_exception-end.new.world c.run_with_exception-end.result c.run_with_exception-end.ensures.ran
-    g.met.P.AppPort.leads_here c.args.around.now c.take-exception.new.self refl c.take-exception.ensures.value c.saturating_sub-left.ensures _ _ _ _ _ _
-    (record { scopes = c.scopes-1.given.1; writer = c.writer-1.given.1; sink = c.sink-1.given.1; around = c.around-1.given.1; ended = c.end_run.ensures.around; port = c.port-1.given.1 }) c.end_run.result c.end_run.ensures.end
-
-pub returns-clause-in_order : goal.returns-clause-in_order
-returns-clause-in_order g c =
-    (returned _ c.run_with_exception-end.new.world c.run_with_exception-end.result c.run_with_exception-end.ensures.ran g.met.P.AppPort.leads_here c.args.around.now c.take-exception.new.self refl c.take-exception.ensures.value
-    c.requires.served c.requires.writer c.run_with_exception-end.ensures.covered _ _ _ _ _ _
-    (record { scopes = c.scopes-1.given.1; writer = c.writer-1.given.1; sink = c.sink-1.given.1; around = c.around-1.given.1; ended = c.end_run.ensures.around; port = c.port-1.given.1 }) c.end_run.result c.end_run.ensures.end).in_order
-
-pub returns-clause-charged : goal.returns-clause-charged
-returns-clause-charged g c =
-    (returned _ c.run_with_exception-end.new.world c.run_with_exception-end.result c.run_with_exception-end.ensures.ran g.met.P.AppPort.leads_here c.args.around.now c.take-exception.new.self refl c.take-exception.ensures.value
-    c.requires.served c.requires.writer c.run_with_exception-end.ensures.covered _ _ _ _ _ _
-    (record { scopes = c.scopes-1.given.1; writer = c.writer-1.given.1; sink = c.sink-1.given.1; around = c.around-1.given.1; ended = c.end_run.ensures.around; port = c.port-1.given.1 }) c.end_run.result c.end_run.ensures.end).charged
-
-pub returns-clause-depth : goal.returns-clause-depth
-returns-clause-depth g c =
-    (returned _ c.run_with_exception-end.new.world c.run_with_exception-end.result c.run_with_exception-end.ensures.ran g.met.P.AppPort.leads_here c.args.around.now c.take-exception.new.self refl c.take-exception.ensures.value
-    c.requires.served c.requires.writer c.run_with_exception-end.ensures.covered _ _ _ _ _ _
-    (record { scopes = c.scopes-1.given.1; writer = c.writer-1.given.1; sink = c.sink-1.given.1; around = c.around-1.given.1; ended = c.end_run.ensures.around; port = c.port-1.given.1 }) c.end_run.result c.end_run.ensures.end).depth
-
-pub returns-clause-session : goal.returns-clause-session
-returns-clause-session g c =
-    (returned _ c.run_with_exception-end.new.world c.run_with_exception-end.result c.run_with_exception-end.ensures.ran g.met.P.AppPort.leads_here c.args.around.now c.take-exception.new.self refl c.take-exception.ensures.value
-    c.requires.served c.requires.writer c.run_with_exception-end.ensures.covered _ _ _ _ _ _
-    (record { scopes = c.scopes-1.given.1; writer = c.writer-1.given.1; sink = c.sink-1.given.1; around = c.around-1.given.1; ended = c.end_run.ensures.around; port = c.port-1.given.1 }) c.end_run.result c.end_run.ensures.end).session
-
-pub returns-clause-response : goal.returns-clause-response
-returns-clause-response g c =
-    (returned _ c.run_with_exception-end.new.world c.run_with_exception-end.result c.run_with_exception-end.ensures.ran g.met.P.AppPort.leads_here c.args.around.now c.take-exception.new.self refl c.take-exception.ensures.value
-    c.requires.served c.requires.writer c.run_with_exception-end.ensures.covered _ _ _ _ _ _
-    (record { scopes = c.scopes-1.given.1; writer = c.writer-1.given.1; sink = c.sink-1.given.1; around = c.around-1.given.1; ended = c.end_run.ensures.around; port = c.port-1.given.1 }) c.end_run.result c.end_run.ensures.end).response
-
-pub returns-clause-exception : goal.returns-clause-exception
-returns-clause-exception g c =
-    (returned _ c.run_with_exception-end.new.world c.run_with_exception-end.result c.run_with_exception-end.ensures.ran g.met.P.AppPort.leads_here c.args.around.now c.take-exception.new.self refl c.take-exception.ensures.value
-    c.requires.served c.requires.writer c.run_with_exception-end.ensures.covered _ _ _ _ _ _
-    (record { scopes = c.scopes-1.given.1; writer = c.writer-1.given.1; sink = c.sink-1.given.1; around = c.around-1.given.1; ended = c.end_run.ensures.around; port = c.port-1.given.1 }) c.end_run.result c.end_run.ensures.end).exception
-
-pub returns-clause-tree : goal.returns-clause-tree
-returns-clause-tree g c =
-    (returned _ c.run_with_exception-end.new.world c.run_with_exception-end.result c.run_with_exception-end.ensures.ran g.met.P.AppPort.leads_here c.args.around.now c.take-exception.new.self refl c.take-exception.ensures.value
-    c.requires.served c.requires.writer c.run_with_exception-end.ensures.covered _ _ _ _ _ _
-    (record { scopes = c.scopes-1.given.1; writer = c.writer-1.given.1; sink = c.sink-1.given.1; around = c.around-1.given.1; ended = c.end_run.ensures.around; port = c.port-1.given.1 }) c.end_run.result c.end_run.ensures.end).tree
-
-pub returns-clause-leads : goal.returns-clause-leads
-returns-clause-leads g c =
-    (returned _ c.run_with_exception-end.new.world c.run_with_exception-end.result c.run_with_exception-end.ensures.ran g.met.P.AppPort.leads_here c.args.around.now c.take-exception.new.self refl c.take-exception.ensures.value
-    c.requires.served c.requires.writer c.run_with_exception-end.ensures.covered _ _ _ _ _ _
-    (record { scopes = c.scopes-1.given.1; writer = c.writer-1.given.1; sink = c.sink-1.given.1; around = c.around-1.given.1; ended = c.end_run.ensures.around; port = c.port-1.given.1 }) c.end_run.result c.end_run.ensures.end).leads
+pub returns : goal.returns
+returns g c =
+    let back = returned _ c.run_with_exception-end.new.world c.run_with_exception-end.result c.run_with_exception-end.ensures.ran g.met.P.AppPort.leads_here c.args.around.now c.take-exception.new.self refl
+    c.take-exception.ensures.value c.requires.served c.requires.writer c.run_with_exception-end.ensures.covered _ _ _ _ _ _
+    (record { scopes = c.scopes-1.given.1; writer = c.writer-1.given.1; sink = c.sink-1.given.1; around = c.around-1.given.1; ended = c.end_run.ensures.around; port = c.port-1.given.1 }) c.end_run.result c.end_run.ensures.end in
+    record {
+      ran = page_returned (program_of c.args.asked.program.now) c.args.asked.params.now c.saturating_sub-left.result _ c.run_with_exception-end.new.world c.run_with_exception-end.result c.run_with_exception-end.ensures.ran
+          g.met.P.AppPort.leads_here c.args.around.now c.take-exception.new.self refl c.take-exception.ensures.value c.saturating_sub-left.ensures _ _ _ _ _ _
+          (record { scopes = c.scopes-1.given.1; writer = c.writer-1.given.1; sink = c.sink-1.given.1; around = c.around-1.given.1; ended = c.end_run.ensures.around; port = c.port-1.given.1 }) c.end_run.result c.end_run.ensures.end;
+      in_order = back.in_order;
+      charged = back.charged;
+      depth = back.depth;
+      session = back.session;
+      response = back.response;
+      exception = back.exception;
+      tree = back.tree;
+      leads = back.leads;
+    }

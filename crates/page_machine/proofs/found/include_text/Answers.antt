@@ -3,7 +3,7 @@ use Rattle.run_world.specs.Part.{Doing}
 use Rattle.run_moves.specs.Opened.{open_of}
 use Rattle.page_meaning.proofs.Growing.{same}
 use Rattle.run_moves.proofs.Behind.{fell_at, well_at}
-use Rattle.page_machine.proofs.pages.include_text.Goals as goal
+use Rattle.page_machine.proofs.found.include_text.Goals as goal
 use Rattle.page_meaning.specs.Bodies.{put_text}
 use Rattle.page_table.specs.Landing.{Running}
 
