@@ -1,4 +1,3 @@
-
 use compiled_pages::Made;
 use context_desk::Tenant;
 use conversation::{Desk, Outcome};
