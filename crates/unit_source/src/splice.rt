@@ -1,10 +1,10 @@
-ghost use Rattle.std.specs.Prelude.{◌≡◌, ◌≤◌, ◌∷◌, [], true, Some, length, map, IfOk, OnOk};
+ghost use Rattle.std.specs.Prelude.{◌≡◌, ◌∷◌, [], true, Some, map, IfOk, OnOk};
 ghost use Rattle.unit_source.specs.Files.{text_in};
 ghost use Rattle.unit_source.specs.Placed.{in_place};
 ghost use Rattle.unit_source.specs.ReadSplice.{behind_file, behind_inner, found_of, reads, spliced_in};
-ghost use Rattle.unit_source.specs.ReadSplice.{step_of, taken_of, with_more};
+ghost use Rattle.unit_source.specs.ReadSplice.{step_of, taken_of};
 ghost use Rattle.unit_source.specs.ReadSteps.{both_taken, filled, found_in, taken};
-ghost use Rattle.unit_source.specs.Splice.{file_nodes, nodes_read, room_read, target_read, text_read};
+ghost use Rattle.unit_source.specs.Splice.{nodes_read, room_read, target_read, text_read};
 
 use crate::chain::{Chain, included_path};
 use crate::files::UnitFiles;

@@ -1,4 +1,4 @@
-ghost use Rattle.std.specs.Prelude.{◌≡◌, ◌<◌, ◌+◌, ◌++◌, ◌∷◌, [], map, OnOk, IfOk};
+ghost use Rattle.std.specs.Prelude.{◌≡◌, ◌<◌, ◌+◌, ◌++◌, map, OnOk, IfOk};
 ghost use Rattle.pg_text.specs.declared.place.Place.{Place};
 ghost use Rattle.unit_source.specs.Placed.{in_place, node_in_place};
 ghost use Rattle.unit_source.specs.ReadSteps.{steps_of};

@@ -14,11 +14,11 @@ use Rattle.page_machine.proofs.GivenCalls.{begins_given, code_deep, copy_failed,
 use Rattle.page_machine.proofs.GivenRuns.{given_known, given_on, given_over, given_room, given_thrown}
 use Rattle.page_machine.proofs.IncludedRuns.{included_known, included_left, included_on, included_over, included_redirected, included_room, included_thrown}
 use Rattle.page_machine.proofs.Looping.{begins_at, behind_turn, call_as, cell_at, finds_at, holds_more, loop_nearer, move_is, over_with, simple_of, so_far_start, standing_start, within_code}
-use Rattle.page_machine.proofs.PageCalls.{import_stepped, include_failed_is, include_stepped, include_unflushed, included_run_grows, page_failed, path_failed, path_on, path_page, ran_page}
-use Rattle.page_machine.proofs.TagCalls.{call_with, include_deep, entered_grows, entered_move, finds_so, tag_code_fits, tag_deep, tag_failed, tag_gone, tag_made, tag_short}
+use Rattle.page_machine.proofs.PageCalls.{import_stepped, include_stepped, include_unflushed, included_run_grows, page_failed, ran_page}
+use Rattle.page_machine.proofs.TagCalls.{call_with, entered_grows, entered_move, finds_so, tag_code_fits, tag_deep, tag_failed, tag_gone, tag_made, tag_short}
 use Rattle.page_machine.proofs.OwnParams.{with_params}
 use Rattle.page_machine.proofs.Room.{behind_so, between, changes_so, counted_so, dropped_so, taken_so}
-use Rattle.page_machine.specs.Pages.{include_found, included_run, params_for}
+use Rattle.page_machine.specs.Pages.{included_run, params_for}
 use Rattle.page_machine.specs.Turn.{CallBegins, SeatHolds}
 use Rattle.page_meaning.specs.Attributes.{table_of}
 use Rattle.page_meaning.specs.Exports.{exports_of}
@@ -29,19 +29,13 @@ use Rattle.page_table.specs.Act.{act, called_out, move_of, with_stack}
 use Rattle.page_table.specs.Calls.{given_called}
 use Rattle.page_table.specs.Checked.{SeatFits, TagsFit}
 use Rattle.page_table.specs.Finds.{CallFinds, Finds}
-use Rattle.page_table.specs.Landing.{thrown}
-use Rattle.page_table.specs.Move.{On}
-use Rattle.page_table.specs.Pages.{include_path, included}
-use Rattle.page_table.specs.Program.{absent, bad, plain}
 use Rattle.page_table.specs.Seat.{code_at, code_of, in_tag, nothing, page_run_of, program_of as program_in, source_text}
 use Rattle.pg_text.specs.Failure.{Answers}
 use Rattle.pg_text.specs.declared.place.Place.{Place}
 use Rattle.pg_value.specs.Value.{datum_of}
-use Rattle.pg_value.specs.declared.fault.RunFault.TheVariants as fault
-use Rattle.run_moves.proofs.Acts.{acted_as, acted_on, acted_short}
+use Rattle.run_moves.proofs.Acts.{acted_as, acted_short}
 use Rattle.run_moves.proofs.Behind.{acted_spent}
 use Rattle.run_moves.specs.At.{IsRecordsAt, seat_at}
-use Rattle.run_moves.specs.Landing.{failing}
 use Rattle.run_moves.specs.Opened.{open_of}
 use Rattle.run_moves.specs.declared.flow.End.TheVariants as ends
 use Rattle.run_moves.specs.declared.flow.Flow.TheVariants as flows
