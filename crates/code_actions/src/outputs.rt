@@ -193,7 +193,8 @@ fn default_text(
     }
 }
 
-// The code that writes the value, below which stands whether it is escaped, where that is given.
+// The code that writes the value. `escape` says whether the attribute of that name is given: then
+// its truth value stands below the value; else the value is written escaped.
 fn value_text(
     alloc: Global,
     ground: &Shape,
@@ -226,7 +227,8 @@ fn body_text(
     }
 }
 
-// The code that keeps the body above a ground of its own, and writes its trimmed text.
+// The code that keeps the body above `below`, and writes its trimmed text. `escape` is as in
+// `value_text`.
 fn kept_and_put(
     alloc: Global,
     ground: &Shape,

@@ -45,7 +45,8 @@ pub(crate) fn values(
     Ok(code)
 }
 
-/// The same behind a visit.
+/// The code of a visit, and behind it that of the values of the attributes that are evaluated, in
+/// order.
 #[cycle(nodes)]
 pub(crate) fn visited_values(
     alloc: Global,

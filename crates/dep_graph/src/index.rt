@@ -143,7 +143,7 @@ fn user_place(users: &[Path], path: &Path) -> Result<usize, usize>
     users.binary_search_by(|user| order_of_user(user, path))
 }
 
-// How a user stands to a path, by their bytes.
+// How a user, which is the path of a page that needs a name, stands to a path, by their bytes.
 fn order_of_user(user: &Path, path: &Path) -> Ordering
     ensures { result ≡ path_cmp user.now path.now }
 {

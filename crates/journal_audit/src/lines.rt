@@ -25,7 +25,8 @@ pub(crate) fn line_of(
     }
 }
 
-// The line that tells which part of a journal is wrong first.
+// The line that begins with `no`: how many right journals come before a wrong one, and which part of
+// that is wrong first.
 fn no_line(alloc: Global, journal: u64, why: Why) -> Result<String, AllocError>
     ensures { IfOk result (λ line. string_bytes line ≡ no_line journal why) }
 {

@@ -48,7 +48,8 @@ impl Part for Attrs {
     }
 }
 
-/// The attributes with these entries, where their keys rise in byte order.
+/// The attributes with these entries, where their keys rise in byte order; where they don't, no
+/// attributes stand there.
 pub(crate) fn attrs_of(entries: Listed<(Text, Value)>) -> Result<Attrs, Failure<Unread>>
     ensures { Sorts are_attrs (λ entries. AreInOrder (map entry_of entries)) entries result }
 {

@@ -74,7 +74,8 @@ pub(crate) fn kind_of(op: Op, reply: Reply, place: Option<Box<Answered>>) -> Kin
     }
 }
 
-// The kind of an operation whose entry takes no memory beside its slot.
+// The kind of an operation whose entry takes no memory beside its slot, but for what its texts share
+// with the request that they came with.
 #[inline(always)]
 fn slotted(op: Op, reply: Reply) -> Kind
     requires pairs { Pairs op reply }

@@ -80,7 +80,7 @@ fn text_or_empty(alloc: Global, value: &Value) -> Result<Text, AllocError>
     }
 }
 
-// Whether a variable is given to fragments alone.
+// Whether a variable is the caller's only while the body or a fragment runs.
 fn is_nested(scope: VarScope) -> bool
     ensures { result ≡ is_nested scope }
 {
