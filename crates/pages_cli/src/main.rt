@@ -40,10 +40,12 @@ use pages_usage::{help, usage};
 use preview::preview_play;
 use std::io::ErrorKind;
 use std::marker::Brand;
+use std::net::{Net, TcpListener, TcpStream};
 use std::process::ExitCode;
 use std::sync::Wait;
 use std::sync::ledger::{Blank, Ledger};
 use std::thread::Threads;
+use std::time::Clock;
 use std::{env, io};
 use tcp_edges::TcpBind;
 
@@ -117,14 +119,12 @@ fn words(rt: &HostRuntime) -> Result<Vec<String>, u8> {
     Ok(words)
 }
 
-// Runs the command that the first word names, and answers the program's status. The workers of a
-// server run in `threads`.
-fn run<N: Ledger, R: Threads + Wait + Sync>(
-    rt: &HostRuntime,
-    threads: &R,
-    words: &[String],
-    blank: Blank,
-) -> u8
+// Runs the command that the first word names, and answers the program's status. A server runs on
+// `system`.
+fn run<
+    N: Ledger,
+    R: Threads + Wait + Net<Listener = TcpListener, Stream = TcpStream> + Clock + Sync,
+>(rt: &HostRuntime, system: &R, words: &[String], blank: Blank) -> u8
     requires name { blank.name ≡ N.name }
     requires parts { blank.parts ≡ N.parts }
     requires some { 0 < N.parts }
@@ -132,7 +132,7 @@ fn run<N: Ledger, R: Threads + Wait + Sync>(
     ensures only_refused { result ≡ 1 → AsksNothing (map string_bytes words.now) }
 {
     match first(words) {
-        "serve" => served(rt, threads, words),
+        "serve" => served(rt, system, words),
         _ => streamed::<N>(rt, words, blank),
     }
 }
@@ -165,20 +165,24 @@ fn streamed<N: Ledger>(rt: &HostRuntime, words: &[String], blank: Blank) -> u8
 
 // Serves over TCP, says on standard error where, and writes the journals of rounds to standard
 // output.
-fn served<R: Threads + Wait + Sync>(rt: &HostRuntime, threads: &R, words: &[String]) -> u8
+fn served<R: Threads + Wait + Net<Listener = TcpListener, Stream = TcpStream> + Clock + Sync>(
+    rt: &HostRuntime,
+    system: &R,
+    words: &[String],
+) -> u8
     ensures words { settings_asked (map string_bytes words.now) ≡ None → result ≡ 1 }
     ensures only_words { result ≡ 1 → settings_asked (map string_bytes words.now) ≡ None }
 {
     let clocks = WallClocks { rt };
     let platform = Platform {
-        rt: threads,
+        rt: system,
         alloc: rt.alloc(),
         clocks: &clocks,
     };
     serve(
         platform,
         words,
-        &mut TcpBind::new(rt, rt.alloc()),
+        &mut TcpBind::new(system, rt.alloc()),
         &mut WriteSink::new(io::writer(rt)),
         &mut WriteSink::new(rt.stderr()),
     )

@@ -1,14 +1,15 @@
 ghost use Rattle.std.specs.Prelude.{◌≡◌};
 
+use crate::editor::{Editor, SharedListener};
 use crate::link::{Link, Shared};
-use crate::round::{SharedRound, Side};
+use crate::round::{Quota, SharedRound, Side};
 use crate::sink::TcpSink;
 use crate::source::TcpSource;
 use edges::{Accept, Accepted, Failed};
 use std::alloc::Global;
-use std::net::{Net, TcpListener, TcpStream};
-use std::sync::Arc;
-use std::sync::atomic::{AtomicU64, Ordering};
+use std::net::{Net, TcpStream};
+use std::sync::atomic::AtomicU64;
+use std::sync::{Arc, Wait};
 use std::time::{Clock, Duration};
 use std::{io, thread};
 
@@ -19,25 +20,24 @@ const WRITE_SECONDS: u64 = 20;
 /// left.
 const PAUSE_MILLIS: u64 = 10;
 
+/// For how many milliseconds one who came as the round ended may show that it has gone again.
+const GLANCE_MILLIS: u64 = 10;
+
+/// The two ways of a connection.
+type Connection<'a, R> = (TcpSource<'a, R>, TcpSink);
+
 /// A listener on a port. A number is drawn before each connection, and the round is over for
-/// whoever draws one that isn't in it.
+/// whoever draws one that isn't in it, unless an editor is connected.
 #[derive(Drop)]
 pub struct TcpAccept<'a, R: Clock> {
     pub(crate) rt: &'a R,
     pub(crate) alloc: Global,
-    pub(crate) listener: TcpListener,
+    pub(crate) listener: SharedListener,
 
     /// The port to which it was to be bound; 0 is any.
     pub(crate) port: u16,
-
-    /// How many numbers a round has.
-    pub(crate) numbers: Option<u32>,
-    pub(crate) drawn: AtomicU64,
-
-    /// For how many numbers a connection came, or none could be had.
-    pub(crate) settled: AtomicU64,
     pub(crate) round: SharedRound,
-    pub(crate) side: Side,
+    pub(crate) quota: Quota,
 }
 
 /// The mark that a round is over.
@@ -46,21 +46,29 @@ pub struct RoundOver {
     _private: (),
 }
 
-impl<'a, R: Net<Stream = TcpStream> + Clock> TcpAccept<'a, R> {
-    // Whether the next connection isn't in this round.
-    fn is_over(&self) -> bool {
-        match self.numbers {
-            Some(numbers) => {
-                self.round.is_over()
-                    || self.drawn.fetch_add(1, Ordering::SeqCst) >= u64::from(numbers)
-            }
-            None => false,
+impl<'a, R: Net<Stream = TcpStream> + Clock + Wait> TcpAccept<'a, R> {
+    // The next connection of this round. None if the round is over.
+    fn next(&self) -> Option<io::Result<Connection<'a, R>>> {
+        if !self.round.takes_one(self.rt, self.quota) {
+            return None;
+        }
+        let came = self.came()?;
+        if let Side::Editors = self.quota.side {
+            return self.editor(came);
+        }
+        self.round.settle(self.rt, self.quota);
+        match came {
+            Ok(stream) => Some(self.ways(stream, None)),
+            Err(error) => Some(Err(error)),
         }
     }
 
-    // Waits for the next connection. None comes where the round ended meanwhile.
-    fn next(&self) -> Option<io::Result<TcpStream>> {
-        let door = self.round.door(self.side);
+    // Whoever comes next, an editor who waits first. None if the round ends meanwhile.
+    fn came(&self) -> Option<io::Result<TcpStream>> {
+        if let Some(stream) = self.kept_editor() {
+            return Some(Ok(stream));
+        }
+        let door = self.round.door(self.quota.side);
         door.enter();
         if self.round.is_over() {
             door.leave();
@@ -68,30 +76,54 @@ impl<'a, R: Net<Stream = TcpStream> + Clock> TcpAccept<'a, R> {
         }
         let came = self.listener.accept();
         door.leave();
-        self.settle();
-        Some(match came {
-            Ok((stream, _)) => Ok(stream),
-            Err(error) => Err(error),
-        })
+        match came {
+            Ok((stream, _)) => Some(Ok(stream)),
+            Err(error) => Some(Err(error)),
+        }
     }
 
-    // One number more is settled. Behind the last of them the round is over, and all who wait are
-    // woken.
-    fn settle(&self) {
-        let Some(numbers) = self.numbers else {
-            return;
+    // The editor who waits, at a listener of editors.
+    fn kept_editor(&self) -> Option<TcpStream> {
+        match self.quota.side {
+            Side::Readers => None,
+            Side::Editors => self.round.next_editor(self.rt),
+        }
+    }
+
+    // The connection of an editor, who stays for the round. Whoever comes as it ends is kept for
+    // the next one.
+    fn editor(&self, came: io::Result<TcpStream>) -> Option<io::Result<Connection<'a, R>>> {
+        let stream = match came {
+            Ok(stream) => stream,
+            Err(error) => {
+                self.round.settle(self.rt, self.quota);
+                return Some(Err(error));
+            }
         };
-        let before = self.settled.fetch_add(1, Ordering::SeqCst);
-        if before.saturating_add(1) >= u64::from(numbers) {
-            self.round.end();
+        if self.round.add_editor(self.rt) {
+            return Some(self.edit(stream));
         }
-        if self.round.is_over() {
-            self.round.wake(self.rt);
+        if !has_gone(&stream) {
+            self.round.keep_editor(self.rt, stream);
         }
+        self.round.wake_if_over(self.rt);
+        None
+    }
+
+    // The connection of an editor whom the round has counted in.
+    fn edit(&self, stream: TcpStream) -> io::Result<Connection<'a, R>> {
+        let round = Arc::try_clone(&self.round)?;
+        let listener = Arc::try_clone(&self.listener)?;
+        let editor = Editor::new(self.rt, round, self.quota, listener);
+        self.ways(stream, Some(editor))
     }
 
     // The two ways of a connection.
-    fn ways(&self, stream: TcpStream) -> io::Result<(TcpSource<'a, R>, TcpSink)> {
+    fn ways(
+        &self,
+        stream: TcpStream,
+        editor: Option<Editor<'a, R>>,
+    ) -> io::Result<Connection<'a, R>> {
         stream.set_nodelay(true)?;
         stream.set_write_timeout(Some(Duration::from_secs(WRITE_SECONDS)))?;
         let link: Shared = Arc::new(
@@ -103,11 +135,11 @@ impl<'a, R: Net<Stream = TcpStream> + Clock> TcpAccept<'a, R> {
         )?;
         let sink = TcpSink::new(self.alloc, Arc::try_clone(&link)?);
         let round = Arc::try_clone(&self.round)?;
-        Ok((TcpSource::new(self.rt, link, round)?, sink))
+        Ok((TcpSource::new(self.rt, link, round, editor)?, sink))
     }
 }
 
-impl<'a, R: Net<Stream = TcpStream> + Clock + Sync> Accept for TcpAccept<'a, R> {
+impl<'a, R: Net<Stream = TcpStream> + Clock + Wait + Sync> Accept for TcpAccept<'a, R> {
     type From = TcpSource<'a, R>;
 
     type Into = TcpSink;
@@ -118,15 +150,10 @@ impl<'a, R: Net<Stream = TcpStream> + Clock + Sync> Accept for TcpAccept<'a, R> 
         &self,
         faults: &mut u64,
     ) -> Result<Accepted<TcpSource<'a, R>, TcpSink, RoundOver>, Failed> {
-        if self.is_over() {
-            return Ok(Accepted::Closed(RoundOver { _private: () }));
-        }
-        let Some(came) = self.next() else {
-            return Ok(Accepted::Closed(RoundOver { _private: () }));
-        };
-        match came.and_then(|stream| self.ways(stream)) {
-            Ok((source, sink)) => Ok(Accepted::Pair(source, sink)),
-            Err(_) => {
+        match self.next() {
+            None => Ok(Accepted::Closed(RoundOver { _private: () })),
+            Some(Ok((source, sink))) => Ok(Accepted::Pair(source, sink)),
+            Some(Err(_)) => {
                 thread::sleep(self.rt, Duration::from_millis(PAUSE_MILLIS));
                 *faults = faults.saturating_add(1);
                 Err(Failed)
@@ -136,8 +163,13 @@ impl<'a, R: Net<Stream = TcpStream> + Clock + Sync> Accept for TcpAccept<'a, R> 
 
     // The round is shared by two listeners: both are renewed before either accepts.
     fn renew(&mut self) {
-        self.drawn = AtomicU64::new(0);
-        self.settled = AtomicU64::new(0);
-        self.round.begin();
+        self.round.door(self.quota.side).begin();
+        self.round.begin(self.rt);
     }
+}
+
+// Whether who came has gone again without a word, as the connection does that wakes a worker.
+fn has_gone(stream: &TcpStream) -> bool {
+    let glance = Duration::from_millis(GLANCE_MILLIS);
+    stream.set_read_timeout(Some(glance)).is_ok() && stream.peek(&mut [0]).is_ok_and(|n| n == 0)
 }

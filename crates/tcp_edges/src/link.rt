@@ -1,6 +1,8 @@
+ghost use Rattle.std.specs.Io.{ReadsAtMost};
+
 use std::alloc::Global;
 use std::io;
-use std::io::ErrorKind;
+use std::io::{ErrorKind, Read};
 use std::net::TcpStream;
 use std::sync::Arc;
 use std::sync::atomic::AtomicU64;
@@ -27,4 +29,17 @@ pub(crate) fn is_interruption<T>(answer: &io::Result<T>) -> bool {
         Ok(_) => false,
         Err(error) => error.kind() == ErrorKind::Interrupted,
     }
+}
+
+/// What comes next, if it comes in the time that the socket waits.
+pub(crate) fn received(mut stream: &TcpStream, into: &mut [u8]) -> io::Result<usize>
+    ensures { ReadsAtMost result into.new }
+{
+    for _ in 0..MOST_INTERRUPTIONS {
+        let result = stream.read(into);
+        if !is_interruption(&result) {
+            return result;
+        }
+    }
+    Err(io::Error::from(ErrorKind::Interrupted))
 }

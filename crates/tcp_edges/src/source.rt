@@ -1,13 +1,15 @@
-ghost use Rattle.std.specs.Prelude.{◌≡◌};
+ghost use Rattle.std.specs.Prelude.{◌≡◌, ◌≤◌, IfOk, IfSome, length};
 ghost use Rattle.std.specs.Io.{ReadsAtMost};
 
-use crate::link::{MOST_INTERRUPTIONS, Shared, is_interruption};
+use crate::editor::{Editor, SLICE_SECONDS};
+use crate::link::{Shared, received};
 use crate::round::SharedRound;
-use crate::wait::{BETWEEN_SECONDS, Begun, INSIDE_SECONDS};
+use crate::wait::{BETWEEN_SECONDS, Begun};
 use edges::{Failed, Source};
 use std::io;
-use std::io::{ErrorKind, Read};
-use std::net::{Shutdown, TcpStream};
+use std::io::ErrorKind;
+use std::net::{Net, Shutdown, TcpStream};
+use std::sync::Wait;
 use std::sync::atomic::Ordering;
 use std::time::{Clock, Duration, Instant};
 
@@ -21,10 +23,13 @@ const SILENCE_MILLIS: u64 = 200;
 const MOST_PIECES: u32 = 1_000_000;
 
 /// What comes from the peer of a connection. A peer that keeps it waiting is a failure.
-pub struct TcpSource<'a, R: Clock> {
+pub struct TcpSource<'a, R: Net<Stream = TcpStream> + Clock + Wait> {
     rt: &'a R,
     link: Shared,
     round: SharedRound,
+
+    /// The peer, if it is an editor.
+    editor: Option<Editor<'a, R>>,
     faults: u64,
 
     /// How many pieces were written when it last read.
@@ -40,17 +45,24 @@ pub struct TcpSource<'a, R: Clock> {
     is_over: bool,
 }
 
-impl<'a, R: Clock> TcpSource<'a, R> {
+impl<'a, R: Net<Stream = TcpStream> + Clock + Wait> TcpSource<'a, R> {
     /// The way from the peer of this connection.
-    pub(crate) fn new(rt: &'a R, link: Shared, round: SharedRound) -> io::Result<Self> {
-        wait_for(&link.stream, BETWEEN_SECONDS)?;
+    pub(crate) fn new(
+        rt: &'a R,
+        link: Shared,
+        round: SharedRound,
+        editor: Option<Editor<'a, R>>,
+    ) -> io::Result<Self> {
+        let seconds = between(&editor);
+        wait_for(&link.stream, seconds)?;
         Ok(TcpSource {
             rt,
             link,
             round,
+            editor,
             faults: 0,
             pieces: 0,
-            seconds: BETWEEN_SECONDS,
+            seconds,
             begun: None,
             is_over: false,
         })
@@ -62,10 +74,9 @@ impl<'a, R: Clock> TcpSource<'a, R> {
         ensures faults { self.new.faults ≡ self.old.faults }
     {
         self.be_patient()?;
-        if self.ends_here() {
+        let Some(count) = self.received(into)? else {
             return Ok(0);
-        }
-        let count = received(&self.link.stream, into)?;
+        };
         if count == 0 {
             self.is_over = true;
             return Ok(0);
@@ -78,8 +89,20 @@ impl<'a, R: Clock> TcpSource<'a, R> {
         Ok(count)
     }
 
-    // Whether the round is over between two requests. A connection that hasn't asked yet may ask
-    // once.
+    // What the peer sends. None if the connection ends here, between two requests.
+    fn received(&self, into: &mut [u8]) -> io::Result<Option<usize>>
+        ensures { IfOk result (λ came. IfSome came (λ count. count ≤ length into.new)) }
+    {
+        let stream = &self.link.stream;
+        match &self.editor {
+            Some(editor) if self.begun.is_none() => editor.next_message(stream, into),
+            None if self.ends_here() => Ok(None),
+            _ => Ok(Some(received(stream, into)?)),
+        }
+    }
+
+    // Whether the round is over between two requests of a reader. A connection that hasn't asked
+    // yet may ask once.
     fn ends_here(&self) -> bool {
         self.begun.is_none() && self.pieces > 0 && self.round.is_over()
     }
@@ -94,7 +117,7 @@ impl<'a, R: Clock> TcpSource<'a, R> {
             self.begun = None;
         }
         let seconds = match &mut self.begun {
-            None => BETWEEN_SECONDS,
+            None => between(&self.editor),
             Some(begun) => match begun.patience(Instant::now(self.rt)?) {
                 Some(seconds) => seconds,
                 None => return Err(io::Error::from(ErrorKind::TimedOut)),
@@ -108,7 +131,7 @@ impl<'a, R: Clock> TcpSource<'a, R> {
     }
 }
 
-impl<'a, R: Clock> Source for TcpSource<'a, R> {
+impl<'a, R: Net<Stream = TcpStream> + Clock + Wait> Source for TcpSource<'a, R> {
     ghost use Rattle.std.specs.Prelude.{None};
 
     ghost left = { λ s. None };
@@ -129,7 +152,7 @@ impl<'a, R: Clock> Source for TcpSource<'a, R> {
     }
 }
 
-impl<'a, R: Clock> Drop for TcpSource<'a, R> {
+impl<'a, R: Net<Stream = TcpStream> + Clock + Wait> Drop for TcpSource<'a, R> {
     fn drop(self) {
         if !self.is_over {
             let _ = drop_the_rest(self.rt, &self.link.stream);
@@ -138,6 +161,7 @@ impl<'a, R: Clock> Drop for TcpSource<'a, R> {
             rt: _,
             link: _,
             round: _,
+            editor: _,
             faults: _,
             pieces: _,
             seconds: _,
@@ -147,22 +171,17 @@ impl<'a, R: Clock> Drop for TcpSource<'a, R> {
     }
 }
 
+// For how many seconds at a time the socket waits for a request.
+fn between<R: Net<Stream = TcpStream> + Clock + Wait>(editor: &Option<Editor<'_, R>>) -> u64 {
+    match editor {
+        Some(_) => SLICE_SECONDS,
+        None => BETWEEN_SECONDS,
+    }
+}
+
 // Lets the socket wait for so many seconds.
 fn wait_for(stream: &TcpStream, seconds: u64) -> io::Result<()> {
     stream.set_read_timeout(Some(Duration::from_secs(seconds)))
-}
-
-// What comes next, where it comes in the time that the socket waits.
-fn received(mut stream: &TcpStream, into: &mut [u8]) -> io::Result<usize>
-    ensures { ReadsAtMost result into.new }
-{
-    for _ in 0..MOST_INTERRUPTIONS {
-        let result = stream.read(into);
-        if !is_interruption(&result) {
-            return result;
-        }
-    }
-    Err(io::Error::from(ErrorKind::Interrupted))
 }
 
 // Sends the peer an end, and drops what it still sends.
