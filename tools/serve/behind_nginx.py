@@ -1,18 +1,18 @@
 #!/usr/bin/env python3
 """Tries `pages serve` behind nginx with examples/nginx.conf:
 `tools/serve/behind_nginx.py [PROGRAM [CONFIGURATION]]`. What curl and sixty readers beside an
-editor try at the program itself they try through nginx, and a thousand clients ask once a second.
+editor try at the program itself they try through nginx, and what each line of the configuration is
+for; an editor publishes through examples/nginx_editors.conf; and a thousand clients ask once a
+second.
 
-It wants nginx, openssl and curl, takes a minute, ends by itself in four at the most, and leaves no
+It wants nginx with its module `stream`, openssl and curl, takes a minute, ends by itself in four at the most, and leaves no
 process. The certificate is made on the spot, and all clients go by it. Where a check fails, nginx's
 own messages and each wrong answer are kept in a folder, which the last lines name."""
 
 import asyncio
-import ctypes
 import os
 import shutil
 import signal
-import subprocess
 import sys
 import tempfile
 import time
@@ -23,9 +23,11 @@ sys.dont_write_bytecode = True
 
 from by_curl import FILES, put_by_curl, try_front  # noqa: E402
 from by_many import try_many  # noqa: E402
+from by_nginx_lines import make_site, try_editors, try_lines, try_without_program  # noqa: E402
 from front import Front  # noqa: E402
 from messages import publish  # noqa: E402
-from server import DIES_WITH_ITS_PARENT, HOST, Server, Tally, free_ports  # noqa: E402
+from nginx import make_key, start_nginx  # noqa: E402
+from server import HOST, Server, Tally, free_ports  # noqa: E402
 
 BUILT = os.path.join(HERE, "../../crates/pages_cli/out/pages_cli")
 EXAMPLE = os.path.join(HERE, "../../examples/nginx.conf")
@@ -35,29 +37,6 @@ ROUNDS = 5
 MOST_MILLIS = 50
 # Large enough to be sent compressed.
 STYLE = FILES["/style.css"] * 500
-
-
-def start_nginx(configuration, folder, server, port):
-    """nginx with this configuration, on another port, before this server."""
-    with open(configuration) as example:
-        text = example.read()
-    for said, free in ((8080, server.port), (8443, port)):
-        text = text.replace(f"{HOST}:{said}", f"{HOST}:{free}")
-    with open(f"{folder}/nginx.conf", "w") as out:
-        out.write(text)
-    subprocess.run(
-        ["openssl", "req", "-x509", "-newkey", "rsa:2048", "-nodes", "-subj", "/CN=localhost"]
-        + ["-addext", f"subjectAltName=IP:{HOST}"]
-        + ["-keyout", f"{folder}/pages.key", "-out", f"{folder}/pages.crt"],
-        check=True,
-        capture_output=True,
-    )
-    return subprocess.Popen(
-        ["nginx", "-p", folder, "-c", f"{folder}/nginx.conf", "-g", "daemon off;"],
-        stdin=subprocess.DEVNULL,
-        stderr=open(f"{folder}/messages.txt", "w"),
-        preexec_fn=lambda: ctypes.CDLL(None).prctl(DIES_WITH_ITS_PARENT, signal.SIGTERM),
-    )
 
 
 def try_pages(front, server, tally):
@@ -136,15 +115,22 @@ def main():
     tally = Tally()
     (port,) = free_ports(1)
     with tempfile.TemporaryDirectory() as folder, Server(program, workers=16) as server:
-        nginx = start_nginx(configuration, folder, server, port)
+        make_key(folder, "pages", "-nodes")
+        make_site(folder)
+        nginx = start_nginx(configuration, folder, {8080: server.port, 8443: port})
         front = Front(port, f"{folder}/pages.crt")
         try:
             print("pages")
             try_pages(front, server, tally)
+            print("the lines of the configuration")
+            try_lines(front, server, tally)
+            try_editors(program, folder, server, front, tally)
             print("sixty readers and an editor")
             try_many(front, server, tally)
             print("a thousand clients")
             asyncio.run(thousand(front, folder, tally))
+            print("without the program")
+            try_without_program(front, server, tally)
         finally:
             nginx.terminate()
             nginx.wait()

@@ -8,6 +8,7 @@ import signal
 import socket
 import struct
 import subprocess
+import threading
 import time
 
 HOST = "127.0.0.1"
@@ -37,10 +38,21 @@ def limit_threads(count):
 class Server:
     """The program while it serves: `with Server(program, workers=16) as server`. What else is given
     are words of its command, or limits: how many files it may have open, how many threads, and how
-    many KiB of stack each thread."""
+    many KiB of stack each thread. With rounds, which are two numbers of connections, the journals go
+    into a file."""
 
     def __init__(
-        self, program, workers=16, shows_drafts=False, contexts=None, idle=None, files=None, threads=None, stack=None
+        self,
+        program,
+        workers=16,
+        shows_drafts=False,
+        contexts=None,
+        idle=None,
+        files=None,
+        threads=None,
+        stack=None,
+        rounds=None,
+        journals=subprocess.DEVNULL,
     ):
         self.program = program
         self.workers = workers
@@ -51,6 +63,8 @@ class Server:
         self.files = files
         self.threads = threads
         self.stack = stack
+        self.rounds = rounds
+        self.journals = journals
 
     def __enter__(self):
         self.start()
@@ -63,6 +77,7 @@ class Server:
         previews = [f"--preview-port={self.preview_port}"] if self.preview_port else []
         contexts = ["--contexts", self.contexts] if self.contexts else []
         idle = [f"--idle={self.idle}"] if self.idle else []
+        rounds = [f"--round={self.rounds[0]}", f"--editor-round={self.rounds[1]}"] if self.rounds else []
         return [
             "serve",
             f"--port={self.port}",
@@ -72,6 +87,7 @@ class Server:
             *previews,
             *contexts,
             *idle,
+            *rounds,
         ]
 
     def start(self):
@@ -92,7 +108,7 @@ class Server:
         self.process = subprocess.Popen(
             [self.program, *self.words()],
             stdin=subprocess.DEVNULL,
-            stdout=subprocess.DEVNULL,
+            stdout=self.journals,
             stderr=subprocess.PIPE,
             preexec_fn=before,
         )
@@ -102,15 +118,24 @@ class Server:
         self.seconds_to_start = came - self.begun
         os.close(told)
         os.close(tells)
+        if self.rounds:
+            # (what it says at the end of each round would else fill the pipe)
+            threading.Thread(target=self.drain, args=(self.process.stderr,), daemon=True).start()
         if not self.line.startswith("pages: readers at "):
             self.kill()
             raise RuntimeError(f"it doesn't serve: {self.line}")
+
+    def drain(self, said):
+        """Takes what it says, until it ends."""
+        for _ in said:
+            pass
 
     def kill(self):
         """Ends it at once."""
         self.process.kill()
         self.process.wait()
-        self.process.stderr.close()
+        if not self.rounds:
+            self.process.stderr.close()
 
     def send_signal(self, number):
         self.process.send_signal(number)

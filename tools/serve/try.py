@@ -2,13 +2,14 @@
 """Tries the program `pages serve` as its users would, on free ports of this machine:
 `tools/serve/try.py [PROGRAM]`.
 
-It takes about two minutes, ends by itself in five at the most, leaves no process, and speaks with
+It takes about three minutes, ends by itself in ten at the most, leaves no process, and speaks with
 nobody but the program. Its last line is `N held, M failed`."""
 
 import os
 import signal
 import subprocess
 import sys
+import tempfile
 
 HERE = os.path.dirname(os.path.abspath(__file__))
 sys.path.insert(0, HERE)
@@ -21,11 +22,13 @@ from by_hard_clients import try_hard_clients  # noqa: E402
 from by_idle import IDLE_SECONDS, try_idle  # noqa: E402
 from by_many import try_large_publishing, try_many  # noqa: E402
 from by_previews import try_previews  # noqa: E402
+from by_rounds import try_rounds  # noqa: E402
+from by_scripts import try_scripts  # noqa: E402
 from front import Front  # noqa: E402
 from server import Server, Tally, free_ports  # noqa: E402
 
 BUILT = os.path.join(HERE, "../../crates/pages_cli/out/pages_cli")
-MOST_SECONDS = 300
+MOST_SECONDS = 600
 
 
 def try_words(program, tally):
@@ -75,6 +78,11 @@ def main():
         front = Front(server.port)
         try_many(front, server, tally)
         try_large_publishing(front, server, tally)
+    print("scripts for a folder")
+    with tempfile.TemporaryDirectory() as folder:
+        try_scripts(program, folder, tally)
+    print("publishings while rounds end")
+    try_rounds(program, tally)
     print("hard clients")
     try_hard_clients(program, tally)
     print(f"{tally.held} held, {tally.failed} failed")
